@@ -1,0 +1,140 @@
+-- Demand 3 is not empty: the releases of any live records, each on the pool whole, in any order, are a sequence that it speaks of.
+-- Assumes nothing.
+use Prim.Native.Nat.{ℕ}
+use mathlib.Core.Path.{_≡_, refl, sym, ap, ap₂, _∙_}
+use mathlib.Core.Bool.{Bool, true, false, cond, not, _||_, false≢true, or-true}
+use mathlib.Core.List.{List, [], _∷_, map}
+use mathlib.Core.Option.{Option, none, some}
+use lib.Dec.{eqb}
+use lib.ListN.{length}
+use Rattle.words.specs.Lists.{Words, isSome}
+use Rattle.words.proofs.Tests.{eqb-same}
+use Rattle.words.proofs.ListLaws.{sameWords-same}
+use Rattle.ledger.specs.declared.Row.{Row}
+use Rattle.ledger.specs.Records.{Ledger, vacate, Member, member, planFor}
+use Rattle.calls.specs.declared.Answer.{Answer}
+use Rattle.calls.specs.Pool.{Pool, ledger, Engine, Laws, sound}
+use Rattle.calls.specs.Step.{Call, release, accepted, give, answerTo, Counted, Outcome, done, nothing, perform, step, named}
+use Rattle.calls.specs.Lent.{Part, inArena, inTable, inIndex, Lent, own, isAllOf, Event, whole, isWhole, outcome, after}
+use Rattle.calls.specs.Demand3.{Brings, Standing, remove, isDue, stands, standAll, afterActs, brings, elsewhere, follows, atStart, Sequence}
+use Rattle.calls.proofs.StoreLaws.{settled, settled-none}
+use Rattle.calls.proofs.LentLaws.{whole-brings, whole-table, outcome-is}
+use Rattle.calls.proofs.ActLaws.{step-sound}
+use Rattle.calls.proofs.Standing.{Inv, given}
+use Rattle.calls.proofs.WholeCalls.{all-own, due-after, due-act, whole-sound}
+use Rattle.calls.proofs.Demand3.{settled-fits, start-inv, Moved, event}
+
+-- an outcome with the pool p
+abbrev performed : Pool → Outcome
+performed p = record { answer = done; counted = []; shown = nothing; pool = p; buffers = [] }
+
+abbrev pub members : List Row → List Member
+members rs = map (λ r. member (r .ticket) vacate) rs
+
+abbrev pub releases : Pool → List Row → List Event
+releases p rs = map (λ r. whole p (release r)) rs
+
+-- live records with different tickets
+abbrev pub Different : Ledger → List Row → Type 0
+Different L [] = Unit {0}
+Different L (r ∷ rs) = (named L r ≡ 0) × (planFor (r .ticket) (members rs) ≡ none) × Different L rs
+
+remove-none : (t : ℕ) (ms : List Member) → planFor t ms ≡ none → remove t ms ≡ ms
+remove-none t [] h = refl
+remove-none t (m ∷ ms) h = go (eqb (m .ticket) t) refl h (remove-none t ms)
+  where
+    go : (b : Bool) → eqb (m .ticket) t ≡ b → cond (eqb (m .ticket) t) (some (m .plan)) (planFor t ms) ≡ none
+        → (planFor t ms ≡ none → remove t ms ≡ ms) → cond (eqb (m .ticket) t) (remove t ms) (m ∷ remove t ms) ≡ m ∷ ms
+    go true e h ih = absurd (false≢true (sym (ap (λ (o : Option _). isSome o) (rw e at h))))
+    go false e h ih = rw e (ap (λ (l : List Member). m ∷ l) (ih (rw e at h)))
+
+-- a row of words is all of itself
+all-own-part : (q : Part) (x : Words) (n : ℕ) → length x ≡ n → isAllOf q x (own q 0 n ∷ []) ≡ true
+all-own-part inArena x n e = rw (e, eqb-same n)
+all-own-part inTable x n e = rw (e, eqb-same n)
+all-own-part inIndex x n e = rw (e, eqb-same n)
+
+module _ (E : Engine) (laws : Laws E) (p : Pool) (ok : sound E p ≡ true) (ms : List Member) where
+  -- the pool is brought whole all along: its lengths stay
+  is-whole : (past : List Member) (q : Pool) → q ≡ settled E p past → (c : Call Lent) → isWhole q (whole p c) ≡ true
+  unfolding isWhole
+  is-whole past q e c =
+      let f = settled-fits E laws p ok ms past [] q (performed p) e (sym (unfold settled in settled-none E laws p ok)) in
+      rw (
+        sameWords-same (q .head .root),
+        eqb-same (q .head .next),
+        f .shape,
+        eqb-same (q .shape),
+        all-own-part inArena (q .arena) (length (p .arena)) (sym (f .arena)),
+        all-own-part inTable (q .table) (length (p .table)) (sym (f .table)),
+        all-own-part inIndex (q .index) (length (p .index)) (sym (f .index)),
+      )
+
+  module _ (r : Row) (rs : List Row) (s : Standing) (past : List Member) (q : Pool) (e : q ≡ settled E p past) (v : Inv ms s past)
+      (d : s .due ≡ members (r ∷ rs)) (right : named (ledger p) r ≡ 0) (single : planFor (r .ticket) (members rs) ≡ none) where
+    here : Event
+    here = whole p (release r)
+
+    answer : Answer
+    answer = answerTo E q (give r)
+
+    due : isDue (ledger p) all-own s r ≡ true
+    unfolding isDue
+    due = rw (d, eqb-same (r .ticket), right)
+
+    taken : accepted answer ≡ true
+    unfolding answer
+    taken = ap accepted (due-act E laws p ok ms s past q e v r due .right .accepts due)
+
+    own-all : brings q here ≡ all-own
+    unfolding here
+    own-all =
+        let w : isWhole q here ≡ true = is-whole past q e (release r) in
+        λ i. record { whole = w i; table = whole-table q here w i }
+
+    counts : outcome E q here .counted ≡ given (give r) answer ∷ []
+    unfolding here perform answer
+    counts =
+        ap (λ (o : Outcome). o .counted) (
+        outcome-is E q here
+        ∙ ap (λ (z : Pool). step E (release r) z) (whole-brings q here (is-whole past q e (release r)))
+        ∙ step-sound E (release r) q refl refl (whole-sound E laws p ok ms s past q e v))
+
+    stand : standAll (ledger p) (brings q here) s (outcome E q here .counted) ≡ true
+    unfolding stands
+    stand = ap₂ (λ (b : Brings) (cs : List Counted). standAll (ledger p) b s cs) own-all counts ∙ rw due
+
+    later : Standing
+    later = afterActs (ledger p) (brings q here) s (outcome E q here .counted)
+
+    left : later .due ≡ members rs
+    unfolding later
+    left =
+        ap₂ (λ (b : Brings) (cs : List Counted). afterActs (ledger p) b s cs .due) own-all counts
+        ∙ ap (λ (z : Standing). z .due) (due-after (ledger p) s r due answer taken)
+        ∙ ap (λ (l : List Member). remove (r .ticket) l) d
+        ∙ rw (eqb-same (r .ticket)) (remove-none (r .ticket) (members rs) single)
+
+    quietly : (not (accepted (outcome E q here .answer)) || elsewhere (here .call)) ≡ true
+    unfolding here
+    quietly = or-true (not (accepted (outcome E q here .answer)))
+
+    moved : Moved E laws p ok ms s q here
+    moved = event E laws p ok ms s past q here e v stand quietly
+
+  from : (rs : List Row) (s : Standing) (past : List Member) (q : Pool) → q ≡ settled E p past → Inv ms s past
+      → s .due ≡ members rs → Different (ledger p) rs → follows E (ledger p) s q (releases p rs) ≡ true
+  unfolding here later
+  from [] s past q e v d h = rw d
+  from (r ∷ rs) s past q e v d h =
+      let m = moved r rs s past q e v d (h .0) (h .1) in
+      let rest = from rs (later r rs s past q e v d (h .0) (h .1)) (m .past) (after E q (whole p (release r))) (m .pool) (m .inv)
+      (left r rs s past q e v d (h .0) (h .1)) (h .2) in
+      rw (stand r rs s past q e v d (h .0) (h .1), quietly r rs s past q e v d (h .0) (h .1)) rest
+
+-- any live records with different tickets, in any order
+pub any-order : (E : Engine) → Laws E → (p : Pool) → sound E p ≡ true → (rs : List Row) → Different (ledger p) rs
+    → Sequence E p (members rs) (releases p rs)
+any-order E laws p ok rs h =
+    from E laws p ok (members rs) rs (atStart E (members rs)) [] p (sym (unfold settled in settled-none E laws p ok))
+    (start-inv E laws p ok (members rs)) refl h

@@ -1,0 +1,220 @@
+-- Demand 2, proved over any engine that keeps the laws. Assumes nothing.
+use Prim.Native.Nat.{ℕ, _/_}
+use native.Mathlib.Omega.{arith}
+use mathlib.Core.Path.{_≡_, refl, sym, ap, _∙_, subst}
+use mathlib.Core.Logic.{_≢_}
+use mathlib.Core.Bool.{Bool, true, false, _||_, false≢true}
+use mathlib.Core.List.{List, [], _∷_}
+use mathlib.Core.Option.{Option, none, some}
+use lib.Dec.{eqb, ltb}
+use lib.ListN.{getD}
+use Rattle.words.specs.Lists.{Words}
+use Rattle.words.proofs.Tests.{eqb-ne, false-of}
+use Rattle.ledger.specs.declared.Row.{Row}
+use Rattle.ledger.specs.Records.{Ledger, recordOf, full, Member, vacate, member, planFor, settle}
+use Rattle.ledger.specs.Units.{free}
+use Rattle.ledger.specs.Runs.{freeRuns}
+use Rattle.ledger.proofs.RecordLaws.{record-kept}
+use Rattle.ledger.proofs.UnitLaws.{free-enter, free-settle, valid-settle}
+use Rattle.ledger.proofs.RunLaws.{runs-are}
+use Rattle.calls.specs.Pool.{store, Pool, ledger, wordCount, Engine, Laws, firstTicket, nextAfter, ruleOf, lengths, sound}
+use Rattle.calls.specs.Step.{refusedWhole, Call, format, refusal, accepted, Act, ask, give, Outcome, fitOf}
+use Rattle.calls.specs.Step.{numberOf, newRow, grant, answerTo, poolAfter, poolAfterAll, actsOf, perform}
+use Rattle.calls.specs.Step.{blank, formatted, step}
+use Rattle.calls.specs.Demand1.{BadSize, NoRecord, NoTicket, NoRoom, isFormat}
+use Rattle.calls.specs.Demand2.{LowestFit, Granted, Released, Names, Spares, Untouched, Demand2}
+use Rattle.calls.proofs.StoreLaws.{ledger-store, next-store, words-store, sound-valid, settled-sound, blank-sound}
+use Rattle.calls.proofs.RowLaws.{size-test, record-test, ticket-test, fit-found, found-fit, room-test}
+use Rattle.calls.proofs.ActLaws.{named-zero, Asked, act-refused, ask-done, give-done, act-accepted, act-by}
+use Rattle.calls.proofs.ActLaws.{Way, eight, one, runs, way}
+use Rattle.calls.proofs.GrantLaws.{entered, over, zeroed, length-zeroed, grant-store, grant-valid, grant-sound}
+use Rattle.calls.proofs.GrantLaws.{grant-zeros, zeroed-keeps, grant-holds}
+use Rattle.calls.proofs.HeldLaws.{block-kept}
+use Rattle.calls.proofs.Demand1.{act-numbers}
+
+-- r is a live record of p
+abbrev Held : Pool → Row → Type 0
+Held p r = recordOf (r .ticket) (ledger p) ≡ some r
+
+module _ (E : Engine) (laws : Laws E) where
+  -- ---- a grant
+
+  grants-at : (p : Pool) → sound E p ≡ true → (n k : ℕ) → Asked E p n k → Granted E p n k
+  grants-at p ok n k asked =
+      let ρ = ruleOf E p in
+      let L = entered E p n k in
+      let next = nextAfter (p .head .next) in
+      let below = over p (zeroed E p n k) in
+      let (x, y) = ask-done E p n k asked in
+      let done = y ∙ grant-store E p n k in
+      let holds = ap (λ (q : Pool). ledger q) done ∙ ledger-store E L next below in
+      record {
+        answer = x;
+        holds = holds;
+        next = ap (λ (q : Pool). q .head .next) done ∙ next-store E L next below;
+        units = λ u.
+            ap (λ (M : Ledger). free ρ M u) holds ∙ free-enter ρ (newRow E p n k) (ledger p) (asked .slot) u;
+        zeros = λ i a b. ap (λ (q : Pool). getD (q .arena) i 0) y ∙ grant-zeros E laws p ok n k asked i a b;
+      }
+
+  -- every test of the rows fails
+  asked-of : (p : Pool) (n k : ℕ) → (BadSize E p n → ⊥) → (NoRecord p → ⊥) → (NoTicket p → ⊥)
+      → LowestFit E p n k → Asked E p n k
+  asked-of p n k size slot ticket fit =
+      record {
+        size = false-of (eqb n 0 || ltb (E .limit (p .shape)) n) (λ h. size (size-test E p n .0 h));
+        slot = false-of (full (ledger p)) (λ h. slot (record-test p .0 h));
+        ticket = false-of (eqb (p .head .next) 0) (λ h. ticket (ticket-test p .0 h));
+        fit = found-fit E p n k fit;
+      }
+
+  fit-some : (p : Pool) (n : ℕ) → (NoRoom E p n → ⊥) → (k : ℕ) × LowestFit E p n k
+  fit-some p n h = go (fitOf E p n) refl
+    where
+      go : (o : Option ℕ) → fitOf E p n ≡ o → (k : ℕ) × LowestFit E p n k
+      go none e = absurd (h (room-test E p n .0 e))
+      go (some k) e = (k, fit-found E p n k e)
+
+  no-room : (p : Pool) → sound E p ≡ true → (n : ℕ) → (BadSize E p n → ⊥) → (NoRecord p → ⊥) → (NoTicket p → ⊥)
+      → NoRoom E p n → answerTo E p (ask n) ≡ refusal 5
+  no-room p ok n size slot ticket room =
+      let five = act-numbers E laws p (ask n) ok .five .1 (size, slot, ticket, room) in
+      act-refused E p (ask n) (λ z. omega arith) .0 ∙ ap refusal five
+
+  -- ---- a release
+
+  releases-at : (p : Pool) → sound E p ≡ true → (r : Row) → Held p r → Released E p r
+  releases-at p ok r e =
+      let ρ = ruleOf E p in
+      let L = settle (member (r .ticket) vacate ∷ []) (ledger p) in
+      let next = p .head .next in
+      let good = sound-valid E laws p ok in
+      let (x, y) = give-done E p r e in
+      let holds = ap (λ (q : Pool). ledger q) y ∙ ledger-store E L next p in
+      record {
+        answer = x;
+        holds = holds;
+        next = ap (λ (q : Pool). q .head .next) y ∙ next-store E L next p;
+        units = λ u.
+            ap (λ (M : Ledger). free ρ M u) holds ∙ free-settle ρ (wordCount p) next (ledger p) good (r .ticket) r e u;
+      }
+
+  releases-only : (p : Pool) (r : Row) → (Held p r → ⊥)
+      → accepted (answerTo E p (give r)) ≡ false
+  unfolding numberOf
+  releases-only p r h =
+      act-accepted E p (give r)
+      ∙ eqb-ne (numberOf E p (give r)) 0 (λ z. h (named-zero (ledger p) r z))
+
+  -- ---- an act, and every pool that it leaves
+
+  pub act-sound : (p : Pool) (a : Act) → sound E p ≡ true → sound E (poolAfter E p a) ≡ true
+  act-sound =
+      act-by E (λ p a q. sound E p ≡ true → sound E q ≡ true)
+      (λ p a ok. ok)
+      (λ p n k asked ok. grant-sound E laws p ok n k asked)
+      (λ p r e ok. settled-sound E laws p ok (member (r .ticket) vacate ∷ []))
+
+  pub act-shape : (p : Pool) (a : Act) → poolAfter E p a .shape ≡ p .shape
+  unfolding grant store
+  act-shape = act-by E (λ p a q. q .shape ≡ p .shape) (λ p a. refl) (λ p n k asked. refl) (λ p r e. refl)
+
+  format-sound : (p : Pool) → accepted (step E format p .answer) ≡ true → sound E (step E format p .pool) ≡ true
+  unfolding step formatted
+  format-sound p h = go (lengths E p) refl
+    where
+      go : (b : Bool) → lengths E p ≡ b → sound E (formatted E p .pool) ≡ true
+      go true e = rw e (blank-sound E laws p e)
+      go false e = absurd (false≢true (sym (rw e) ∙ h))
+
+  -- ---- a held block
+
+  untouched-same : (p : Pool) (r : Row) → Held p r → Untouched E p p r
+  untouched-same p r e = record { holds = e; words = λ i a b. refl }
+
+  untouched-then : (p q s : Pool) (r : Row) → q .shape ≡ p .shape → Untouched E p q r → Untouched E q s r
+      → Untouched E p s r
+  untouched-then p q s r e u v =
+      record { holds = v .holds; words = λ i a b. v .words i (rw e a) (rw e b) ∙ u .words i a b }
+
+  grant-spares : (p : Pool) → sound E p ≡ true → (n k : ℕ) → Asked E p n k
+      → (r : Row) → Held p r → Untouched E p (grant E p n k) r
+  grant-spares p ok n k asked r e =
+      subst (λ (q : Pool). Untouched E p q r) (sym (grant-store E p n k))
+      (block-kept E laws p ok (zeroed E p n k) (length-zeroed E p n k) (entered E p n k) (nextAfter (p .head .next))
+      (grant-valid E laws p ok n k asked) r e (grant-holds E laws p ok n k asked r e)
+      (zeroed-keeps E laws p ok n k asked))
+
+  release-spares : (p : Pool) → sound E p ≡ true → (t : ℕ) (r : Row) → Held p r
+      → t ≢ r .ticket → Untouched E p (store E (settle (member t vacate ∷ []) (ledger p)) (p .head .next) p) r
+  release-spares p ok t r e d =
+      let ms : List Member = member t vacate ∷ [] in
+      let other : planFor (r .ticket) ms ≡ none = rw (eqb-ne t (r .ticket) d) in
+      block-kept E laws p ok (p .arena) refl (settle ms (ledger p)) (p .head .next)
+      (valid-settle (ruleOf E p) (wordCount p) (p .head .next) ms (ledger p) (sound-valid E laws p ok)) r e
+      (record-kept (r .ticket) ms other (ledger p) ∙ e) (λ i h. refl)
+
+  act-spares : (p : Pool) (a : Act) → sound E p ≡ true → (r : Row) → Held p r
+      → (Names r a → ⊥) → Untouched E p (poolAfter E p a) r
+  act-spares p a ok r e =
+      act-by E (λ p a q. sound E p ≡ true → Held p r → (Names r a → ⊥) → Untouched E p q r)
+      (λ p a ok e names. untouched-same p r e)
+      (λ p n k asked ok e names. grant-spares p ok n k asked r e)
+      (λ p s f ok e names. release-spares p ok (s .ticket) r e names)
+      p a ok e
+
+  acts-spare : (acts : List Act) (p : Pool) → sound E p ≡ true → (r : Row) → Held p r
+      → Spares r acts → Untouched E p (poolAfterAll E p acts) r
+  acts-spare [] p ok r e s = untouched-same p r e
+  acts-spare (a ∷ more) p ok r e s =
+      let q = poolAfter E p a in
+      let u = act-spares p a ok r e (s .0) in
+      untouched-then p q (poolAfterAll E q more) r (act-shape p a) u
+      (acts-spare more q (act-sound p a ok) r (u .holds) (s .1))
+
+  call-spares : (p : Pool) (c : Call Words) → sound E p ≡ true → isFormat c ≡ false → (r : Row)
+      → Held p r → Spares r (actsOf c) → Untouched E p (step E c p .pool) r
+  unfolding perform
+  call-spares p c ok f r e s = go (step E c p) (way E c p f)
+    where
+      left : (o q : Outcome) → o ≡ q → Untouched E p (q .pool) r → Untouched E p (o .pool) r
+      left o q x u = subst (λ (z : Outcome). Untouched E p (z .pool) r) (sym x) u
+
+      go : (o : Outcome) → Way E c p o → Untouched E p (o .pool) r
+      go o (eight x q) = left o (refusedWhole c p 8) q (untouched-same p r e)
+      go o (one x y q) = left o (refusedWhole c p 1) q (untouched-same p r e)
+      go o (runs x y q) = left o (perform E c p) q (acts-spare (actsOf c) p ok r e s)
+
+module _ (E : Engine) (laws : Laws E) where
+  format-blank : (p : Pool) → accepted (step E format p .answer) ≡ true
+      → (ledger (step E format p .pool) ≡ blank E p) × (step E format p .pool .head .next ≡ firstTicket)
+  unfolding step formatted
+  format-blank p h = go (lengths E p) refl
+    where
+      go : (b : Bool) → lengths E p ≡ b → (ledger (formatted E p .pool) ≡ blank E p) × (formatted E p .pool .head .next ≡ firstTicket)
+      go true e = rw e (ledger-store E (blank E p) firstTicket p, next-store E (blank E p) firstTicket p)
+      go false e = absurd (false≢true (sym (rw e) ∙ h))
+
+  count-kept : (p : Pool) (a : Act) → wordCount (poolAfter E p a) ≡ wordCount p
+  count-kept =
+      act-by E (λ p a q. wordCount q ≡ wordCount p) (λ p a. refl)
+      (λ p n k asked. ap (λ (q : Pool). wordCount q) (grant-store E p n k)
+      ∙ words-store E (entered E p n k) (nextAfter (p .head .next)) (over p (zeroed E p n k)) ∙ length-zeroed E p n k)
+      (λ p r e. words-store E (settle (member (r .ticket) vacate ∷ []) (ledger p)) (p .head .next) p)
+
+pub demand2 : (E : Engine) → Laws E → Demand2 E
+unfolding freeRuns
+demand2 E laws =
+    record {
+      grants = λ p ok n size slot ticket k fit. grants-at E laws p ok n k (asked-of E laws p n k size slot ticket fit);
+      fit = fit-some E laws;
+      refuses = no-room E laws;
+      releases = releases-at E laws;
+      others = releases-only E laws;
+      stays = act-sound E laws;
+      formats = λ p h. (format-sound E laws p h, format-blank E laws p h .0, format-blank E laws p h .1);
+      keeps = count-kept E laws;
+      merged = λ p. runs-are (free (ruleOf E p) (ledger p)) (wordCount p / ruleOf E p .unit);
+      spares = act-spares E laws;
+      sparesCall = call-spares E laws;
+    }

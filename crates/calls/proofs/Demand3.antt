@@ -1,0 +1,208 @@
+-- Demand 3, proved once for any engine. Of a call the proof uses only that its acts are answered one after another on what it was
+-- lent, and that an act that is refused leaves the pool. Assumes nothing.
+use Prim.Native.Nat.{ℕ}
+use mathlib.Core.Path.{_≡_, refl, sym, ap, _∙_, subst}
+use mathlib.Core.Bool.{Bool, true, false, not, _||_, false≢true}
+use mathlib.Core.List.{List, [], _∷_, _++_}
+use mathlib.Core.Option.{Option, none, some}
+use lib.ListN.{length, getD, drop}
+use Rattle.words.specs.Lists.{Words}
+use Rattle.words.proofs.Tests.{and-l, and-r, not-true}
+use Rattle.ledger.specs.Records.{Ledger, recordOf, Plan, Member, planFor, settle, recordsOf, tableOf}
+use Rattle.ledger.proofs.RecordLaws.{settle-same, length-table-settle}
+use Rattle.calls.specs.Pool.{Pool, ledger, wordCount, Engine, Laws, store, lengths, sound}
+use Rattle.calls.specs.Step.{Call, format, allocate, release, find, look, list, done, accepted, Outcome, answersOf, answerWords, perform, step}
+use Rattle.calls.specs.Lent.{Lent, see, Event, mapCall, brought, isWhole, ownTable, outcome, after, laterEnd, laterOutcomes}
+use Rattle.calls.specs.Demand3.{Brings, Standing, live, standAll, RightAll, afterActs, brings, elsewhere, RightList, follows, Answered, endOf, atStart, Sequence, Demand3}
+use Rattle.calls.proofs.StoreLaws.{ledger-store, shape-store, words-store, store-keeps, settled-sound, settled-none, sound-lengths, settled}
+use Rattle.calls.proofs.LentLaws.{whole-brings, whole-table, own-table, quiet-after, Fits, whole-after, outcome-is}
+use Rattle.calls.proofs.Standing.{orElse, Inv}
+use Rattle.calls.proofs.Strays.{stray-step}
+use Rattle.calls.proofs.WholeCalls.{all-own, not-there, WholeCall, whole-sound, whole-step}
+use Rattle.calls.proofs.ActLaws.{step-sound}
+
+or-first : (a b : Bool) → b ≡ false → (a || b) ≡ true → a ≡ true
+or-first true b h k = refl
+or-first false b h k = absurd (false≢true (sym h ∙ k))
+
+module _ (E : Engine) (laws : Laws E) (p : Pool) (ok : sound E p ≡ true) (ms : List Member) where
+  -- ---- one event
+
+  pub record Moved (s : Standing) (q : Pool) (e : Event) : Type 0 where
+    pub past : List Member
+    pub pool : after E q e ≡ settled E p past
+    pub inv : Inv ms (afterActs (ledger p) (brings q e) s (outcome E q e .counted)) past
+    pub right : RightAll (ledger p) (brings q e) s (outcome E q e .counted)
+    pub listed : isWhole q e ≡ true → RightList q (e .call) (outcome E q e)
+
+  same-arena : (x : List Member) → length (settled E p x .arena) ≡ wordCount p
+  unfolding settled
+  same-arena x = words-store E (settle x (ledger p)) (p .head .next) p
+
+  same-table : (x : List Member) → length (settled E p x .table) ≡ length (tableOf (ledger p))
+  unfolding settled store
+  same-table x = length-table-settle x (ledger p)
+
+  same-index : (x : List Member) → length (settled E p x .index) ≡ E .indexWords (p .shape)
+  unfolding settled store lengths
+  same-index x = laws .indexed (p .shape) (wordCount p) (settle x (ledger p)) (in-range (sound-lengths E laws p ok))
+    where
+      in-range : lengths E p ≡ true → E .range (p .shape) (wordCount p) ≡ true
+      in-range h = search and-l
+
+  same-shape : (x : List Member) → settled E p x .shape ≡ p .shape
+  unfolding settled
+  same-shape x = shape-store E (settle x (ledger p)) (p .head .next) p
+
+  -- every pool of the sequence has the lengths and the shape of the first
+  pub settled-fits : (x y : List Member) (q : Pool) (o : Outcome) → q ≡ settled E p x → o .pool ≡ settled E p y → Fits q o
+  settled-fits x y q o e d = record {
+    arena = ap (λ (z : Pool). length (z .arena)) d ∙ same-arena y ∙ sym (ap (λ (z : Pool). length (z .arena)) e ∙ same-arena x);
+    table = ap (λ (z : Pool). length (z .table)) d ∙ same-table y ∙ sym (ap (λ (z : Pool). length (z .table)) e ∙ same-table x);
+    index = ap (λ (z : Pool). length (z .index)) d ∙ same-index y ∙ sym (ap (λ (z : Pool). length (z .index)) e ∙ same-index x);
+    shape = ap (λ (z : Pool). z .shape) d ∙ same-shape y ∙ sym (ap (λ (z : Pool). z .shape) e ∙ same-shape x);
+  }
+
+  stray-event : (s : Standing) (past : List Member) (q : Pool) (e : Event) → q ≡ settled E p past → Inv ms s past → isWhole q e ≡ false
+      → standAll (ledger p) (brings q e) s (outcome E q e .counted) ≡ true
+      → (not (accepted (outcome E q e .answer)) || elsewhere (e .call)) ≡ true → Moved s q e
+  unfolding outcome
+  stray-event s past q e d v w h b =
+      let m = brought q e in
+      let c = mapCall (see q) (e .call) in
+      let unknown : ownTable q e ≡ true → (t : ℕ) → live (ledger p) (s .spent) t ≡ false → recordOf t (ledger m) ≡ none =
+      λ k t n. ap (λ (z : Words). recordOf t (recordsOf z)) (own-table q e k) ∙ not-there E laws p ok ms s past q d v t n in
+      let k = stray-step E (ledger p) (brings q e) s w m unknown c h in
+      record {
+        past = past;
+        pool = quiet-after E q e (record {
+          arena = k .arena;
+          table = k .table;
+          index = k .index;
+          head = λ a. absurd (false≢true (sym w ∙ and-r (accepted (outcome E q e .answer)) (isWhole q e) a));
+          buffers = λ a. k .buffers (not-true (accepted (outcome E q e .answer)) (or-first (not (accepted (outcome E q e .answer))) (elsewhere (e .call)) a b));
+        }) ∙ d;
+        inv = subst (λ (z : Standing). Inv ms z past) (sym (k .standing)) v;
+        right = k .right;
+        listed = λ a. absurd (false≢true (sym w ∙ a));
+      }
+
+  list-right : (q : Pool) → sound E q ≡ true → (c : Call Lent) (o : Outcome) → o ≡ step E (mapCall (see q) c) q → RightList q c o
+  unfolding step perform
+  list-right q so format o j = tt
+  list-right q so (allocate n) o j = tt
+  list-right q so (release r) o j = tt
+  list-right q so (find r) o j = tt
+  list-right q so (look r hold) o j = tt
+  list-right q so (list rs bs) o j = λ h.
+      let k : o ≡ perform E (list (see q rs) (see q bs)) q = j ∙ step-sound E (list (see q rs) (see q bs)) q refl h so in
+      subst
+      (λ (z : Outcome). (z .answer ≡ done)
+      × (z .buffers ≡ (answerWords (answersOf (z .counted)) ++ drop (length (see q rs)) (see q bs)) ∷ []))
+      (sym k) (refl, refl)
+
+  whole-event : (s : Standing) (past : List Member) (q : Pool) (e : Event) → q ≡ settled E p past → Inv ms s past → isWhole q e ≡ true
+      → standAll (ledger p) (brings q e) s (outcome E q e .counted) ≡ true
+      → (not (accepted (outcome E q e .answer)) || elsewhere (e .call)) ≡ true → Moved s q e
+  whole-event s past q e d v w h b = record {
+    past = call .past;
+    pool = left (accepted (o .answer)) refl ∙ call .pool;
+    inv = subst (λ (x : Brings). Inv ms (afterActs (ledger p) x s (o .counted)) (call .past)) (sym own) (call .inv);
+    right = subst (λ (x : Brings). RightAll (ledger p) x s (o .counted)) (sym own) (call .right);
+    listed = λ _. list-right q (whole-sound E laws p ok ms s past q d v) (e .call) o is-step;
+  }
+    where
+      o : Outcome
+      o = outcome E q e
+
+      c : Call Words
+      c = mapCall (see q) (e .call)
+
+      own : brings q e ≡ all-own
+      own = λ i. record { whole = w i; table = whole-table q e w i }
+
+      is-step : o ≡ step E c q
+      is-step = outcome-is E q e ∙ ap (λ (z : Pool). step E c z) (whole-brings q e w)
+
+      call : WholeCall E laws p ok ms s q c o
+      call =
+          subst (λ (z : Outcome). WholeCall E laws p ok ms s q c z) (sym is-step)
+          (whole-step E laws p ok ms s past q d v c
+          (subst (λ (z : Outcome). standAll (ledger p) all-own s (z .counted) ≡ true) is-step
+          (subst (λ (x : Brings). standAll (ledger p) x s (o .counted) ≡ true) own h)))
+
+      seen : brought q e ≡ q
+      seen = whole-brings q e w
+
+      left : (a : Bool) → accepted (o .answer) ≡ a → after E q e ≡ o .pool
+      left true a =
+          whole-after E q e w a (ap (λ (x : Bool). not x || elsewhere (e .call)) (sym a) ∙ b)
+          (settled-fits past (call .past) q o d (call .pool))
+      left false a =
+          let k : o .pool ≡ q = call .kept a in
+          quiet-after E q e (record {
+            arena = ap (λ (z : Pool). z .arena) (k ∙ sym seen);
+            table = ap (λ (z : Pool). z .table) (k ∙ sym seen);
+            index = ap (λ (z : Pool). z .index) (k ∙ sym seen);
+            head = λ _. ap (λ (z : Pool). z .head) k;
+            buffers = λ _. call .buffers a;
+          }) ∙ sym k
+
+  pub event : (s : Standing) (past : List Member) (q : Pool) (e : Event) → q ≡ settled E p past → Inv ms s past
+      → standAll (ledger p) (brings q e) s (outcome E q e .counted) ≡ true
+      → (not (accepted (outcome E q e .answer)) || elsewhere (e .call)) ≡ true → Moved s q e
+  event s past q e d v h b = go (isWhole q e) refl
+    where
+      go : (w : Bool) → isWhole q e ≡ w → Moved s q e
+      go true w = whole-event s past q e d v w h b
+      go false w = stray-event s past q e d v w h b
+
+  -- ---- a whole sequence
+
+  at-end : (s : Standing) (past : List Member) → Inv ms s past → _≡_ {A = Bool} (elim (s .due) [ [] ↦ true | m ∷ more ↦ false ]) true
+      → settled E p past ≡ settled E p ms
+  unfolding settled
+  at-end s past v h =
+      ap (λ (L : Ledger). store E L (p .head .next) p)
+      (settle-same past ms (λ t. ap (λ (due : List Member). orElse (planFor t due) (planFor t past)) (sym (none-due (s .due) h)) ∙ v .covers t) (ledger p))
+    where
+      none-due : (due : List Member) → _≡_ {A = Bool} (elim due [ [] ↦ true | m ∷ more ↦ false ]) true → due ≡ []
+      none-due [] h = refl
+      none-due (m ∷ more) h = absurd (false≢true h)
+
+  events : (es : List Event) (s : Standing) (past : List Member) (q : Pool) → q ≡ settled E p past → Inv ms s past
+      → follows E (ledger p) s q es ≡ true → Answered E (ledger p) s q es × (endOf E q es ≡ settled E p ms)
+  events [] s past q d v h = (tt, d ∙ at-end s past v h)
+  events (e ∷ es) s past q d v h =
+      let o = outcome E q e in
+      let next = afterActs (ledger p) (brings q e) s (o .counted) in
+      let m = event s past q e d v (search (and-l, and-r)) (search (and-l, and-r)) in
+      let rest = events es next (m .past) (after E q e) (m .pool) (m .inv) (search (and-l, and-r)) in
+      ((m .right, m .listed, rest .0), rest .1)
+
+  pub start-inv : Inv ms (atStart E ms) []
+  start-inv = record { covers = λ t. or-none (planFor t ms); fresh = λ t h. refl; spent = λ t. refl }
+    where
+      or-none : (o : Option Plan) → orElse o none ≡ o
+      or-none none = refl
+      or-none (some q) = refl
+
+  pub sequence-end : (es : List Event) → Sequence E p ms es → Answered E (ledger p) (atStart E ms) p es × (endOf E p es ≡ settled E p ms)
+  sequence-end es h = events es (atStart E ms) [] p (sym (unfold settled in settled-none E laws p ok)) start-inv h
+
+-- ---- the demand
+
+pub demand3 : (E : Engine) → Laws E → Demand3 E
+unfolding Demand3 settled
+demand3 E laws p ok ms alive es h =
+    let r = sequence-end E laws p ok ms es h in
+    record {
+      answered = r .0;
+      form = r .1;
+      holds = ap (λ (q : Pool). ledger q) (r .1) ∙ ledger-store E (settle ms (ledger p)) (p .head .next) p;
+      isSound = ap (λ (q : Pool). sound E q) (r .1) ∙ settled-sound E laws p ok ms;
+      kept = λ i k. ap (λ (q : Pool). getD (q .arena) i 0) (r .1) ∙ store-keeps E (settle ms (ledger p)) (p .head .next) p i k;
+      same = λ others k ls.
+          let e : endOf E p es ≡ endOf E p others = r .1 ∙ sym (sequence-end E laws p ok ms others k .1) in
+          (e, ap (λ (q : Pool). laterOutcomes E q ls) e, ap (λ (q : Pool). laterEnd E q ls) e);
+    }

@@ -1,0 +1,17 @@
+-- The laws over any engine, the three demands, and their instances.
+pub mod BenchValues
+pub mod StoreLaws
+pub mod ActLaws
+pub mod RowLaws
+pub mod GrantLaws
+pub mod HeldLaws
+pub mod Demand1
+pub mod Demand2
+pub mod LentLaws
+pub mod CallLaws
+pub mod Standing
+pub mod Strays
+pub mod WholeCalls
+pub mod Demand3
+pub mod AnyOrder
+pub mod Engines

@@ -1,0 +1,118 @@
+-- Demand 1: any call on any memory gets the number that the table of 01 fixes, and a refused call leaves every word as it stood.
+-- Proved in proofs/Demand1. Assumes nothing.
+use Prim.Native.Nat.{ℕ, _+_, _/_, _≤_, _<_}
+use mathlib.Core.Path.{_≡_}
+use mathlib.Core.Logic.{_≢_, _↔_, _⊎_}
+use mathlib.Core.Bool.{Bool, true, false, _&&_}
+use mathlib.Core.List.{List, [], _∷_}
+use Rattle.words.specs.Lists.{Words}
+use Rattle.ledger.specs.declared.Row.{Row}
+use Rattle.ledger.specs.Records.{slots, recordAt, isEmpty}
+use Rattle.ledger.specs.Units.{span, free}
+use Rattle.calls.specs.declared.Answer.{Answer}
+use Rattle.calls.specs.Pool.{Head, Pool, ledger, wordCount, Engine, ruleOf, lengths, sound, StoredForm}
+use Rattle.calls.specs.Step.{Call, format, allocate, release, find, look, list, refusal, accepted, Slice, Act, ask, give, query, bad, Outcome, countedOf, poolAfterAll, answerTo, poolAfter, actsOf, buffersOf, suits, ownAnswer, sliceOf, buffersAfter, zeroHead, step}
+
+-- ---- the rows of the table, each said of the records, units and words themselves
+
+-- 2: asked words are 0 or above the limit
+abbrev pub BadSize : Engine → Pool → ℕ → Type 0
+BadSize E p n = (n ≡ 0) ⊎ (E .limit (p .shape) < n)
+
+-- 3: no empty record
+abbrev pub NoRecord : Pool → Type 0
+NoRecord p = (i : ℕ) → i < slots (p .table) → isEmpty (recordAt (p .table) i) ≡ false
+
+-- 4: next ticket is 0
+abbrev pub NoTicket : Pool → Type 0
+NoTicket p = p .head .next ≡ 0
+
+-- 5: no free run is long enough: wherever so many units lie, one of them is not free
+abbrev pub NoRoom : Engine → Pool → ℕ → Type 0
+NoRoom E p n =
+    (k : ℕ) → k + span (ruleOf E p) n ≤ wordCount p / ruleOf E p .unit
+    → ((u : ℕ) × (k ≤ u) × (u < k + span (ruleOf E p) n) × (free (ruleOf E p) (ledger p) u ≡ false))
+
+-- 6: no live record has this ticket (0 always)
+abbrev pub Unknown : Pool → Row → Type 0
+Unknown p r = (r .ticket ≡ 0) ⊎ ((i : ℕ) → i < slots (p .table) → recordAt (p .table) i .ticket ≢ r .ticket)
+
+-- the record of this ticket has this address and these words; 7: it has not
+abbrev pub Same : Pool → Row → Type 0
+Same p r = (i : ℕ) × (i < slots (p .table)) × (recordAt (p .table) i ≡ r)
+
+-- ---- the number of one act on a sound pool, each exactly when its row says, in 01's order: 2, 3, 4, 5; 6, 7
+
+pub record AskNumbers (E : Engine) (p : Pool) (n : ℕ) (x : ℕ) : Type 0 where
+  pub two : (x ≡ 2) ↔ BadSize E p n
+  pub three : (x ≡ 3) ↔ ((BadSize E p n → ⊥) × NoRecord p)
+  pub four : (x ≡ 4) ↔ ((BadSize E p n → ⊥) × (NoRecord p → ⊥) × NoTicket p)
+  pub five : (x ≡ 5) ↔ ((BadSize E p n → ⊥) × (NoRecord p → ⊥) × (NoTicket p → ⊥) × NoRoom E p n)
+  pub zero : (x ≡ 0) ↔ ((BadSize E p n → ⊥) × (NoRecord p → ⊥) × (NoTicket p → ⊥) × (NoRoom E p n → ⊥))
+
+pub record NameNumbers (p : Pool) (r : Row) (x : ℕ) : Type 0 where
+  pub six : (x ≡ 6) ↔ Unknown p r
+  pub seven : (x ≡ 7) ↔ ((Unknown p r → ⊥) × (Same p r → ⊥))
+  pub zero : (x ≡ 0) ↔ ((Unknown p r → ⊥) × Same p r)
+
+abbrev pub ActNumbers : Engine → Pool → Act → ℕ → Type 0
+ActNumbers E p (ask n) x = AskNumbers E p n x
+ActNumbers E p (give r) x = NameNumbers p r x
+ActNumbers E p (query r) x = NameNumbers p r x
+ActNumbers E p bad x = x ≡ 9
+
+-- ---- a refused call
+
+-- a refused format alone hands back another head than it got: zeros
+abbrev pub refusedHead : Engine → Call Words → Pool → Head
+refusedHead E format p = zeroHead E
+refusedHead E (allocate n) p = p .head
+refusedHead E (release r) p = p .head
+refusedHead E (find r) p = p .head
+refusedHead E (look r hold) p = p .head
+refusedHead E (list rs bs) p = p .head
+
+-- its number with ticket, address and words 0; head, S, arena, table, index and answer buffer as they were
+pub record Refused (E : Engine) (c : Call Words) (p : Pool) (o : Outcome) : Type 0 where
+  pub answer : o .answer ≡ refusal (o .answer .number)
+  pub head : o .pool .head ≡ refusedHead E c p
+  pub shape : o .pool .shape ≡ p .shape
+  pub arena : o .pool .arena ≡ p .arena
+  pub table : o .pool .table ≡ p .table
+  pub index : o .pool .index ≡ p .index
+  pub buffers : o .buffers ≡ buffersOf c
+  -- look hands back the placeholder
+  pub shown : o .shown ≡ sliceOf c (refusal (o .answer .number))
+
+abbrev pub isFormat : Call Words → Bool
+isFormat format = true
+isFormat (allocate n) = false
+isFormat (release r) = false
+isFormat (find r) = false
+isFormat (look r hold) = false
+isFormat (list rs bs) = false
+
+-- a call on a sound pool and lengths that suit does its acts, one after another: each act's answer is `answerTo` on the pool
+-- as the one before left it
+pub record Performed (E : Engine) (c : Call Words) (p : Pool) (o : Outcome) : Type 0 where
+  pub counted : o .counted ≡ countedOf E p (actsOf c)
+  pub pool : o .pool ≡ poolAfterAll E p (actsOf c)
+  pub answer : o .answer ≡ ownAnswer c (o .counted)
+  pub shown : o .shown ≡ sliceOf c (o .answer)
+  pub buffers : o .buffers ≡ buffersAfter c (o .counted)
+
+-- ---- the demand
+
+pub record Demand1 (E : Engine) : Type 0 where
+  -- a refused call, and a request refused inside a list
+  pub refused : (c : Call Words) (p : Pool) → accepted (step E c p .answer) ≡ false → Refused E c p (step E c p)
+  pub refusedAct : (p : Pool) (a : Act) → accepted (answerTo E p a) ≡ false
+      → (answerTo E p a ≡ refusal (answerTo E p a .number)) × (poolAfter E p a ≡ p)
+  -- 8 and 1, exactly when their rows say; format gives 8 or succeeds
+  pub eight : (c : Call Words) (p : Pool) → (step E c p .answer .number ≡ 8) ↔ ((lengths E p && suits c) ≡ false)
+  pub one : (c : Call Words) (p : Pool) → (step E c p .answer .number ≡ 1)
+      ↔ ((isFormat c ≡ false) × ((lengths E p && suits c) ≡ true) × (StoredForm E p → ⊥))
+  pub formats : (p : Pool) → lengths E p ≡ true → step E format p .answer .number ≡ 0
+  -- else the call does its acts, and every act's number is the one whose row holds
+  pub performed : (c : Call Words) (p : Pool) → isFormat c ≡ false → suits c ≡ true → sound E p ≡ true → Performed E c p (step E c p)
+  pub numbers : (p : Pool) (a : Act) → sound E p ≡ true → ActNumbers E p a (answerTo E p a .number)

@@ -1,0 +1,182 @@
+-- Demand 3: order makes no difference. One claim over whole sequences of calls, for any engine; 01, "Demand 3 is one single claim ..".
+-- Proved in proofs/Demand3. Assumes nothing.
+use Prim.Native.Nat.{ℕ}
+use mathlib.Core.Path.{_≡_}
+use mathlib.Core.Bool.{Bool, true, false, cond, not, _&&_, _||_}
+use mathlib.Core.List.{List, [], _∷_, _++_}
+use mathlib.Core.Option.{Option, none, some}
+use lib.Dec.{eqb}
+use lib.ListN.{length, getD, drop}
+use Rattle.words.specs.Lists.{Words, all, any, isSome}
+use Rattle.ledger.specs.declared.Row.{Row}
+use Rattle.ledger.specs.Records.{Ledger, recordOf, Member, planFor, settle}
+use Rattle.ledger.specs.Units.{owned}
+use Rattle.calls.specs.declared.Answer.{Answer}
+use Rattle.calls.specs.Pool.{Pool, ledger, Engine, ruleOf, store, sound}
+use Rattle.calls.specs.Step.{Call, list, granted, done, refusal, accepted, Act, ask, give, query, bad, Counted, Outcome, named, buffersOf, listSuits, answerWords, answersOf}
+use Rattle.calls.specs.Lent.{Lent, see, isOther, Event, isWhole, ownTable, outcome, after, Later, laterEnd, laterOutcomes}
+
+-- ---- one act of a sequence
+
+-- What a call brings, as far as its acts go: the pool whole; the pool's own table.
+pub record Brings : Type 0 where
+  pub whole : Bool
+  pub table : Bool
+
+-- Where a sequence stands: the members of the set that are still to be released, and the tickets whose release was accepted.
+pub record Standing : Type 0 where
+  pub due : List Member
+  pub spent : Words
+
+abbrev pub remove : ℕ → List Member → List Member
+remove t [] = []
+remove t (m ∷ ms) = cond (eqb (m .ticket) t) (remove t ms) (m ∷ remove t ms)
+
+-- `start` is the ledger at the start. A ticket is live at a call if it has it and no release of it was accepted earlier.
+unfoldable pub live : Ledger → Words → ℕ → Bool
+live start spent t = isSome (recordOf t start) && not (any (eqb t) spent)
+
+-- a release of the set: brings the pool whole, and names ticket, address and words as the ledger at the start has them
+unfoldable pub isDue : Ledger → Brings → Standing → Row → Bool
+isDue start b s r = b .whole && isSome (planFor (r .ticket) (s .due)) && eqb (named start r) 0
+
+-- a replay: a release whose ticket is not live there. It may bring any head, S, arena and index with the pool's own table.
+unfoldable pub isReplay : Ledger → Brings → Standing → Row → Bool
+isReplay start b s r = b .table && not (live start (s .spent) (r .ticket))
+
+-- What is assumed of an act and its answer: nothing of a release of the set, of a replay, and of a find or look that brings the pool
+-- whole; every other act is refused.
+unfoldable pub stands : Ledger → Brings → Standing → Counted → Bool
+stands start b s c =
+    elim (c .act) [
+      | none ↦ not (accepted (c .answer))
+      | some a ↦ elim a [
+        | ask n ↦ not (accepted (c .answer))
+        | give r ↦ isDue start b s r || isReplay start b s r || not (accepted (c .answer))
+        | query r ↦ b .whole || not (accepted (c .answer))
+        | bad ↦ not (accepted (c .answer))
+      ]
+    ]
+
+-- What is claimed: a release of the set is accepted, with its three echoed; a replay is refused, by 6 where it brings the pool whole.
+pub record RightRelease (start : Ledger) (b : Brings) (s : Standing) (r : Row) (x : Answer) : Type 0 where
+  pub accepts : isDue start b s r ≡ true → x ≡ granted r
+  pub refuses : isReplay start b s r ≡ true → accepted x ≡ false
+  pub six : isReplay start b s r ≡ true → b .whole ≡ true → x ≡ refusal 6
+
+abbrev pub Right : Ledger → Brings → Standing → Counted → Type 0
+Right start b s c =
+    elim (c .act) [
+      | none ↦ Unit {0}
+      | some a ↦ elim a [
+        | ask n ↦ Unit {0}
+        | give r ↦ RightRelease start b s r (c .answer)
+        | query r ↦ Unit {0}
+        | bad ↦ Unit {0}
+      ]
+    ]
+
+-- where the sequence stands after an act
+unfoldable pub afterAct : Ledger → Brings → Standing → Counted → Standing
+afterAct start b s c =
+    elim (c .act) [
+      | none ↦ s
+      | some a ↦ elim a [
+        | ask n ↦ s
+        | give r ↦ record {
+          due = cond (isDue start b s r) (remove (r .ticket) (s .due)) (s .due);
+          spent = cond (accepted (c .answer)) (r .ticket ∷ s .spent) (s .spent);
+        }
+        | query r ↦ s
+        | bad ↦ s
+      ]
+    ]
+
+-- the acts of one call, one after another
+abbrev pub standAll : Ledger → Brings → Standing → List Counted → Bool
+standAll start b s [] = true
+standAll start b s (c ∷ cs) = stands start b s c && standAll start b (afterAct start b s c) cs
+
+abbrev pub RightAll : Ledger → Brings → Standing → List Counted → Type 0
+RightAll start b s [] = Unit {0}
+RightAll start b s (c ∷ cs) = Right start b s c × RightAll start b (afterAct start b s c) cs
+
+abbrev pub afterActs : Ledger → Brings → Standing → List Counted → Standing
+afterActs start b s [] = s
+afterActs start b s (c ∷ cs) = afterActs start b (afterAct start b s c) cs
+
+-- ---- whole sequences
+
+abbrev pub brings : Pool → Event → Brings
+brings q e = record { whole = isWhole q e; table = ownTable q e }
+
+-- nobody else writes into the pool: a list call that ran has its answer buffer elsewhere
+abbrev pub elsewhere : Call Lent → Bool
+elsewhere c = all (all isOther) (buffersOf c)
+
+-- A list call that brings the pool whole and suits its buffer runs: it answers 0 and zeros, and leaves its answers in the buffer,
+-- whose words beyond the list stay.
+abbrev pub RightList : Pool → Call Lent → Outcome → Type 0
+RightList q (list rs bs) o =
+    listSuits (see q rs) (see q bs) ≡ true
+    → (o .answer ≡ done)
+    × (o .buffers ≡ (answerWords (answersOf (o .counted)) ++ drop (length (see q rs)) (see q bs)) ∷ [])
+RightList q Call.format o = Unit {0}
+RightList q (Call.allocate n) o = Unit {0}
+RightList q (Call.release r) o = Unit {0}
+RightList q (Call.find r) o = Unit {0}
+RightList q (Call.look r hold) o = Unit {0}
+
+module _ (E : Engine) (start : Ledger) where
+  -- From the pool q on: every act of every call stands as it should, and at the end nothing is due.
+  abbrev pub follows : Standing → Pool → List Event → Bool
+  follows s q [] = elim (s .due) [ [] ↦ true | m ∷ ms ↦ false ]
+  follows s q (e ∷ es) =
+      let o = outcome E q e in
+      standAll start (brings q e) s (o .counted)
+      && (not (accepted (o .answer)) || elsewhere (e .call))
+      && follows (afterActs start (brings q e) s (o .counted)) (after E q e) es
+
+  abbrev pub Answered : Standing → Pool → List Event → Type 0
+  Answered s q [] = Unit {0}
+  Answered s q (e ∷ es) =
+      let o = outcome E q e in
+      RightAll start (brings q e) s (o .counted)
+      × (isWhole q e ≡ true → RightList q (e .call) o)
+      × Answered (afterActs start (brings q e) s (o .counted)) (after E q e) es
+
+module _ (E : Engine) where
+  abbrev pub endOf : Pool → List Event → Pool
+  endOf q [] = q
+  endOf q (e ∷ es) = endOf (after E q e) es
+
+  abbrev pub atStart : List Member → Standing
+  atStart ms = record { due = ms; spent = [] }
+
+  -- a sequence of calls on the pool p that carries out the plans of the set
+  abbrev pub Sequence : Pool → List Member → List Event → Type 0
+  Sequence p ms es = follows E (ledger p) (atStart ms) p es ≡ true
+
+  pub record Claim (p : Pool) (ms : List Member) (es : List Event) : Type 0 where
+    -- each release of the set is accepted, and each replay is refused
+    pub answered : Answered E (ledger p) (atStart ms) p es
+    -- Every stored word at the end: the stored form of the start's ledger with the set's plans carried out, the others in their
+    -- slots, next ticket as it was.
+    pub form : endOf p es ≡ store E (settle ms (ledger p)) (p .head .next) p
+    pub holds : ledger (endOf p es) ≡ settle ms (ledger p)
+    pub isSound : sound E (endOf p es) ≡ true
+    -- in blocks still held every word but a control word is as at the start
+    pub kept : (i : ℕ) → owned (ruleOf E p) (settle ms (ledger p)) i ≡ true → getD (endOf p es .arena) i 0 ≡ getD (p .arena) i 0
+    -- After another such sequence from this pool and this set every word is the same; and the same later calls, accepted ones too,
+    -- with the same writing by callers between them, get the same answers and leave the same words.
+    pub same : (others : List Event) → Sequence p ms others → (ls : List Later)
+        → (endOf p es ≡ endOf p others)
+        × (laterOutcomes E (endOf p es) ls ≡ laterOutcomes E (endOf p others) ls)
+        × (laterEnd E (endOf p es) ls ≡ laterEnd E (endOf p others) ls)
+
+  -- Any sound pool, any set of its live tickets, any such sequence.
+  unfoldable pub Demand3 : Type 0
+  Demand3 =
+      (p : Pool) → sound E p ≡ true
+      → (ms : List Member) → all (λ m. live (ledger p) [] (m .ticket)) ms ≡ true
+      → (es : List Event) → Sequence p ms es → Claim p ms es

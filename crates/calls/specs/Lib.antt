@@ -1,0 +1,9 @@
+-- The pool as a machine, and the three demands stated over it.
+pub mod Pool
+pub mod Step
+pub mod Engines
+pub mod Lent
+pub mod Demand1
+pub mod Demand2
+pub mod Demand3
+pub mod Computing

@@ -1,0 +1,118 @@
+-- Pool memory, an engine as what it stores, and soundness. 01, "Calls and numbers", rows 8 and 1. Assumes nothing.
+use Prim.Native.Nat.{ℕ, zero, suc, _+_, _*_, _/_, _%_, _<_, _≤_}
+use mathlib.Core.Path.{_≡_}
+use mathlib.Core.Bool.{Bool, true, false, cond, not, _&&_}
+use mathlib.Core.List.{List, [], _∷_}
+use mathlib.Core.Option.{Option}
+use lib.Dec.{eqb, leb}
+use lib.ListN.{length, replicate}
+use Rattle.words.specs.Lists.{Words, sameWords}
+use Rattle.words.specs.Places.{stamp}
+use Rattle.ledger.specs.declared.Row.{Row}
+use Rattle.ledger.specs.declared.Rule.{Rule}
+use Rattle.ledger.specs.Records.{Ledger, recordWords, recordsOf, tableOf, slots, recordOf, isLive}
+use Rattle.ledger.specs.Units.{first, past, valid, owned}
+
+-- What a call is passed and hands back: the root link, in the tree pool alone, and the next ticket; 0 means none left.
+pub record Head : Type 0 where
+  pub root : Words
+  pub next : ℕ
+
+-- Head, lent memory, and the one argument that lies in neither: S in the segment pool. The tree pool has no such argument
+-- and no index.
+pub record Pool : Type 0 where
+  pub head : Head
+  pub shape : ℕ
+  pub arena : Words
+  pub table : Words
+  pub index : Words
+
+-- A table, a next ticket and an arena's length name at most one ledger.
+abbrev pub ledger : Pool → Ledger
+ledger p = recordsOf (p .table)
+
+abbrev pub wordCount : Pool → ℕ
+wordCount p = length (p .arena)
+
+-- An engine, as what it stores of a ledger: each word of the arena that no holder owns, the root link, the index. Every part takes
+-- the shape first, then the arena's length.
+pub record Engine : Type 0 where
+  pub rule : ℕ → Rule
+  pub range : ℕ → ℕ → Bool
+  -- the most words that can be asked for (number 2)
+  pub limit : ℕ → ℕ
+  pub word : ℕ → ℕ → Ledger → ℕ → ℕ
+  pub links : ℕ
+  pub root : ℕ → ℕ → Ledger → Words
+  pub indexWords : ℕ → ℕ
+  pub index : ℕ → ℕ → Ledger → Words
+
+-- 1 to 256 records
+abbrev pub mostRecords : ℕ
+mostRecords = 256
+
+-- the first ticket of a formatted pool, and the ticket after n: after 4,294,967,295 there is none
+abbrev pub firstTicket : ℕ
+firstTicket = 1
+
+abbrev pub nextAfter : ℕ → ℕ
+nextAfter n = cond (eqb n 4294967295) 0 (suc n)
+
+unfoldable pub samePool : Pool → Pool → Bool
+samePool p q =
+    sameWords (p .head .root) (q .head .root) && eqb (p .head .next) (q .head .next) && eqb (p .shape) (q .shape)
+    && sameWords (p .arena) (q .arena) && sameWords (p .table) (q .table) && sameWords (p .index) (q .index)
+
+module _ (E : Engine) where
+  abbrev pub ruleOf : Pool → Rule
+  ruleOf p = E .rule (p .shape)
+
+  -- the stored form of the ledger L with next ticket n, over what the holders wrote in p
+  unfoldable pub store : Ledger → ℕ → Pool → Pool
+  store L n p = record {
+    head = record { root = E .root (p .shape) (wordCount p) L; next = n };
+    shape = p .shape;
+    arena = stamp (owned (ruleOf p) L) (E .word (p .shape) (wordCount p) L) (p .arena);
+    table = tableOf L;
+    index = E .index (p .shape) (wordCount p) L;
+  }
+
+  -- Row 8: every lent length and S lie in their ranges.
+  unfoldable pub lengths : Pool → Bool
+  lengths p =
+      E .range (p .shape) (wordCount p)
+      && eqb (length (p .table) % recordWords) 0 && leb 1 (slots (p .table)) && leb (slots (p .table)) mostRecords
+      && eqb (length (p .index)) (E .indexWords (p .shape))
+
+  -- Row 1: head and lent memory are the stored form of a ledger, which can only be the one that the table and the next ticket
+  -- name. `sound-form` in proofs/StoreLaws says it with "of some ledger".
+  unfoldable pub stored : Pool → Bool
+  stored p =
+      valid (ruleOf p) (wordCount p) (p .head .next) (ledger p)
+      && samePool p (store (ledger p) (p .head .next) p)
+
+  unfoldable pub sound : Pool → Bool
+  sound p = lengths p && stored p
+
+  -- The same with "of some ledger", as 01 says it.
+  pub record StoredForm (p : Pool) : Type 0 where
+    pub of : Ledger
+    pub next : ℕ
+    pub over : Pool
+    pub right : lengths over ≡ true
+    pub slots : length (tableOf of) ≡ length (over .table)
+    pub good : valid (ruleOf over) (wordCount over) next of ≡ true
+    pub form : p ≡ store of next over
+
+-- What the laws ask of an engine.
+pub record Laws (E : Engine) : Type 0 where
+  -- a unit has words
+  pub unit : (s : ℕ) → 0 < E .rule s .unit
+  -- the index has its length
+  pub indexed : (s W : ℕ) (L : Ledger) → E .range s W ≡ true → length (E .index s W L) ≡ E .indexWords s
+  -- the words of a held block before its address, if there are any, are the same in every ledger that holds it
+  pub lead : (s W n₁ n₂ : ℕ) (L₁ L₂ : Ledger) (r : Row) (i : ℕ)
+      → valid (E .rule s) W n₁ L₁ ≡ true → valid (E .rule s) W n₂ L₂ ≡ true
+      → recordOf (r .ticket) L₁ ≡ Option.some r → recordOf (r .ticket) L₂ ≡ Option.some r
+      → E .rule s .unit * first (E .rule s) r ≤ i → i < r .address
+      → E .word s W L₁ i ≡ E .word s W L₂ i

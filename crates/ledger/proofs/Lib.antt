@@ -1,0 +1,6 @@
+-- The laws of what specs/ defines.
+pub mod BenchValues
+pub mod RecordLaws
+pub mod UnitLaws
+pub mod RunLaws
+pub mod FitLaws

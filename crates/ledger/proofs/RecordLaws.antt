@@ -1,0 +1,256 @@
+-- Laws of records in the slots of the table, and of the changes of a ledger. Assumes nothing.
+use Prim.Native.Nat.{ℕ, zero, suc, _+_, _*_, _%_, _<_}
+use native.Mathlib.Nat.{zero-add, le-of-suc-le-suc}
+use native.Mathlib.Omega.{arith}
+use mathlib.Core.Path.{_≡_, refl, sym, ap, ap₂, _∙_}
+use mathlib.Core.Logic.{_≢_, _↔_}
+use mathlib.Core.Bool.{Bool, true, false, cond, not, false≢true, and-false}
+use mathlib.Core.List.{List, [], _∷_}
+use mathlib.Core.Option.{Option, none, some}
+use lib.Dec.{eqb}
+use lib.ListN.{length, getD, set, length-map}
+use Rattle.words.proofs.ByPlace.{all-of, firstThat-at, listFrom-shift}
+use Rattle.words.specs.Lists.{Words, all, pairwise, listFrom, isSome}
+use Rattle.words.specs.Counted.{lowest}
+use Rattle.words.proofs.Tests.{and-l, and-r, not-true, of-not, eqb-eq, eqb-same, eqb-ne, eqb-false, absurd-some}
+use Rattle.words.proofs.ListLaws.{all-getD, firstThat-some, length-listFrom, getD-listFrom}
+use Rattle.words.proofs.CountedLaws.{lowest-some, lowest-none, lowest-nothing}
+use Rattle.ledger.specs.declared.Row.{Row}
+use Rattle.ledger.specs.declared.Rule.{Rule}
+use Rattle.ledger.specs.Records.{row, Ledger, recordWords, recordAt, slots, recordsOf, tableOf, emptyRow}
+use Rattle.ledger.specs.Records.{isEmpty, isLive}
+use Rattle.ledger.specs.Records.{hasTicket, recordOf, full, enter, Plan, vacate, Member, member}
+use Rattle.ledger.specs.Records.{planFor, carryIf, settle}
+use Rattle.ledger.specs.Units.{apart}
+
+-- ---- the table, and its records
+
+pub length-tableOf : (L : Ledger) → length (tableOf L) ≡ recordWords * length L
+length-tableOf [] = refl
+length-tableOf (r ∷ L) = let ih = length-tableOf L in omega arith
+
+pub length-records : (t : Words) → length (recordsOf t) ≡ slots t
+unfolding recordsOf
+length-records t = length-listFrom (recordAt t) 0 (slots t)
+
+pub record-at : (t : Words) (i : ℕ) → i < slots t → getD (recordsOf t) i emptyRow ≡ recordAt t i
+unfolding recordsOf
+record-at t i h = getD-listFrom (recordAt t) 0 (slots t) i emptyRow h ∙ ap (recordAt t) (zero-add i)
+
+-- where slot i + 1 lies, three words further than slot i
+slot-next : (i k : ℕ) → recordWords * suc i + k ≡ suc (suc (suc (recordWords * i + k)))
+slot-next i k = omega arith
+
+slot-first : (i : ℕ) → recordWords * suc i ≡ suc (suc (suc (recordWords * i)))
+slot-first i = omega arith
+
+record-next : (a b c : ℕ) (t : Words) (i : ℕ) → recordAt (a ∷ b ∷ c ∷ t) (suc i) ≡ recordAt t i
+record-next a b c t i = rw (slot-next i 1, slot-next i 2, slot-first i)
+
+records-cons : (a b c : ℕ) (t : Words) → recordsOf (a ∷ b ∷ c ∷ t) ≡ row a b c ∷ recordsOf t
+unfolding recordsOf
+records-cons a b c t =
+    let whole = a ∷ b ∷ c ∷ t in
+    let more : slots whole ≡ suc (slots t) = omega arith in
+    ap (λ n. listFrom (recordAt whole) 0 n) more
+    ∙ ap (λ (L : Ledger). row a b c ∷ L)
+    (listFrom-shift (recordAt whole) (recordAt t) (record-next a b c t) 0 (slots t))
+
+pub records-table : (L : Ledger) → recordsOf (tableOf L) ≡ L
+unfolding recordsOf
+records-table [] = refl
+records-table (r ∷ L) =
+    records-cons (r .ticket) (r .address) (r .words) (tableOf L) ∙ ap (λ (M : Ledger). r ∷ M) (records-table L)
+
+pub table-records : (t : Words) → length t % recordWords ≡ 0 → tableOf (recordsOf t) ≡ t
+unfolding recordsOf
+table-records [] h = refl
+table-records (a ∷ []) h = absurd (omega arith)
+table-records (a ∷ b ∷ []) h = absurd (omega arith)
+table-records (a ∷ b ∷ c ∷ t) h =
+    ap tableOf (records-cons a b c t) ∙ ap (λ (s : Words). a ∷ b ∷ c ∷ s) (table-records t (omega arith))
+
+-- a table with a record written into slot i, word by word
+abbrev pub put : Words → ℕ → Row → Words
+put t i r = set (set (set t (3 * i) (r .ticket)) (3 * i + 1) (r .address)) (3 * i + 2) (r .words)
+
+put-next : (a b c : ℕ) (t : Words) (i : ℕ) (r : Row) → put (a ∷ b ∷ c ∷ t) (suc i) r ≡ a ∷ b ∷ c ∷ put t i r
+put-next a b c t i r = rw (slot-next i 1, slot-next i 2, slot-first i)
+
+pub records-put : (t : Words) (i : ℕ) (r : Row) → i < slots t → recordsOf (put t i r) ≡ set (recordsOf t) i r
+records-put [] i r h = absurd (omega arith)
+records-put (a ∷ []) i r h = absurd (omega arith)
+records-put (a ∷ b ∷ []) i r h = absurd (omega arith)
+records-put (a ∷ b ∷ c ∷ t) zero r h =
+    records-cons (r .ticket) (r .address) (r .words) t ∙ ap (λ (L : Ledger). set L 0 r) (sym (records-cons a b c t))
+records-put (a ∷ b ∷ c ∷ t) (suc i) r h =
+    ap recordsOf (put-next a b c t i r)
+    ∙ records-cons a b c (put t i r)
+    ∙ ap (λ (L : Ledger). row a b c ∷ L) (records-put t i r (omega arith))
+    ∙ ap (λ (L : Ledger). set L (suc i) r) (sym (records-cons a b c t))
+
+-- ---- a ledger with some plans carried out
+
+pub settle-nil : (L : Ledger) → settle [] L ≡ L
+settle-nil [] = refl
+settle-nil (r ∷ L) = ap (λ (M : Ledger). r ∷ M) (settle-nil L)
+
+pub settle-same : (ms ns : List Member) → ((t : ℕ) → planFor t ms ≡ planFor t ns) → (L : Ledger)
+    → settle ms L ≡ settle ns L
+settle-same ms ns h [] = refl
+settle-same ms ns h (r ∷ L) = ap₂ (λ (s : Row) (M : Ledger). s ∷ M) (rw (h (r .ticket))) (settle-same ms ns h L)
+
+-- an emptied record stays empty, and every plan empties a record
+empty-stays : (o : Option Plan) → carryIf o emptyRow ≡ emptyRow
+empty-stays none = refl
+empty-stays (some vacate) = refl
+
+empties : (b : Bool) (p q : Plan) (r : Row) → carryIf (cond b (some p) (some q)) r ≡ emptyRow
+empties true vacate q r = refl
+empties false p vacate r = refl
+
+pub settle-more : (m : Member) (ms : List Member) (L : Ledger) → settle (m ∷ []) (settle ms L) ≡ settle (m ∷ ms) L
+settle-more m ms [] = refl
+settle-more m ms (r ∷ L) =
+    ap₂ (λ (s : Row) (M : Ledger). s ∷ M) (go (planFor (r .ticket) ms)) (settle-more m ms L)
+  where
+    go : (o : Option Plan) → carryIf (planFor (carryIf o r .ticket) (m ∷ [])) (carryIf o r)
+        ≡ carryIf (cond (eqb (m .ticket) (r .ticket)) (some (m .plan)) o) r
+    go none = refl
+    go (some vacate) =
+        empty-stays (planFor 0 (m ∷ [])) ∙ sym (empties (eqb (m .ticket) (r .ticket)) (m .plan) vacate r)
+
+pub length-settle : (ms : List Member) (L : Ledger) → length (settle ms L) ≡ length L
+length-settle ms L = length-map L (λ r. carryIf (planFor (r .ticket) ms) r)
+
+same-length : (L M : Ledger) → length L ≡ length M → length (tableOf L) ≡ length (tableOf M)
+same-length L M e = length-tableOf L ∙ ap (λ n. recordWords * n) e ∙ sym (length-tableOf M)
+
+pub length-table-settle : (ms : List Member) (L : Ledger) → length (tableOf (settle ms L)) ≡ length (tableOf L)
+length-table-settle ms L = same-length (settle ms L) L (length-settle ms L)
+
+-- ---- the record of a ticket
+
+pub record-zero : (L : Ledger) → recordOf 0 L ≡ none
+record-zero [] = refl
+record-zero (r ∷ L) = record-zero L
+
+pub has-ticket : (t : ℕ) (r : Row) → (hasTicket t r ≡ true) ↔ ((t ≢ 0) × (r .ticket ≡ t))
+has-ticket t r = (
+  (λ h. (
+    eqb-false t 0 (not-true (eqb t 0) (and-l (not (eqb t 0)) (eqb (r .ticket) t) h)),
+    eqb-eq (r .ticket) t (and-r (not (eqb t 0)) (eqb (r .ticket) t) h),
+  )),
+  (λ (z, e). rw (eqb-ne t 0 z, e, eqb-same t)),
+)
+
+pub record-ticket : (t : ℕ) (L : Ledger) (r : Row) → recordOf t L ≡ some r → (t ≢ 0) × (r .ticket ≡ t)
+record-ticket t L r e = has-ticket t r .0 (firstThat-some (hasTicket t) L r e)
+
+pub record-slot : (t : ℕ) (L : Ledger) (r : Row) → recordOf t L ≡ some r
+    → (i : ℕ) × (i < length L) × (getD L i emptyRow ≡ r)
+record-slot t L r e = firstThat-at (hasTicket t) emptyRow L r e
+
+-- no ticket is an empty record's
+no-ticket : (t : ℕ) → hasTicket t emptyRow ≡ false
+no-ticket zero = refl
+no-ticket (suc t) = rw (eqb-ne 0 (suc t) (λ e. omega arith)) (and-false (not (eqb (suc t) 0)))
+
+other-ticket : (t : ℕ) (r : Row) → r .ticket ≢ t → hasTicket t r ≡ false
+other-ticket t r h = rw (eqb-ne (r .ticket) t h) (and-false (not (eqb t 0)))
+
+-- a ticket whose plan is carried out has no record, and any other has the one it had
+pub record-gone : (t : ℕ) (ms : List Member) → isSome (planFor t ms) ≡ true → (L : Ledger)
+    → recordOf t (settle ms L) ≡ none
+record-gone t ms h [] = refl
+record-gone t ms h (r ∷ L) = go (planFor (r .ticket) ms) refl (record-gone t ms h L)
+  where
+    go : (o : Option Plan) → planFor (r .ticket) ms ≡ o → recordOf t (settle ms L) ≡ none
+        → recordOf t (carryIf o r ∷ settle ms L) ≡ none
+    go none e ih =
+        let other : r .ticket ≢ t = λ q. false≢true (sym (ap isSome (ap (λ k. planFor k ms) (sym q) ∙ e)) ∙ h) in
+        rw (other-ticket t r other) ih
+    go (some vacate) e ih = rw (no-ticket t) ih
+
+pub record-kept : (t : ℕ) (ms : List Member) → planFor t ms ≡ none → (L : Ledger)
+    → recordOf t (settle ms L) ≡ recordOf t L
+record-kept t ms h [] = refl
+record-kept t ms h (r ∷ L) = go (planFor (r .ticket) ms) refl (record-kept t ms h L)
+  where
+    go : (o : Option Plan) → planFor (r .ticket) ms ≡ o → recordOf t (settle ms L) ≡ recordOf t L
+        → recordOf t (carryIf o r ∷ settle ms L) ≡ recordOf t (r ∷ L)
+    go none e ih = rw ih
+    go (some vacate) e ih =
+        let other : r .ticket ≢ t = λ q. absurd-some (sym h ∙ ap (λ k. planFor k ms) (sym q) ∙ e) in
+        rw (no-ticket t, other-ticket t r other) ih
+
+-- ---- one slot
+
+module _ (ρ : Rule) where
+  tickets-differ : (r s : Row) → apart ρ r s ≡ true → r .ticket ≢ 0 → r .ticket ≢ s .ticket
+  unfolding apart
+  tickets-differ r s h z e =
+      let y : s .ticket ≢ 0 = λ q. z (e ∙ q) in
+      let x : eqb (r .ticket) (s .ticket) ≡ true = ap (eqb (r .ticket)) (sym e) ∙ eqb-same (r .ticket) in
+      false≢true (rw (eqb-ne (r .ticket) 0 z, eqb-ne (s .ticket) 0 y, x) at h)
+
+  -- no record that is apart from the one of a ticket has that ticket
+  settle-others : (r : Row) (L : Ledger) → r .ticket ≢ 0 → all (apart ρ r) L ≡ true
+      → settle (member (r .ticket) vacate ∷ []) L ≡ L
+  settle-others r [] z h = refl
+  settle-others r (s ∷ L) z h =
+      let d = tickets-differ r s (and-l (apart ρ r s) (all (apart ρ r) L) h) z in
+      rw (eqb-ne (r .ticket) (s .ticket) d)
+      (ap (λ (M : Ledger). s ∷ M) (settle-others r L z (and-r (apart ρ r s) (all (apart ρ r) L) h)))
+
+  -- to empty the record of a ticket is to empty its slot
+  pub settle-slot : (L : Ledger) (i t : ℕ) → pairwise (apart ρ) L ≡ true → i < length L → t ≢ 0
+      → getD L i emptyRow .ticket ≡ t → settle (member t vacate ∷ []) L ≡ set L i emptyRow
+  settle-slot [] i t h l z e = refl
+  settle-slot (r ∷ L) zero t h l z e =
+      let apart-all = and-l (all (apart ρ r) L) (pairwise (apart ρ) L) h in
+      rw (sym e, eqb-same (r .ticket))
+      (ap (λ (M : Ledger). emptyRow ∷ M) (settle-others r L (λ q. z (sym e ∙ q)) apart-all))
+  settle-slot (r ∷ L) (suc i) t h l z e =
+      let first = and-l (all (apart ρ r) L) (pairwise (apart ρ) L) h in
+      let x = all-getD (apart ρ r) emptyRow L first i (le-of-suc-le-suc l) in
+      let d : t ≢ r .ticket = λ q. tickets-differ r (getD L i emptyRow) x (λ y. z (q ∙ y)) (sym q ∙ sym e) in
+      rw (eqb-ne t (r .ticket) d)
+      (ap (λ (M : Ledger). r ∷ M)
+      (settle-slot L i t (and-r (all (apart ρ r) L) (pairwise (apart ρ) L) h) (le-of-suc-le-suc l) z e))
+
+-- slot k is empty
+abbrev pub emptyAt : Ledger → ℕ → Bool
+emptyAt L k = isEmpty (getD L k emptyRow)
+
+enter-at : (r : Row) (L : Ledger) (i : ℕ) → emptyAt L i ≡ true → ((j : ℕ) → j < i → emptyAt L j ≡ false)
+    → enter r L ≡ set L i r
+enter-at r [] i h k = refl
+enter-at r (s ∷ L) zero h k = rw h
+enter-at r (s ∷ L) (suc i) h k =
+    rw (k 0 (omega arith)) (ap (λ (M : Ledger). s ∷ M) (enter-at r L i h (λ j l. k (suc j) (omega arith))))
+
+-- a new record goes into the lowest empty slot
+pub enter-slot : (r : Row) (L : Ledger) (i : ℕ) → lowest (emptyAt L) 0 (length L) ≡ some i → enter r L ≡ set L i r
+enter-slot r L i e =
+    let l = lowest-some (emptyAt L) 0 (length L) i e in
+    enter-at r L i (l .passes) (λ j h. l .least j (omega arith) h)
+
+pub full-none : (L : Ledger) → (full L ≡ true) ↔ (lowest (emptyAt L) 0 (length L) ≡ none)
+full-none L = (
+  (λ h. lowest-nothing (emptyAt L) 0 (length L)
+      (λ k a b. not-true (emptyAt L k) (all-getD isLive emptyRow L h k (omega arith)))),
+  (λ e. all-of isLive emptyRow L
+      (λ k b. of-not (emptyAt L k) (lowest-none (emptyAt L) 0 (length L) e k (omega arith) (omega arith)))),
+)
+
+pub length-enter : (r : Row) (L : Ledger) → length (enter r L) ≡ length L
+length-enter r [] = refl
+length-enter r (s ∷ L) = go (isEmpty s) (length-enter r L)
+  where
+    go : (b : Bool) → length (enter r L) ≡ length L → length (cond b (r ∷ L) (s ∷ enter r L)) ≡ suc (length L)
+    go true ih = refl
+    go false ih = ap suc ih
+
+pub length-table-enter : (r : Row) (L : Ledger) → length (tableOf (enter r L)) ≡ length (tableOf L)
+length-table-enter r L = same-length (enter r L) L (length-enter r L)

@@ -1,0 +1,6 @@
+-- Laws of what each engine stores of a ledger.
+pub mod BenchValues
+pub mod TreeLaws
+pub mod SegmentLaws
+pub mod NodeLaws
+pub mod FreeTreeLaws

@@ -1,0 +1,488 @@
+-- The segment pool's control words and index, line by line as 01 states them: "Stored form of the segment pool". Assumes nothing;
+-- the laws of control words are of valid ledgers.
+use Prim.Native.Nat.{ℕ, zero, suc, _+_, _-_, _*_, _^_, _≤_, _<_, max}
+use native.Mathlib.Nat.{mul-one, mul-comm, mul-assoc, add-mul, pow-suc, pow-le-pow-right, add-sub-cancel-left, zero-add, add-zero, sub-zero, div-one}
+use native.Mathlib.Omega.{arith}
+use native.Mathlib.Decide.{ℕ-discrete, decLe}
+use mathlib.Core.Path.{_≡_, refl, sym, ap, ap₂, _∙_}
+use mathlib.Core.Logic.{_≢_, _⊎_, inl, inr, _↔_}
+use mathlib.Core.Bool.{Bool, true, false, cond, not, _&&_, _||_, true≢false, or-true}
+use mathlib.Core.List.{List, [], _∷_, _++_}
+use mathlib.Core.Option.{Option, none, some}
+use lib.Dec.{eqb, leb, ltb}
+use lib.IntN.{ℤ, pos, negsuc, negℤ}
+use lib.ListN.{length, getD}
+use lib.Signed.{mag}
+use mir.Syntax.{w32}
+use mir.Val.{Fits, SFits, toZ}
+use mir.Facts.{fits-ofZ, toZ-ofZ}
+use Rattle.words.proofs.Tests.{and-l, and-r, and-i, eqb-eq, eqb-same, eqb-ne, of-le, of-lt, of-gt, of-ge}
+use Rattle.words.proofs.CountedLaws.{lowest-nothing, lowest-is}
+use Rattle.words.proofs.ListLaws.{any-at, length-listFrom, getD-listFrom}
+use Rattle.ledger.specs.declared.Row.{Row}
+use Rattle.ledger.specs.Records.{Ledger, emptyRow, isLive, recordOf}
+use Rattle.ledger.specs.Units.{span, addressAt, first, past, valid, covers, free}
+use Rattle.ledger.specs.Runs.{Run, runsFrom, freeRuns}
+use Rattle.ledger.proofs.RecordLaws.{record-slot}
+use Rattle.ledger.proofs.UnitLaws.{Fitted, valid-at, valid-record, span-pos, covers-in, disjoint}
+use Rattle.ledger.proofs.RunLaws.{runs-next}
+use Rattle.stored_forms.specs.Segments.{controlWord, weight, largest, firstBlock, treeWord, segmentSize, depth, indexWord}
+use Rattle.stored_forms.specs.Segments.{segmentIndex, isPower, segmentRule, startsAt, freeFrom, opens, segmentWord, mostWords}
+
+-- ---- the number of segments
+
+power-from : (S d : ℕ) → isPower S d ≡ true → (e : ℕ) × (e ≤ d) × (S ≡ 2 ^ e)
+power-from S zero h = (0, omega arith, eqb-eq S 1 h)
+power-from S (suc d) h = go (eqb S (2 ^ suc d)) refl h (power-from S d)
+  where
+    go : (b : Bool) → eqb S (2 ^ suc d) ≡ b → (b || isPower S d) ≡ true
+        → (isPower S d ≡ true → (e : ℕ) × (e ≤ d) × (S ≡ 2 ^ e)) → (e : ℕ) × (e ≤ suc d) × (S ≡ 2 ^ e)
+    go true q h ih = (suc d, omega arith, eqb-eq S (2 ^ suc d) q)
+    go false q h ih = let (e, l, p) = ih h in (e, omega arith, p)
+
+power-to : (S d e : ℕ) → e ≤ d → S ≡ 2 ^ e → isPower S d ≡ true
+power-to S zero e h q = let z : e ≡ 0 = omega arith in rw (q, z)
+power-to S (suc d) e h q = go (ℕ-discrete e (suc d)) (λ l. power-to S d e l q)
+  where
+    go : Dec (e ≡ suc d) → (e ≤ d → isPower S d ≡ true) → (eqb S (2 ^ suc d) || isPower S d) ≡ true
+    go (yes z) ih = rw (q, z, eqb-same (2 ^ suc d))
+    go (no z) ih = rw (ih (omega arith)) (or-true (eqb S (2 ^ suc d)))
+
+-- the test of S says that it is one of 2 ^ 0 to 2 ^ 8
+pub power-is : (S d : ℕ) → (isPower S d ≡ true) ↔ ((e : ℕ) × (e ≤ d) × (S ≡ 2 ^ e))
+power-is S d = (power-from S d, λ (e, h, q). power-to S d e h q)
+
+pub power-range : (S d : ℕ) → isPower S d ≡ true → (1 ≤ S) × (S ≤ 2 ^ d)
+power-range S d h =
+    let (e, l, q) = power-from S d h in
+    (rw q (pow-le-pow-right {n = 2} (omega arith) {i = 0} (omega arith)), rw q (pow-le-pow-right {n = 2} (omega arith) l))
+
+-- ---- the index by its words
+
+pub length-index : (S W : ℕ) (L : Ledger) → length (segmentIndex S W L) ≡ 3 * S
+unfolding segmentIndex
+length-index S W L = length-listFrom (indexWord (controlWord W L) W S) 0 (3 * S)
+
+pub index-at : (S W : ℕ) (L : Ledger) (i : ℕ) → i < 3 * S
+    → getD (segmentIndex S W L) i 0 ≡ indexWord (controlWord W L) W S i
+unfolding segmentIndex
+index-at S W L i h = getD-listFrom (indexWord (controlWord W L) W S) 0 (3 * S) i 0 h ∙ rw zero-add
+
+-- what `treeWord` gives by the test of its place
+abbrev leafOr : ℕ → ℕ → Bool → ℕ
+leafOr x y b = elim b [ true ↦ x | false ↦ y ]
+
+twice : (i d : ℕ) → i * 2 ^ suc d ≡ 2 * i * 2 ^ d
+twice i d = rw (pow-suc 2 d, mul-comm (2 ^ d) 2) (sym (mul-assoc i 2 (2 ^ d)) ∙ rw (mul-comm i 2))
+
+module _ (leaf : ℕ → ℕ) (S : ℕ) where
+  treeWord-leaf : (d k : ℕ) → treeWord leaf S d (S + k) ≡ leaf k
+  treeWord-leaf zero k = rw (add-sub-cancel-left S k)
+  treeWord-leaf (suc d) k =
+      let x = leaf (S + k - S) in
+      let y = max (treeWord leaf S d (2 * (S + k))) (treeWord leaf S d (2 * (S + k) + 1)) in
+      ap (leafOr x y) (of-le S (S + k) (omega arith)) ∙ rw (add-sub-cancel-left S k)
+
+  -- more levels than are needed change nothing
+  treeWord-more : (d i : ℕ) → S ≤ i * 2 ^ d → treeWord leaf S d i ≡ treeWord leaf S (suc d) i
+  treeWord-more zero i h =
+      let y = max (treeWord leaf S 0 (2 * i)) (treeWord leaf S 0 (2 * i + 1)) in
+      ap (leafOr (leaf (i - S)) y) (sym (of-le S i (omega (arith, mul-one i))))
+  treeWord-more (suc d) i h =
+      ap₂ (λ (x y : ℕ). leafOr (leaf (i - S)) (max x y) (leb S i)) (treeWord-more d (2 * i) (omega (arith, twice i d)))
+      (treeWord-more d (2 * i + 1) (omega (arith, twice i d, add-mul (2 * i) 1 (2 ^ d))))
+
+  treeWord-node : S ≤ 2 ^ depth → (i : ℕ) → 0 < i → i < S
+      → treeWord leaf S depth i ≡ max (treeWord leaf S depth (2 * i)) (treeWord leaf S depth (2 * i + 1))
+  treeWord-node few i l h =
+      let x = treeWord leaf S 7 (2 * i) in
+      let y = treeWord leaf S 7 (2 * i + 1) in
+      ap (leafOr (leaf (i - S)) (max x y)) (of-gt S i h)
+      ∙ ap₂ max (treeWord-more 7 (2 * i) (omega arith)) (treeWord-more 7 (2 * i + 1) (omega arith))
+
+-- 01's lines, over control words c
+module _ (c : ℕ → ℤ) (W S : ℕ) where
+  -- "Word 0 is zero."
+  pub zero-word : indexWord c W S 0 ≡ 0
+  unfolding indexWord
+  zero-word = refl
+
+  tree-part : (i : ℕ) → 0 < i → i < 2 * S
+      → indexWord c W S i ≡ treeWord (λ k. largest c (k * segmentSize W S) (segmentSize W S)) S depth i
+  unfolding indexWord
+  tree-part i l h = rw (eqb-ne i 0 (omega arith), of-lt i (2 * S) h)
+
+  -- "Words 1 to S - 1: word i is the larger of words 2i and 2i + 1."
+  pub tree-word : isPower S depth ≡ true → (i : ℕ) → 0 < i → i < S
+      → indexWord c W S i ≡ max (indexWord c W S (2 * i)) (indexWord c W S (2 * i + 1))
+  tree-word power i l h =
+      tree-part i l (omega arith)
+      ∙ treeWord-node (λ k. largest c (k * segmentSize W S) (segmentSize W S)) S (power-range S depth power .1) i l h
+      ∙ sym (ap₂ max (tree-part (2 * i) (omega arith) (omega arith)) (tree-part (2 * i + 1) (omega arith) (omega arith)))
+
+  -- "Words S to 2S - 1 are the leaves."
+  pub leaf-word : (k : ℕ) → k < S → indexWord c W S (S + k) ≡ largest c (k * segmentSize W S) (segmentSize W S)
+  leaf-word k h =
+      tree-part (S + k) (omega arith) (omega arith)
+      ∙ treeWord-leaf (λ k. largest c (k * segmentSize W S) (segmentSize W S)) S depth k
+
+  -- "Words 2S to 3S - 1: address of the first control word in the segment, or W if none."
+  pub first-word : (k : ℕ) → k < S → indexWord c W S (2 * S + k) ≡ firstBlock c W (k * segmentSize W S) (segmentSize W S)
+  unfolding indexWord
+  first-word k h = rw (eqb-ne (2 * S + k) 0 (omega arith), of-ge (2 * S + k) (2 * S) (omega arith), add-sub-cancel-left (2 * S) k)
+
+-- ---- leaves: "0 if no block begins in that segment, else the largest free block beginning there, and at least 1"
+
+-- a word that is not 0 begins a block
+weight-zero : (z : ℤ) → (weight z ≡ 0) ↔ (z ≡ pos 0)
+weight-zero (pos n) = (λ e. ap pos e, λ e. ap weight e)
+weight-zero (negsuc n) = (λ e. absurd (omega arith), λ e. ap weight e)
+
+weight-free : (z : ℤ) → 2 ≤ weight z → z ≡ pos (weight z)
+weight-free (pos n) h = refl
+weight-free (negsuc n) h = absurd (omega arith)
+
+module _ (c : ℕ → ℤ) where
+  largest-above : (u n k : ℕ) → u ≤ k → k < u + n → weight (c k) ≤ largest c u n
+  largest-above u zero k a b = absurd (omega arith)
+  largest-above u (suc n) k a b = go (ℕ-discrete k u) (λ l. largest-above (suc u) n k l (omega arith))
+    where
+      go : Dec (k ≡ u) → (suc u ≤ k → weight (c k) ≤ largest c (suc u) n) → weight (c k) ≤ max (weight (c u)) (largest c (suc u) n)
+      go (yes e) ih = rw e (omega arith)
+      go (no e) ih = let l = ih (omega arith) in omega arith
+
+  largest-at : (u n : ℕ) → 1 ≤ largest c u n → (k : ℕ) × (u ≤ k) × (k < u + n) × (weight (c k) ≡ largest c u n)
+  largest-at u zero h = absurd (omega arith)
+  largest-at u (suc n) h = go (decLe (largest c (suc u) n) (weight (c u))) (largest-at (suc u) n)
+    where
+      go : Dec (largest c (suc u) n ≤ weight (c u))
+          → (1 ≤ largest c (suc u) n → (k : ℕ) × (suc u ≤ k) × (k < suc u + n) × (weight (c k) ≡ largest c (suc u) n))
+          → (k : ℕ) × (u ≤ k) × (k < u + suc n) × (weight (c k) ≡ max (weight (c u)) (largest c (suc u) n))
+      go (yes l) ih = (u, omega arith, omega arith, omega arith)
+      go (no l) ih = let (k, a, b, e) = ih (omega arith) in (k, omega arith, omega arith, omega arith)
+
+  -- 0 exactly if no block begins there, else at least 1
+  pub largest-zero : (u n : ℕ) → (largest c u n ≡ 0) ↔ ((k : ℕ) → u ≤ k → k < u + n → c k ≡ pos 0)
+  largest-zero u n = (
+    (λ e k a b. weight-zero (c k) .0 (omega (arith, largest-above u n k a b))),
+    (λ h. go h (decLe 1 (largest c u n))),
+  )
+    where
+      go : ((k : ℕ) → u ≤ k → k < u + n → c k ≡ pos 0) → Dec (1 ≤ largest c u n) → largest c u n ≡ 0
+      go h (yes l) = let (k, a, b, e) = largest-at u n l in sym e ∙ weight-zero (c k) .1 (h k a b)
+      go h (no l) = omega arith
+
+  pub largest-begun : (u n k : ℕ) → u ≤ k → k < u + n → c k ≢ pos 0 → 1 ≤ largest c u n
+  largest-begun u n k a b h = go (decLe 1 (largest c u n))
+    where
+      go : Dec (1 ≤ largest c u n) → 1 ≤ largest c u n
+      go (yes l) = l
+      go (no l) = absurd (h (largest-zero u n .0 (omega arith) k a b))
+
+  -- no free block that begins there is larger, and a leaf above 1 is one of them
+  pub largest-free : (u n k z : ℕ) → u ≤ k → k < u + n → c k ≡ pos z → z ≤ largest c u n
+  largest-free u n k z a b e = omega (arith, largest-above u n k a b, ap weight e)
+
+  pub largest-attained : (u n : ℕ) → 2 ≤ largest c u n → (k : ℕ) × (u ≤ k) × (k < u + n) × (c k ≡ pos (largest c u n))
+  largest-attained u n h =
+      let (k, a, b, e) = largest-at u n (omega arith) in
+      (k, a, b, weight-free (c k) (omega arith) ∙ ap pos e)
+
+  -- ---- first blocks
+
+  abbrev begins : ℕ → Bool
+  begins k = ltb 0 (weight (c k))
+
+  not-begun : (k : ℕ) → c k ≡ pos 0 → begins k ≡ false
+  not-begun k e = of-ge 0 (weight (c k)) (omega (arith, weight-zero (c k) .1 e))
+
+  begun : (k : ℕ) → c k ≢ pos 0 → begins k ≡ true
+  begun k h = of-lt 0 (weight (c k)) (go (decLe 1 (weight (c k))))
+    where
+      go : Dec (1 ≤ weight (c k)) → 1 ≤ weight (c k)
+      go (yes l) = l
+      go (no l) = absurd (h (weight-zero (c k) .0 (omega arith)))
+
+  abbrev orElse : ℕ → Option ℕ → ℕ
+  orElse W o = elim o [ none ↦ W | some k ↦ k ]
+
+  pub first-none : (W u n : ℕ) → ((k : ℕ) → u ≤ k → k < u + n → c k ≡ pos 0) → firstBlock c W u n ≡ W
+  first-none W u n h = ap (orElse W) (lowest-nothing begins u n (λ k a b. not-begun k (h k a b)))
+
+  pub first-begun : (W u n k : ℕ) → u ≤ k → k < u + n → c k ≢ pos 0 → ((j : ℕ) → u ≤ j → j < k → c j ≡ pos 0)
+      → firstBlock c W u n ≡ k
+  first-begun W u n k a b h least =
+      ap (orElse W) (lowest-is begins u n k
+      (record { passes = begun k h; above = a; below = b; least = λ j x y. not-begun j (least j x y) }))
+
+-- ---- the free runs by their units
+
+-- r is a longest run of units, among the N, that pass
+pub record MaximalRun (f : ℕ → Bool) (N : ℕ) (r : Run) : Type 0 where
+  pub long : 1 ≤ r .size
+  pub inside : r .start + r .size ≤ N
+  pub opening : opens f (r .start) ≡ true
+  pub passes : (u : ℕ) → r .start ≤ u → u < r .start + r .size → f u ≡ true
+  pub after : r .start + r .size < N → f (r .start + r .size) ≡ false
+
+-- k is no unit inside a run
+opens-from : (f : ℕ → Bool) (k s : ℕ) → k ≤ s → (f k ≡ true → opens f k ≡ true) → ((u : ℕ) → k ≤ u → u < s → f u ≡ false)
+    → f s ≡ true → opens f s ≡ true
+opens-from f k zero l h before here = refl
+opens-from f k (suc s) l h before here = go (ℕ-discrete k (suc s))
+  where
+    go : Dec (k ≡ suc s) → opens f (suc s) ≡ true
+    go (yes e) = ap (opens f) (sym e) ∙ h (ap f e ∙ here)
+    go (no e) = ap not (before s (omega arith) (omega arith))
+
+run-maximal : (f : ℕ → Bool) (N k : ℕ) → k ≤ N → (k < N → f k ≡ true → opens f k ≡ true)
+    → (xs : List Run) (r : Run) (ys : List Run) → runsFrom f k (N - k) ≡ xs ++ r ∷ ys → MaximalRun f N r
+run-maximal f N k l h [] r ys e =
+    let next = runs-next f N k l r ys e in
+    let inside : r .start < N = let a = next .long in let b = next .inside in omega arith in
+    record {
+      long = next .long;
+      inside = next .inside;
+      opening = opens-from f k (r .start) (next .above) (h (omega (arith, next .above))) (next .before)
+          (next .passes (r .start) (omega arith) (let a = next .long in omega arith));
+      passes = next .passes;
+      after = next .after;
+    }
+run-maximal f N k l h (x ∷ xs) r ys e =
+    let next = runs-next f N k l x (xs ++ r ∷ ys) e in
+    run-maximal f N (x .start + x .size) (next .inside) (λ b p. absurd (true≢false (sym p ∙ next .after b))) xs r ys
+    (sym (next .rest))
+
+pub free-run-maximal : (W : ℕ) (L : Ledger) (xs : List Run) (r : Run) (ys : List Run)
+    → freeRuns segmentRule W L ≡ xs ++ r ∷ ys → MaximalRun (free segmentRule L) W r
+unfolding freeRuns
+free-run-maximal W L xs r ys e =
+    run-maximal (free segmentRule L) W 0 (omega arith) (λ b p. refl) xs r ys
+    (rw (sub-zero W) (rw (div-one W) at e))
+
+freeFrom-is : (f : ℕ → Bool) (u z n : ℕ) → ((v : ℕ) → u ≤ v → v < u + z → f v ≡ true) → z ≤ n → (z < n → f (u + z) ≡ false)
+    → freeFrom f u n ≡ z
+freeFrom-is f u zero zero h l k = refl
+freeFrom-is f u zero (suc n) h l k = rw (rw add-zero at (k (omega arith)))
+freeFrom-is f u (suc z) zero h l k = absurd (omega arith)
+freeFrom-is f u (suc z) (suc n) h l k =
+    rw (h u (omega arith) (omega arith))
+    (ap suc (freeFrom-is f (suc u) z n (λ v a b. h v (omega arith) (omega arith)) (omega arith)
+    (λ m. let e : suc u + z ≡ u + suc z = omega arith in ap f e ∙ k (omega arith))))
+
+-- ---- control words
+
+-- the record that begins at a unit, if there is one
+record Begins (L : Ledger) (u i : ℕ) : Type 0 where
+  slot : i < length L
+  live : isLive (getD L i emptyRow) ≡ true
+  unit : first segmentRule (getD L i emptyRow) ≡ u
+
+record Began (L : Ledger) (u : ℕ) : Type 0 where
+  place : ℕ
+  begins-there : Begins L u place
+  size : startsAt L u ≡ span segmentRule (getD L place emptyRow .words)
+
+record Unbegun (L : Ledger) (u : ℕ) : Type 0 where
+  nothing : startsAt L u ≡ 0
+  nowhere : (i : ℕ) → Begins L u i → ⊥
+
+starts-cases : (L : Ledger) (u : ℕ) → Began L u ⊎ Unbegun L u
+starts-cases [] u = inr (record { nothing = refl; nowhere = λ i b. omega (arith, b .slot) })
+starts-cases (r ∷ L) u = go (isLive r && eqb (first segmentRule r) u) refl (starts-cases L u)
+  where
+    go : (b : Bool) → (isLive r && eqb (first segmentRule r) u) ≡ b → Began L u ⊎ Unbegun L u → Began (r ∷ L) u ⊎ Unbegun (r ∷ L) u
+    go true e ih = inl (record {
+      place = 0;
+      begins-there = record {
+        slot = omega arith;
+        live = and-l (isLive r) (eqb (first segmentRule r) u) e;
+        unit = eqb-eq (first segmentRule r) u (and-r (isLive r) (eqb (first segmentRule r) u) e);
+      };
+      size = rw e;
+    })
+    go false e (inl b) = inl (record {
+      place = suc (b .place);
+      begins-there = record { slot = omega (arith, b .begins-there .slot); live = b .begins-there .live; unit = b .begins-there .unit };
+      size = rw e (b .size);
+    })
+    go false e (inr n) = inr (record { nothing = rw e (n .nothing); nowhere = none-there })
+      where
+        none-there : (i : ℕ) → Begins (r ∷ L) u i → ⊥
+        none-there zero b = true≢false (sym (and-i (isLive r) (eqb (first segmentRule r) u) (b .live) (rw (b .unit) (eqb-same u))) ∙ e)
+        none-there (suc i) b = n .nowhere i (record { slot = omega (arith, b .slot); live = b .live; unit = b .unit })
+
+module _ (W next : ℕ) (L : Ledger) (good : valid segmentRule W next L ≡ true) where
+  fitted : (u i : ℕ) → Begins L u i → Fitted segmentRule W next (getD L i emptyRow)
+  fitted u i b = valid-at segmentRule (omega arith) W next L good i (b .slot) (b .live)
+
+  begins-covers : (u i : ℕ) → Begins L u i → covers segmentRule u (getD L i emptyRow) ≡ true
+  begins-covers u i b =
+      let r = getD L i emptyRow in
+      let n = fitted u i b .nonempty in
+      let e = b .unit in
+      covers-in segmentRule u r (b .live) (omega arith) (omega arith)
+
+  -- the record that begins at a unit of a slot's record is that record
+  begins-same : (u i j : ℕ) → Begins L u i → j < length L → covers segmentRule u (getD L j emptyRow) ≡ true → i ≡ j
+  begins-same u i j b l h = go (ℕ-discrete i j)
+    where
+      go : Dec (i ≡ j) → i ≡ j
+      go (yes e) = e
+      go (no e) = absurd (true≢false (sym h ∙ disjoint segmentRule W next L good u i j (b .slot) l e (begins-covers u i b)))
+
+  -- ---- a held block
+
+  module _ (r : Row) (held : recordOf (r .ticket) L ≡ some r) where
+    slot : ℕ
+    slot = record-slot (r .ticket) L r held .0
+
+    slot-covers : (u : ℕ) → first segmentRule r ≤ u → u < past segmentRule r
+        → (slot < length L) × (getD L slot emptyRow ≡ r) × (covers segmentRule u (getD L slot emptyRow) ≡ true)
+    unfolding slot
+    slot-covers u a b =
+        let (i, l, q) = record-slot (r .ticket) L r held in
+        let facts = valid-record segmentRule (omega arith) W next L good (r .ticket) r held in
+        (l, q, ap (covers segmentRule u) q ∙ covers-in segmentRule u r (facts .live) a b)
+
+    not-free : (u : ℕ) → first segmentRule r ≤ u → u < past segmentRule r → free segmentRule L u ≡ false
+    unfolding free
+    not-free u a b =
+        let (l, q, c) = slot-covers u a b in
+        ap not (any-at (covers segmentRule u) emptyRow L slot c l)
+
+    -- what begins in the block is the record itself
+    begins-held : (u i : ℕ) → Begins L u i → first segmentRule r ≤ u → u < past segmentRule r → getD L i emptyRow ≡ r
+    begins-held u i b lo hi =
+        let (l, q, c) = slot-covers u lo hi in
+        ap (λ j. getD L j emptyRow) (begins-same u i slot b l c) ∙ q
+
+    pub starts-held : startsAt L (first segmentRule r) ≡ span segmentRule (r .words)
+    starts-held = go (starts-cases L (first segmentRule r))
+      where
+        facts : Fitted segmentRule W next r
+        facts = valid-record segmentRule (omega arith) W next L good (r .ticket) r held
+
+        go : Began L (first segmentRule r) ⊎ Unbegun L (first segmentRule r) → startsAt L (first segmentRule r) ≡ span segmentRule (r .words)
+        go (inl b) =
+            b .size
+            ∙ ap (λ (s : Row). span segmentRule (s .words))
+            (begins-held (first segmentRule r) (b .place) (b .begins-there) (omega arith) (facts .nonempty))
+        go (inr n) =
+            let (l, q, c) = slot-covers (first segmentRule r) (omega arith) (facts .nonempty) in
+            absurd (n .nowhere slot (record { slot = l; live = ap isLive q ∙ facts .live; unit = ap (first segmentRule) q }))
+
+    starts-inside : (u : ℕ) → first segmentRule r < u → u < past segmentRule r → startsAt L u ≡ 0
+    starts-inside u a b = go (starts-cases L u)
+      where
+        go : Began L u ⊎ Unbegun L u → startsAt L u ≡ 0
+        go (inl x) =
+            let e = sym (x .begins-there .unit) ∙ ap (first segmentRule) (begins-held u (x .place) (x .begins-there) (omega arith) b) in
+            absurd (omega arith)
+        go (inr n) = n .nothing
+
+    -- "negative if held"
+    pub control-held : controlWord W L (first segmentRule r) ≡ negℤ (pos (span segmentRule (r .words)))
+    unfolding controlWord
+    control-held =
+        let facts = valid-record segmentRule (omega arith) W next L good (r .ticket) r held in
+        rw (starts-held, of-lt 0 (span segmentRule (r .words)) (span-pos segmentRule (omega arith) (r .words) (facts .asked)))
+
+    pub control-inside : (u : ℕ) → first segmentRule r < u → u < past segmentRule r → controlWord W L u ≡ pos 0
+    unfolding controlWord
+    control-inside u a b = rw (starts-inside u a b, not-free u (omega arith) b)
+
+  -- ---- a free run
+
+  starts-free : (u : ℕ) → free segmentRule L u ≡ true → startsAt L u ≡ 0
+  unfolding free
+  starts-free u h = go (starts-cases L u)
+    where
+      go : Began L u ⊎ Unbegun L u → startsAt L u ≡ 0
+      go (inl b) =
+          let here = b .begins-there in
+          absurd (true≢false (sym h ∙ ap not (any-at (covers segmentRule u) emptyRow L (b .place) (begins-covers u (b .place) here) (here .slot))))
+      go (inr n) = n .nothing
+
+  module _ (r : Run) (free-run : MaximalRun (free segmentRule L) W r) where
+    -- "positive if free"
+    pub control-free : controlWord W L (r .start) ≡ pos (r .size)
+    unfolding controlWord
+    control-free =
+        let k = r .start in
+        let inside = free-run .inside in
+        let here = free-run .passes k (omega arith) (let l = free-run .long in omega arith) in
+        let size : freeFrom (free segmentRule L) k (W - k) ≡ r .size =
+        freeFrom-is (free segmentRule L) k (r .size) (W - k) (free-run .passes) (omega arith)
+        (λ l. free-run .after (omega arith)) in
+        rw (starts-free k here, here, free-run .opening, size)
+
+    -- "Other words of a free block are zero."
+    pub control-free-inside : (u : ℕ) → r .start < u → u < r .start + r .size → controlWord W L u ≡ pos 0
+    unfolding controlWord
+    control-free-inside u a b =
+        let here = free-run .passes u (omega arith) b in
+        rw (starts-free u here, here, closed u a b)
+      where
+        closed : (u : ℕ) → r .start < u → u < r .start + r .size → opens (free segmentRule L) u ≡ false
+        closed zero a b = absurd (omega arith)
+        closed (suc u) a b = ap not (free-run .passes u (omega arith) (omega arith))
+
+-- ---- the words before a held record's address: the same in every valid ledger that has the record
+
+pub lead-segment : (W next₁ next₂ : ℕ) (L₁ L₂ : Ledger)
+    → valid segmentRule W next₁ L₁ ≡ true → valid segmentRule W next₂ L₂ ≡ true
+    → (r : Row) → recordOf (r .ticket) L₁ ≡ some r → recordOf (r .ticket) L₂ ≡ some r
+    → (i : ℕ) → first segmentRule r ≤ i → i < r .address → segmentWord W L₁ i ≡ segmentWord W L₂ i
+unfolding segmentWord addressAt
+lead-segment W next₁ next₂ L₁ L₂ good₁ good₂ r held₁ held₂ i a b =
+    let place = valid-record segmentRule (omega arith) W next₁ L₁ good₁ (r .ticket) r held₁ .place in
+    let e : i ≡ first segmentRule r = omega arith in
+    rw (e, control-held W next₁ L₁ good₁ r held₁, control-held W next₂ L₂ good₂ r held₂)
+
+-- ---- 32 bits
+
+freeFrom-le : (f : ℕ → Bool) (u n : ℕ) → freeFrom f u n ≤ n
+freeFrom-le f u zero = omega arith
+freeFrom-le f u (suc n) = go (f u) (freeFrom-le f (suc u) n)
+  where
+    go : (b : Bool) → freeFrom f (suc u) n ≤ n → cond b (suc (freeFrom f (suc u) n)) 0 ≤ suc n
+    go true ih = omega arith
+    go false ih = omega arith
+
+mag-neg : (n : ℕ) → mag (negℤ (pos n)) ≤ n
+mag-neg zero = omega arith
+mag-neg (suc n) = omega arith
+
+module _ (W next : ℕ) (L : Ledger) (good : valid segmentRule W next L ≡ true) (u : ℕ) where
+  starts-le : startsAt L u ≤ W
+  unfolding past
+  starts-le = go (starts-cases L u)
+    where
+      go : Began L u ⊎ Unbegun L u → startsAt L u ≤ W
+      go (inl b) = let i = fitted W next L good u (b .place) (b .begins-there) .inside in let e = b .size in omega arith
+      go (inr n) = let e = n .nothing in omega arith
+
+  control-le : mag (controlWord W L u) ≤ W
+  unfolding controlWord
+  control-le = go (ltb 0 (startsAt L u)) (free segmentRule L u && opens (free segmentRule L) u)
+    where
+      run : ℕ
+      run = freeFrom (free segmentRule L) u (W - u)
+
+      go : (a b : Bool) → mag (cond a (negℤ (pos (startsAt L u))) (cond b (pos run) (pos 0))) ≤ W
+      go true b = omega (arith, mag-neg (startsAt L u), starts-le)
+      go false true = omega (arith, freeFrom-le (free segmentRule L) u (W - u))
+      go false false = omega arith
+
+  pub control-fits : W ≤ mostWords → SFits w32 (controlWord W L u)
+  control-fits h = record { sfits = let l = control-le in omega arith }
+
+  pub segment-fits : W ≤ mostWords → Fits w32 (segmentWord W L u)
+  unfolding segmentWord
+  segment-fits h = fits-ofZ (control-fits h)
+
+  -- what is stored reads back as the control word
+  pub segment-reads : W ≤ mostWords → toZ w32 (segmentWord W L u) ≡ controlWord W L u
+  unfolding segmentWord
+  segment-reads h = toZ-ofZ (control-fits h)

@@ -1,0 +1,3 @@
+-- What each engine stores of a ledger.
+pub mod Tree
+pub mod Segments

@@ -1,0 +1,1 @@
+// The stored forms of both engines: definitions and laws, no code.

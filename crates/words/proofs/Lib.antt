@@ -1,0 +1,7 @@
+-- The laws of what specs/ defines.
+pub mod Tests
+pub mod ListLaws
+pub mod CountedLaws
+pub mod ByPlace
+pub mod PlaceLaws
+pub mod SignedLaws

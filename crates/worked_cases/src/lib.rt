@@ -1,0 +1,1 @@
+// Worked cases of document 01.

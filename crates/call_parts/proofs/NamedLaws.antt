@@ -1,0 +1,46 @@
+-- The record that a call names, by what the search of the table found; and its number, which is `named`. Assumes nothing.
+use Prim.Native.Nat.{ℕ, _<_}
+use mathlib.Core.Path.{_≡_, refl, sym, ap, _∙_}
+use mathlib.Core.Bool.{Bool, true, false, cond}
+use Rattle.words.specs.Lists.{Words}
+use Rattle.ledger.specs.declared.Row.{Row}
+use Rattle.ledger.specs.Records.{recordAt, recordsOf, slots, sameBlock}
+use Rattle.calls.specs.Step.{named}
+use Rattle.calls.proofs.ActLaws.{named-none, named-some}
+use Rattle.record_table.specs.declared.Found.{Found}
+use Rattle.record_table.specs.declared.Found.the-variants.{At, Nothing}
+use Rattle.record_table.specs.Slots.{ticketSlot}
+use Rattle.record_table.proofs.SlotLaws.{ticket-found, ticket-missing}
+use Rattle.call_parts.specs.declared.Named.the-variants.{Slot, Refused}
+use Rattle.call_parts.specs.Parts.{namedAt, namedIn, numberIn}
+
+module _ (t : Words) (r : Row) where
+  pub named-missing : Nothing ≡ ticketSlot (r .ticket) (recordsOf t) → Refused 6 ≡ namedIn t r
+  unfolding namedIn
+  named-missing e = ap (namedAt t r) e
+
+  module _ (i : ℕ) (e : At i ≡ ticketSlot (r .ticket) (recordsOf t)) where
+    pub named-below : i < slots t
+    named-below = ticket-found (r .ticket) t i (sym e) .0
+
+    pub named-same : sameBlock (recordAt t i) r ≡ true → Slot i ≡ namedIn t r
+    unfolding namedIn
+    named-same h = sym (rw h) ∙ ap (namedAt t r) e
+
+    pub named-other : sameBlock (recordAt t i) r ≡ false → Refused 7 ≡ namedIn t r
+    unfolding namedIn
+    named-other h = sym (rw h) ∙ ap (namedAt t r) e
+
+  -- 01's number for each case of the enum
+  pub named-number : numberIn (namedIn t r) ≡ named (recordsOf t) r
+  unfolding namedIn
+  named-number = go (ticketSlot (r .ticket) (recordsOf t)) refl
+    where
+      same : (i : ℕ) (b : Bool) → _≡_ {A = ℕ} (numberIn (cond b (Slot i) (Refused 7))) (cond b 0 7)
+      same i true = refl
+      same i false = refl
+
+      go : (f : Found) → ticketSlot (r .ticket) (recordsOf t) ≡ f → numberIn (namedAt t r f) ≡ named (recordsOf t) r
+      go Nothing e = sym (named-none (recordsOf t) r (ticket-missing (r .ticket) t e))
+      go (At i) e =
+          same i (sameBlock (recordAt t i) r) ∙ sym (named-some (recordsOf t) r (recordAt t i) (ticket-found (r .ticket) t i e .1))

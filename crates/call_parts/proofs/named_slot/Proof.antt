@@ -1,0 +1,57 @@
+-- `call_parts::named_slot` meets its contract: the search of the table, then the comparison of address and words. Assumes nothing.
+use mathlib.Core.Path.{_∙_, sym}
+use borrow.Author.Needs.{needs}
+use denote.Ref.{now}
+use Rattle.call_parts.proofs.NamedLaws.{named-missing, named-below, named-same, named-other}
+use Rattle.call_parts.proofs.named_slot.Statement.{statement}
+use Rattle.call_parts.proofs.named_slot.Tie as tie
+
+find-slot-requires : tie.Need-find-slot-requires
+find-slot-requires c κs = search needs
+
+enum-told : tie.Need-enum-told
+enum-told c = search needs
+
+enum-known-i : tie.Need-enum-known-i
+enum-known-i c = search needs
+
+read-row-requires : tie.Need-read-row-requires
+read-row-requires c κs =
+    let d = c .before .before .before .before .before in
+    named-below (now (d .args .table)) (d .args .named) (c .before .i .given .0 .0) (sym (c .before .i .given .1) ∙ c .before .before .before .find-slot .ensures)
+
+returns : tie.Need-returns
+returns c =
+    let r = c .before .before .before .before .before in
+    let i = r .before .before in
+    let f = i .before .before in
+    let s = f .before .before in
+    named-same (now (s .args .table)) (s .args .named) (i .i .given .0 .0) (sym (i .i .given .1) ∙ f .find-slot .ensures)
+    (rw (r .read-row .ensures) at (c .if1 .taken))
+
+returns-2 : tie.Need-returns-2
+returns-2 c =
+    let f = c .before .before in
+    let s = f .before .before in
+    named-missing (now (s .args .table)) (s .args .named) (sym (c .enum-told .given .1) ∙ f .find-slot .ensures)
+
+returns-3 : tie.Need-returns-3
+returns-3 c =
+    let r = c .before .before .before .before .before in
+    let i = r .before .before in
+    let f = i .before .before in
+    let s = f .before .before in
+    named-other (now (s .args .table)) (s .args .named) (i .i .given .0 .0) (sym (i .i .given .1) ∙ f .find-slot .ensures)
+    (rw (r .read-row .ensures) at (c .if1 .left))
+
+pub named-slot-spec : {M : Type 1} → statement M
+named-slot-spec =
+    tie.close
+    (tie.spec
+    find-slot-requires
+    enum-told
+    enum-known-i
+    read-row-requires
+    returns
+    returns-2
+    returns-3)

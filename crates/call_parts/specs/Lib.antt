@@ -1,0 +1,2 @@
+-- What the shared parts of the calls decide.
+pub mod Parts

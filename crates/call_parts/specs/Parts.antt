@@ -1,0 +1,44 @@
+-- The enums of the code by 01's numbers and acts, and the words of requests and answers by place. Assumes nothing.
+use Prim.Native.Nat.{ℕ, _+_, _*_}
+use mathlib.Core.Bool.{Bool, cond}
+use mathlib.Core.List.{List}
+use lib.ListN.{getD, set}
+use Rattle.words.specs.Lists.{Words}
+use Rattle.ledger.specs.declared.Row.{Row}
+use Rattle.ledger.specs.Records.{recordAt, recordsOf, sameBlock}
+use Rattle.calls.specs.declared.Answer.{Answer}
+use Rattle.calls.specs.Step.{Act, ask, give, bad, request}
+use Rattle.record_table.specs.declared.Found.{Found}
+use Rattle.record_table.specs.declared.Found.the-variants.{At, Nothing}
+use Rattle.record_table.specs.Slots.{ticketSlot}
+use Rattle.call_parts.specs.declared.Named.{Named}
+use Rattle.call_parts.specs.declared.Named.the-variants.{Slot, Refused}
+use Rattle.call_parts.specs.declared.Request.{Request}
+use Rattle.call_parts.specs.declared.Request.the-variants.{Ask, Give, Bad}
+
+-- the slot of the record that is named, or 6 or 7
+abbrev pub namedAt : Words → Row → Found → Named
+namedAt t r Nothing = Refused 6
+namedAt t r (At i) = cond (sameBlock (recordAt t i) r) (Slot i) (Refused 7)
+
+unfoldable pub namedIn : Words → Row → Named
+namedIn t r = namedAt t r (ticketSlot (r .ticket) (recordsOf t))
+
+-- its number: 0 where there is a slot
+abbrev pub numberIn : Named → ℕ
+numberIn (Slot i) = 0
+numberIn (Refused n) = n
+
+-- the act of a request
+abbrev pub actOf : Request → Act
+actOf (Ask n) = ask n
+actOf (Give r) = give r
+actOf Bad = bad
+
+-- request i of a list, and the answer buffer with answer i
+abbrev pub requestAt : Words → ℕ → Act
+requestAt rs i = request (getD rs (4 * i) 0) (getD rs (4 * i + 1) 0) (getD rs (4 * i + 2) 0) (getD rs (4 * i + 3) 0)
+
+abbrev pub withAnswer : Words → ℕ → Answer → Words
+withAnswer b i x =
+    set (set (set (set b (4 * i) (x .number)) (4 * i + 1) (x .ticket)) (4 * i + 2) (x .address)) (4 * i + 3) (x .words)

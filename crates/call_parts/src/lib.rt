@@ -1,0 +1,114 @@
+// What the calls of both engines share: answers, the record that a call names, and the requests of a list.
+use calls::Answer;
+use ledger::Row;
+use record_table::Found;
+ghost use mathlib.Core.Path.{_≡_};
+ghost use Prim.Native.Nat.{_+_, _*_, _≤_, _<_};
+ghost use lib.ListN.{length, getD, set};
+ghost use Rattle.ledger.specs.Records.{recordsOf};
+ghost use Rattle.calls.specs.Pool.{nextAfter};
+ghost use Rattle.calls.specs.Step.{granted, refusal, listSuits};
+ghost use Rattle.call_parts.specs.Parts.{namedIn, actOf, requestAt, withAnswer};
+
+// A refusal: ticket, address and words are 0.
+pub fn refused(number: u32) -> Answer
+    ensures { λ r. ⌜ r ≡ refusal number ⌝ }
+{
+    Answer {
+        number,
+        ticket: 0,
+        address: 0,
+        words: 0,
+    }
+}
+
+// Success, with the record's three.
+pub fn succeeded(named: Row) -> Answer
+    ensures { λ r. ⌜ r ≡ granted named ⌝ }
+{
+    Answer {
+        number: 0,
+        ticket: named.ticket,
+        address: named.address,
+        words: named.words,
+    }
+}
+
+// The ticket after this one, 0 after the last.
+pub fn next_after(ticket: u32) -> u32
+    ensures { λ r. ⌜ r ≡ nextAfter ticket ⌝ }
+{
+    if ticket == 4294967295 {
+        return 0;
+    }
+    ticket + 1
+}
+
+// The slot of the record that a call names, or the number of the refusal: 6 or 7.
+pub enum Named {
+    Slot(usize),
+    Refused(u32),
+}
+
+pub fn named_slot(table: &[u32], named: Row) -> Named
+    ensures { λ r. ⌜ r ≡ namedIn (now (table .entry)) named ⌝ }
+{
+    match record_table::find_slot(table, named.ticket) {
+        Found::Nothing => Named::Refused(6),
+        Found::At(i) => {
+            let r = record_table::read_row(table, i);
+            if (r.address == named.address) & (r.words == named.words) {
+                return Named::Slot(i);
+            }
+            Named::Refused(7)
+        }
+    }
+}
+
+// A request of a list.
+pub enum Request {
+    Ask(u32),
+    Give(Row),
+    Bad,
+}
+
+// Request i, four words from word 4i on.
+pub fn request_at(requests: &[u32], i: usize) -> Request
+    requires { ⌜ 4 * i + 3 < length (now requests) ⌝ }
+    ensures { λ r. ⌜ actOf r ≡ requestAt (now (requests .entry)) i ⌝ }
+{
+    let kind = requests[4 * i];
+    let x = requests[4 * i + 1];
+    let y = requests[4 * i + 2];
+    let z = requests[4 * i + 3];
+    if (kind == 1) & (y == 0) & (z == 0) {
+        return Request::Ask(x);
+    }
+    if kind == 2 {
+        return Request::Give(Row {
+            ticket: x,
+            address: y,
+            words: z,
+        });
+    }
+    Request::Bad
+}
+
+// The answer to request i, four words from word 4i on.
+pub fn put_answer(answers: &mut [u32], i: usize, x: Answer)
+    requires { ⌜ 4 * i + 3 < length (now answers) ⌝ }
+    ensures { λ _. ⌜ now (answers .exit) ≡ withAnswer (now (answers .entry)) i x ⌝ }
+{
+    answers[4 * i] = x.number;
+    answers[4 * i + 1] = x.ticket;
+    answers[4 * i + 2] = x.address;
+    answers[4 * i + 3] = x.words;
+}
+
+// Whether the list is a multiple of four long, has at most 1,024 requests, and has room for their answers.
+pub fn list_suits(requests: &[u32], answers: &[u32]) -> bool
+    ensures { λ r. ⌜ r ≡ listSuits (now (requests .entry)) (now (answers .entry)) ⌝ }
+{
+    let n = requests.len();
+    (n % 4 == 0) & (n <= 4096) & (n <= answers.len())
+}

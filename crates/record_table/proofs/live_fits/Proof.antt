@@ -1,0 +1,42 @@
+-- `record_table::live_fits` meets its contract. Assumes nothing.
+use native.Mathlib.Omega.{arith}
+use borrow.Author.Needs.{needs}
+use Rattle.ledger.specs.Units.{fits}
+use Rattle.record_table.proofs.CheckLaws.{past-low}
+use Rattle.record_table.proofs.live_fits.Statement.{statement}
+use Rattle.record_table.proofs.live_fits.Tie as tie
+
+begin-of-requires : tie.Need-begin-of-requires
+begin-of-requires c κs = search needs
+
+cast-end : tie.Need-cast-end
+cast-end c = search needs
+
+past-unit-requires : tie.Need-past-unit-requires
+past-unit-requires c κs = search needs
+
+mul-end : tie.Need-mul-end
+mul-end c =
+    let a = c .before .before .before .args in
+    let e = c .past-unit .ensures in
+    rw e (omega (arith, past-low (a .rule) (a .r)))
+
+rem-result : tie.Need-rem-result
+rem-result c = search needs
+
+returns : tie.Need-returns
+unfolding fits
+returns c =
+    let d = c .before .before .before .before .before .before in
+    rw (d .past-unit .ensures, d .before .before .begin-of .ensures)
+
+pub live-fits-spec : {M : Type 1} → statement M
+live-fits-spec =
+    tie.close
+    (tie.spec
+    begin-of-requires
+    cast-end
+    past-unit-requires
+    mul-end
+    rem-result
+    returns)

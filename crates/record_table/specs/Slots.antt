@@ -1,0 +1,29 @@
+-- The slots that a search of the table finds. Assumes nothing.
+use Prim.Native.Nat.{ℕ}
+use mathlib.Core.Bool.{Bool}
+use mathlib.Core.Option.{Option, none, some}
+use lib.ListN.{length, getD}
+use Rattle.words.specs.Counted.{lowest}
+use Rattle.ledger.specs.Records.{Ledger, emptyRow, isEmpty, hasTicket}
+use Rattle.record_table.specs.declared.Found.{Found}
+use Rattle.record_table.specs.declared.Found.the-variants.{At, Nothing}
+
+-- a slot that may be missing, as the code's enum
+abbrev pub found : Option ℕ → Found
+found none = Nothing
+found (some i) = At i
+
+-- slot i holds a record with this ticket; slot i is empty
+abbrev pub ticketAt : ℕ → Ledger → ℕ → Bool
+ticketAt t L i = hasTicket t (getD L i emptyRow)
+
+abbrev pub emptyAt : Ledger → ℕ → Bool
+emptyAt L i = isEmpty (getD L i emptyRow)
+
+-- the lowest slot with this ticket, none for ticket 0
+unfoldable pub ticketSlot : ℕ → Ledger → Found
+ticketSlot t L = found (lowest (ticketAt t L) 0 (length L))
+
+-- the lowest empty slot
+unfoldable pub emptySlot : Ledger → Found
+emptySlot L = found (lowest (emptyAt L) 0 (length L))

@@ -1,3 +1,5 @@
 -- Laws of the shared parts of the calls.
 pub mod NamedLaws
 pub mod ListLaws
+pub mod GateLaws
+pub mod AskLaws

@@ -14,7 +14,8 @@ use Rattle.call_parts.specs.Parts.{requestAt, withAnswer}
 
 -- ---- the words of a request and of an answer
 
-requests-from : (rs : Words) (i : ℕ) → 4 * i + 3 < length rs → requests (drop (4 * i) rs) ≡ requestAt rs i ∷ requests (drop (4 * (i + 1)) rs)
+requests-from : (rs : Words) (i : ℕ) → 4 * i + 3 < length rs
+    → requests (drop (4 * i) rs) ≡ requestAt rs i ∷ requests (drop (4 * (i + 1)) rs)
 requests-from rs i h =
     let e : 4 * (i + 1) ≡ suc (suc (suc (suc (4 * i)))) = omega arith in
     rw (
@@ -42,12 +43,15 @@ module _ (b : Words) (i : ℕ) (x : Answer) (h : 4 * i + 3 < length b) where
   front = simp (length-append, length-take) (omega arith)
 
   answer-before : take (4 * (i + 1)) (withAnswer b i x) ≡ take (4 * i) b ++ fourWords x
-  answer-before = ap (take (4 * (i + 1))) answer-parts ∙ take-at (take (4 * i) b ++ fourWords x) (drop (4 * i + 4) b) (4 * (i + 1)) front
+  answer-before =
+      ap (take (4 * (i + 1))) answer-parts
+      ∙ take-at (take (4 * i) b ++ fourWords x) (drop (4 * i + 4) b) (4 * (i + 1)) front
 
   answer-beyond : drop (4 * (i + 1)) (withAnswer b i x) ≡ drop (4 * (i + 1)) b
   answer-beyond =
       let e : 4 * i + 4 ≡ 4 * (i + 1) = omega arith in
-      ap (drop (4 * (i + 1))) answer-parts ∙ drop-at (take (4 * i) b ++ fourWords x) (drop (4 * i + 4) b) (4 * (i + 1)) front
+      ap (drop (4 * (i + 1))) answer-parts
+      ∙ drop-at (take (4 * i) b ++ fourWords x) (drop (4 * i + 4) b) (4 * (i + 1)) front
       ∙ ap (λ (n : ℕ). drop n b) e
 
   answer-length : length (withAnswer b i x) ≡ length b
@@ -55,8 +59,8 @@ module _ (b : Words) (i : ℕ) (x : Answer) (h : 4 * i + 3 < length b) where
 
 -- ---- the loop
 
--- After the first i requests of rs, from the pool p and the buffer bs, the pool is q and the buffer b: what the rest does makes
--- what the whole list does.
+-- After the first i requests of rs, from the pool p and the buffer bs, the pool is q and the buffer b: what the rest
+-- does makes what the whole list does.
 pub record Running (E : Engine) (p : Pool) (rs bs : Words) (i : ℕ) (q : Pool) (b : Words) : Type 0 where
   pub pool : poolAfterAll E q (requests (drop (4 * i) rs)) ≡ poolAfterAll E p (requests rs)
   pub answers : take (4 * i) b ++ answerWords (answersOf (countedOf E q (requests (drop (4 * i) rs))))
@@ -81,8 +85,10 @@ module _ (E : Engine) (p : Pool) (rs bs : Words) where
         pool = ap (λ (z : Pool). poolAfterAll E z later) e ∙ ap (poolAfterAll E q) (sym from) ∙ v .pool;
         answers =
             ap₂ (λ (z : Pool) (y : Words). take (4 * (i + 1)) y ++ answerWords (answersOf (countedOf E z later))) e d
-            ∙ ap (λ (y : Words). y ++ answerWords (answersOf (countedOf E (poolAfter E q a) later))) (answer-before b i x k)
-            ∙ append-assoc (take (4 * i) b) (fourWords x) (answerWords (answersOf (countedOf E (poolAfter E q a) later)))
+            ∙ ap (λ (y : Words). y ++ answerWords (answersOf (countedOf E (poolAfter E q a) later)))
+            (answer-before b i x k)
+            ∙ append-assoc (take (4 * i) b) (fourWords x)
+            (answerWords (answersOf (countedOf E (poolAfter E q a) later)))
             ∙ ap (λ (l : List Act). take (4 * i) b ++ answerWords (answersOf (countedOf E q l))) (sym from)
             ∙ v .answers;
         beyond =
@@ -92,7 +98,8 @@ module _ (E : Engine) (p : Pool) (rs bs : Words) where
       }
     where
       further : (y : Words) (i : ℕ) → drop (4 * (i + 1)) y ≡ drop 4 (drop (4 * i) y)
-      further y i = let e : 4 * (i + 1) ≡ 4 * i + 4 = omega arith in ap (λ (n : ℕ). drop n y) e ∙ sym (drop-drop 4 (4 * i) y)
+      further y i =
+          let e : 4 * (i + 1) ≡ 4 * i + 4 = omega arith in ap (λ (n : ℕ). drop n y) e ∙ sym (drop-drop 4 (4 * i) y)
 
   pub list-end : (i : ℕ) (q : Pool) (b : Words) → length rs ≡ 4 * i → Running E p rs bs i q b
       → (q ≡ poolAfterAll E p (requests rs))
@@ -104,6 +111,7 @@ module _ (E : Engine) (p : Pool) (rs bs : Words) where
         sym (take-append-drop (4 * i) b)
             ∙ ap₂ (λ (x y : Words). x ++ y)
             (sym (append-nil (take (4 * i) b))
-            ∙ ap (λ (l : List Act). take (4 * i) b ++ answerWords (answersOf (countedOf E q l))) (sym none) ∙ v .answers)
+            ∙ ap (λ (l : List Act). take (4 * i) b ++ answerWords (answersOf (countedOf E q l))) (sym none)
+            ∙ v .answers)
             (v .beyond ∙ ap (λ (n : ℕ). drop n bs) (sym h)),
       )

@@ -1,5 +1,7 @@
--- The record that a call names, by what the search of the table found; and its number, which is `named`. Assumes nothing.
+-- The record that a call names, by what the search of the table found; and its number, which is `named`. Assumes
+-- nothing.
 use Prim.Native.Nat.{ℕ, _<_}
+use native.Mathlib.Omega.{arith}
 use mathlib.Core.Path.{_≡_, refl, sym, ap, _∙_}
 use mathlib.Core.Bool.{Bool, true, false, cond}
 use Rattle.words.specs.Lists.{Words}
@@ -31,6 +33,19 @@ module _ (t : Words) (r : Row) where
     unfolding namedIn
     named-other h = sym (rw h) ∙ ap (namedAt t r) e
 
+  -- a slot is the one that the search found
+  pub named-at : (i : ℕ) → namedIn t r ≡ Slot i → ticketSlot (r .ticket) (recordsOf t) ≡ At i
+  unfolding namedIn
+  named-at i e = go (ticketSlot (r .ticket) (recordsOf t)) e
+    where
+      same : (j : ℕ) (b : Bool) → cond b (Slot j) (Refused 7) ≡ Slot i → At j ≡ At i
+      same j true h = let y : j ≡ i = cc in ap At y
+      same j false h = let y : _≡_ {A = ℕ} 0 1 = cc in absurd (omega arith)
+
+      go : (f : Found) → namedAt t r f ≡ Slot i → f ≡ At i
+      go Nothing h = let y : _≡_ {A = ℕ} 0 1 = cc in absurd (omega arith)
+      go (At j) h = same j (sameBlock (recordAt t j) r) h
+
   -- 01's number for each case of the enum
   pub named-number : numberIn (namedIn t r) ≡ named (recordsOf t) r
   unfolding namedIn
@@ -43,4 +58,5 @@ module _ (t : Words) (r : Row) where
       go : (f : Found) → ticketSlot (r .ticket) (recordsOf t) ≡ f → numberIn (namedAt t r f) ≡ named (recordsOf t) r
       go Nothing e = sym (named-none (recordsOf t) r (ticket-missing (r .ticket) t e))
       go (At i) e =
-          same i (sameBlock (recordAt t i) r) ∙ sym (named-some (recordsOf t) r (recordAt t i) (ticket-found (r .ticket) t i e .1))
+          same i (sameBlock (recordAt t i) r)
+          ∙ sym (named-some (recordsOf t) r (recordAt t i) (ticket-found (r .ticket) t i e .1))

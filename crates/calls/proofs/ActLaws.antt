@@ -19,8 +19,7 @@ use Rattle.calls.specs.Pool.{Pool, ledger, Engine, store, lengths, store
 use Rattle.calls.specs.Step.{Call, format, allocate, release, find, look, list, granted, refusal, accepted, Act}
 use Rattle.calls.specs.Step.{ask, give, query, bad, Outcome, named, fitOf, numberOf, newRow, grant, answerOf}
 use Rattle.calls.specs.Step.{poolOf, answerTo, poolAfter, suits, refusedWhole, perform, checked, formatted}
-use Rattle.calls.specs.Step.{step}
-use Rattle.calls.specs.Demand1.{isFormat}
+use Rattle.calls.specs.Step.{isFormat, step}
 
 -- ---- the number of release and find
 
@@ -68,7 +67,8 @@ module _ (E : Engine) (p : Pool) where
   unfolding answerTo poolAfter
   act-done a z = (rw z, rw z)
 
-  pub act-refused : (a : Act) → numberOf E p a ≢ 0 → (answerTo E p a ≡ refusal (numberOf E p a)) × (poolAfter E p a ≡ p)
+  pub act-refused : (a : Act) → numberOf E p a ≢ 0
+      → (answerTo E p a ≡ refusal (numberOf E p a)) × (poolAfter E p a ≡ p)
   unfolding answerTo poolAfter
   act-refused a z = (rw (eqb-ne (numberOf E p a) 0 z), rw (eqb-ne (numberOf E p a) 0 z))
 

@@ -1,26 +1,29 @@
--- Demand 3 is not empty: the releases of any live records, each on the pool whole, in any order, are a sequence that it speaks of.
--- Assumes nothing.
+-- Demand 3 is not empty: the releases of any live records, each on the pool whole, in any order, are a sequence that
+-- it speaks of. 01, "Demand 3 is one single claim about the whole sequence". Assumes nothing.
 use Prim.Native.Nat.{ℕ}
-use mathlib.Core.Path.{_≡_, refl, sym, ap, ap₂, _∙_}
-use mathlib.Core.Bool.{Bool, true, false, cond, not, _||_, false≢true, or-true}
+use mathlib.Core.Path.{_≡_, refl, sym, ap, ap₂, _∙_, subst}
+use mathlib.Core.Bool.{Bool, true, false, not, _||_, or-true}
 use mathlib.Core.List.{List, [], _∷_, map}
-use mathlib.Core.Option.{Option, none, some}
+use mathlib.Core.Option.{none}
 use lib.Dec.{eqb}
 use lib.ListN.{length}
-use Rattle.words.specs.Lists.{Words, isSome}
-use Rattle.words.proofs.Tests.{eqb-same}
+use Rattle.words.specs.Lists.{Words}
+use Rattle.words.proofs.Tests.{eqb-eq, eqb-same, absurd-some}
 use Rattle.words.proofs.ListLaws.{sameWords-same}
 use Rattle.ledger.specs.declared.Row.{Row}
 use Rattle.ledger.specs.Records.{Ledger, vacate, Member, member, planFor}
 use Rattle.calls.specs.declared.Answer.{Answer}
 use Rattle.calls.specs.Pool.{Pool, ledger, Engine, Laws, sound}
-use Rattle.calls.specs.Step.{Call, release, accepted, give, answerTo, Counted, Outcome, done, nothing, perform, step, named}
-use Rattle.calls.specs.Lent.{Part, inArena, inTable, inIndex, Lent, own, isAllOf, Event, whole, isWhole, outcome, after}
-use Rattle.calls.specs.Demand3.{Brings, Standing, remove, isDue, stands, standAll, afterActs, brings, elsewhere, follows, atStart, Sequence}
+use Rattle.calls.specs.Step.{Call, release, accepted, give, answerTo, Counted, Outcome, done, nothing, perform}
+use Rattle.calls.specs.Step.{step, named}
+use Rattle.calls.specs.Lent.{Part, inArena, inTable, inIndex, Lent, own, isAllOf, Event, whole, isWhole, outcome}
+use Rattle.calls.specs.Lent.{after}
+use Rattle.calls.specs.Demand3.{Brings, Standing, remove, isDue, stands, standAll, afterActs, brings, elsewhere}
+use Rattle.calls.specs.Demand3.{follows, atStart, Sequence}
 use Rattle.calls.proofs.StoreLaws.{settled, settled-none}
 use Rattle.calls.proofs.LentLaws.{whole-brings, whole-table, outcome-is}
 use Rattle.calls.proofs.ActLaws.{step-sound}
-use Rattle.calls.proofs.Standing.{Inv, given}
+use Rattle.calls.proofs.Standing.{plan-other, plan-removed, Inv, given}
 use Rattle.calls.proofs.WholeCalls.{all-own, due-after, due-act, whole-sound}
 use Rattle.calls.proofs.Demand3.{settled-fits, start-inv, Moved, event}
 
@@ -39,14 +42,10 @@ abbrev pub Different : Ledger → List Row → Type 0
 Different L [] = Unit {0}
 Different L (r ∷ rs) = (named L r ≡ 0) × (planFor (r .ticket) (members rs) ≡ none) × Different L rs
 
-remove-none : (t : ℕ) (ms : List Member) → planFor t ms ≡ none → remove t ms ≡ ms
-remove-none t [] h = refl
-remove-none t (m ∷ ms) h = go (eqb (m .ticket) t) refl h (remove-none t ms)
-  where
-    go : (b : Bool) → eqb (m .ticket) t ≡ b → cond (eqb (m .ticket) t) (some (m .plan)) (planFor t ms) ≡ none
-        → (planFor t ms ≡ none → remove t ms ≡ ms) → cond (eqb (m .ticket) t) (remove t ms) (m ∷ remove t ms) ≡ m ∷ ms
-    go true e h ih = absurd (false≢true (sym (ap (λ (o : Option _). isSome o) (rw e at h))))
-    go false e h ih = rw e (ap (λ (l : List Member). m ∷ l) (ih (rw e at h)))
+-- a list of members with no plan for any ticket
+no-plan : (ms : List Member) → ((t : ℕ) → planFor t ms ≡ none) → ms ≡ []
+no-plan [] h = refl
+no-plan (m ∷ ms) h = absurd (absurd-some {a = m .plan} (sym (h (m .ticket)) ∙ rw (eqb-same (m .ticket))))
 
 -- a row of words is all of itself
 all-own-part : (q : Part) (x : Words) (n : ℕ) → length x ≡ n → isAllOf q x (own q 0 n ∷ []) ≡ true
@@ -59,7 +58,8 @@ module _ (E : Engine) (laws : Laws E) (p : Pool) (ok : sound E p ≡ true) (ms :
   is-whole : (past : List Member) (q : Pool) → q ≡ settled E p past → (c : Call Lent) → isWhole q (whole p c) ≡ true
   unfolding isWhole
   is-whole past q e c =
-      let f = settled-fits E laws p ok ms past [] q (performed p) e (sym (unfold settled in settled-none E laws p ok)) in
+      let f = settled-fits E laws p ok ms past [] q (performed p) e
+      (sym (unfold settled in settled-none E laws p ok)) in
       rw (
         sameWords-same (q .head .root),
         eqb-same (q .head .next),
@@ -70,8 +70,10 @@ module _ (E : Engine) (laws : Laws E) (p : Pool) (ok : sound E p ≡ true) (ms :
         all-own-part inIndex (q .index) (length (p .index)) (sym (f .index)),
       )
 
-  module _ (r : Row) (rs : List Row) (s : Standing) (past : List Member) (q : Pool) (e : q ≡ settled E p past) (v : Inv ms s past)
-      (d : s .due ≡ members (r ∷ rs)) (right : named (ledger p) r ≡ 0) (single : planFor (r .ticket) (members rs) ≡ none) where
+  module _ (r : Row) (rs : List Row) (s : Standing) (past : List Member) (q : Pool) (e : q ≡ settled E p past)
+      (v : Inv ms s past)
+      (d : (t : ℕ) → planFor t (s .due) ≡ planFor t (members (r ∷ rs))) (right : named (ledger p) r ≡ 0)
+      (single : planFor (r .ticket) (members rs) ≡ none) where
     here : Event
     here = whole p (release r)
 
@@ -80,7 +82,7 @@ module _ (E : Engine) (laws : Laws E) (p : Pool) (ok : sound E p ≡ true) (ms :
 
     due : isDue (ledger p) all-own s r ≡ true
     unfolding isDue
-    due = rw (d, eqb-same (r .ticket), right)
+    due = rw (d (r .ticket), eqb-same (r .ticket), right)
 
     taken : accepted answer ≡ true
     unfolding answer
@@ -107,13 +109,20 @@ module _ (E : Engine) (laws : Laws E) (p : Pool) (ok : sound E p ≡ true) (ms :
     later : Standing
     later = afterActs (ledger p) (brings q here) s (outcome E q here .counted)
 
-    left : later .due ≡ members rs
+    left : (t : ℕ) → planFor t (later .due) ≡ planFor t (members rs)
     unfolding later
-    left =
-        ap₂ (λ (b : Brings) (cs : List Counted). afterActs (ledger p) b s cs .due) own-all counts
-        ∙ ap (λ (z : Standing). z .due) (due-after (ledger p) s r due answer taken)
-        ∙ ap (λ (l : List Member). remove (r .ticket) l) d
-        ∙ rw (eqb-same (r .ticket)) (remove-none (r .ticket) (members rs) single)
+    left t =
+        ap (planFor t)
+        (ap₂ (λ (b : Brings) (cs : List Counted). afterActs (ledger p) b s cs .due) own-all counts
+        ∙ ap (λ (z : Standing). z .due) (due-after (ledger p) s r due answer taken))
+        ∙ go (eqb (r .ticket) t) refl
+      where
+        go : (b : Bool) → eqb (r .ticket) t ≡ b → planFor t (remove (r .ticket) (s .due)) ≡ planFor t (members rs)
+        go true e =
+            let q : r .ticket ≡ t = eqb-eq (r .ticket) t e in
+            subst (λ (k : ℕ). planFor k (remove (r .ticket) (s .due)) ≡ planFor k (members rs)) q
+            (plan-removed (r .ticket) (s .due) ∙ sym single)
+        go false e = plan-other t (r .ticket) e (s .due) ∙ d t ∙ rw e
 
     quietly : (not (accepted (outcome E q here .answer)) || elsewhere (here .call)) ≡ true
     unfolding here
@@ -123,18 +132,21 @@ module _ (E : Engine) (laws : Laws E) (p : Pool) (ok : sound E p ≡ true) (ms :
     moved = event E laws p ok ms s past q here e v stand quietly
 
   from : (rs : List Row) (s : Standing) (past : List Member) (q : Pool) → q ≡ settled E p past → Inv ms s past
-      → s .due ≡ members rs → Different (ledger p) rs → follows E (ledger p) s q (releases p rs) ≡ true
+      → ((t : ℕ) → planFor t (s .due) ≡ planFor t (members rs)) → Different (ledger p) rs
+      → follows E (ledger p) s q (releases p rs) ≡ true
   unfolding here later
-  from [] s past q e v d h = rw d
+  from [] s past q e v d h = rw (no-plan (s .due) d)
   from (r ∷ rs) s past q e v d h =
       let m = moved r rs s past q e v d (h .0) (h .1) in
-      let rest = from rs (later r rs s past q e v d (h .0) (h .1)) (m .past) (after E q (whole p (release r))) (m .pool) (m .inv)
+      let rest = from rs (later r rs s past q e v d (h .0) (h .1)) (m .past) (after E q (whole p (release r)))
+      (m .pool) (m .inv)
       (left r rs s past q e v d (h .0) (h .1)) (h .2) in
       rw (stand r rs s past q e v d (h .0) (h .1), quietly r rs s past q e v d (h .0) (h .1)) rest
 
--- any live records with different tickets, in any order
-pub any-order : (E : Engine) → Laws E → (p : Pool) → sound E p ≡ true → (rs : List Row) → Different (ledger p) rs
-    → Sequence E p (members rs) (releases p rs)
-any-order E laws p ok rs h =
-    from E laws p ok (members rs) rs (atStart E (members rs)) [] p (sym (unfold settled in settled-none E laws p ok))
-    (start-inv E laws p ok (members rs)) refl h
+-- The set `ms` in any order: `rs` are its live records, with different tickets. Two orders of one set are two such
+-- `rs`, and demand 3 speaks of both sequences.
+pub any-order : (E : Engine) → Laws E → (p : Pool) → sound E p ≡ true → (ms : List Member) (rs : List Row)
+    → ((t : ℕ) → planFor t ms ≡ planFor t (members rs)) → Different (ledger p) rs → Sequence E p ms (releases p rs)
+any-order E laws p ok ms rs same h =
+    from E laws p ok ms rs (atStart E ms) [] p (sym (unfold settled in settled-none E laws p ok))
+    (start-inv E laws p ok ms) same h

@@ -10,8 +10,9 @@ use Rattle.words.proofs.Tests.{eqb-false}
 use Rattle.ledger.specs.declared.Row.{Row}
 use Rattle.ledger.specs.Records.{recordOf}
 use Rattle.calls.specs.Pool.{Pool, ledger, Engine}
-use Rattle.calls.specs.Step.{Call, format, allocate, release, find, look, list, refusal, accepted, Act, ask, give, query, Counted, named, numberOf, answerTo, poolAfter, countedOf, poolAfterAll, actsOf, buffersOf, suits, ownAnswer, buffersAfter, countedWhole, poolOf}
-use Rattle.calls.specs.Demand1.{isFormat}
+use Rattle.calls.specs.Step.{Call, format, allocate, release, find, look, list, refusal, accepted, Act, ask}
+use Rattle.calls.specs.Step.{give, query, Counted, named, numberOf, answerTo, poolAfter, countedOf, poolAfterAll}
+use Rattle.calls.specs.Step.{actsOf, buffersOf, suits, ownAnswer, buffersAfter, countedWhole, poolOf, isFormat}
 use Rattle.calls.proofs.ActLaws.{named-none, act-refused, act-accepted}
 use lib.Dec.{eqb}
 
@@ -36,7 +37,8 @@ module _ (E : Engine) where
       act-refused E q (give r) (λ z. omega (arith, sym n ∙ z)) .0 ∙ ap refusal n
 
 -- a call that is refused by its own answer left the pool, if it did its acts
-pub own-refused : (E : Engine) (c : Call Words) (q : Pool) → isFormat c ≡ false → accepted (ownAnswer c (countedOf E q (actsOf c))) ≡ false
+pub own-refused : (E : Engine) (c : Call Words) (q : Pool) → isFormat c ≡ false
+    → accepted (ownAnswer c (countedOf E q (actsOf c))) ≡ false
     → poolAfterAll E q (actsOf c) ≡ q
 own-refused E format q h f = absurd (true≢false h)
 own-refused E (allocate n) q h f = act-kept E q (ask n) f
@@ -46,7 +48,8 @@ own-refused E (look r hold) q h f = act-kept E q (query r) f
 own-refused E (list rs bs) q h f = absurd (true≢false f)
 
 -- where buffers are not elsewhere and the call did its acts unaccepted, there was none to write
-pub own-buffers : (c : Call Words) (cs : List Counted) → accepted (ownAnswer c cs) ≡ false → buffersAfter c cs ≡ buffersOf c
+pub own-buffers : (c : Call Words) (cs : List Counted) → accepted (ownAnswer c cs) ≡ false
+    → buffersAfter c cs ≡ buffersOf c
 own-buffers format cs f = refl
 own-buffers (allocate n) cs f = refl
 own-buffers (release r) cs f = refl
@@ -55,7 +58,10 @@ own-buffers (look r hold) cs f = refl
 own-buffers (list rs bs) cs f = absurd (true≢false f)
 
 -- only a list call can fail to suit its buffers, and then it counts as one call
-pub unsuited-whole : (c : Call Words) (n : ℕ) → suits c ≡ false → countedWhole c n ≡ record { act = none; answer = refusal n }
+pub unsuited-whole : (c : Call Words) (n : ℕ) → suits c ≡ false → countedWhole c n ≡ record {
+  act = none;
+  answer = refusal n;
+}
 unsuited-whole format n h = absurd (true≢false h)
 unsuited-whole (allocate m) n h = absurd (true≢false h)
 unsuited-whole (release r) n h = absurd (true≢false h)

@@ -1,27 +1,31 @@
 -- Demand 1, proved over any engine that keeps the laws. Assumes nothing.
-use Prim.Native.Nat.{ℕ, zero}
+use Prim.Native.Nat.{ℕ, zero, _%_, _≤_}
 use native.Mathlib.Omega.{arith}
 use mathlib.Core.Path.{_≡_, refl, sym, ap, _∙_, subst}
 use mathlib.Core.Logic.{_≢_, _↔_, inl}
 use mathlib.Core.Bool.{Bool, true, false, cond, not, _&&_, _||_, true≢false, false≢true, and-true}
 use mathlib.Core.Option.{Option, none, some}
 use lib.Dec.{eqb, ltb}
+use lib.ListN.{length}
 use Rattle.words.specs.Lists.{Words}
-use Rattle.words.proofs.Tests.{and-l, and-r, and-i, eqb-false, absurd-some}
+use Rattle.words.proofs.Tests.{and-l, and-r, and-i, eqb-eq, eqb-ne, eqb-false, false-of, le-of, of-le, absurd-some}
 use Rattle.ledger.specs.declared.Row.{Row}
 use Rattle.ledger.specs.Records.{recordOf, sameBlock, full}
 use Rattle.calls.specs.declared.Answer.{Answer}
 use Rattle.calls.specs.Pool.{Pool, ledger, wordCount, Engine, Laws, StoredForm, ruleOf, lengths, stored, sound}
 use Rattle.calls.specs.Step.{formatRefused, Call, format, allocate, release, find, look, list, refusal, sliceOf}
-use Rattle.calls.specs.Step.{accepted, Act, ask, give, query, bad, Outcome, named, fitOf, numberOf, answerTo}
-use Rattle.calls.specs.Step.{poolAfter, buffersOf, suits, refusedWhole, perform, formatted, step}
+use Rattle.calls.specs.Step.{accepted, arenaPart, placeholder, Act, ask, give, query, bad, Outcome, named, fitOf}
+use Rattle.calls.specs.Step.{numberOf, answerTo}
+use Rattle.calls.specs.Step.{poolAfter, buffersOf, suits, listSuits, refusedWhole, perform, checked, formatted}
+use Rattle.calls.specs.Step.{isFormat, step}
 use Rattle.calls.specs.Demand1.{BadSize, NoRecord, NoTicket, NoRoom, Unknown, Same, AskNumbers, NameNumbers}
-use Rattle.calls.specs.Demand1.{ActNumbers, refusedHead, Refused, isFormat, Performed, Demand1}
+use Rattle.calls.specs.Demand1.{ActNumbers, refusedHead, Refused, Performed, Kinds, Demand1}
 use Rattle.calls.proofs.StoreLaws.{sound-valid, sound-form}
 use Rattle.calls.proofs.RowLaws.{size-test, record-test, ticket-test, room-test, unknown-test, record-same}
 use Rattle.calls.proofs.RowLaws.{same-record}
 use Rattle.calls.proofs.ActLaws.{named-none, named-some, named-right, named-zero, act-refused, answer-number}
 use Rattle.calls.proofs.ActLaws.{Way, eight, one, runs, step-by, step-sound}
+use Rattle.calls.proofs.CallLaws.{query-kept}
 
 -- two statements that both hold, or of which neither does
 both : {P Q : Type 0} → P → Q → P ↔ Q
@@ -201,10 +205,12 @@ module _ (E : Engine) where
       → Refused E c p (perform E c p)
   unfolding perform
   refused-run format p f h = absurd (true≢false f)
-  refused-run (allocate n) p f h = refused-one (allocate n) p (ask n) (perform E (allocate n) p) f refl refl refl refl h
+  refused-run (allocate n) p f h =
+      refused-one (allocate n) p (ask n) (perform E (allocate n) p) f refl refl refl refl h
   refused-run (release r) p f h = refused-one (release r) p (give r) (perform E (release r) p) f refl refl refl refl h
   refused-run (find r) p f h = refused-one (find r) p (query r) (perform E (find r) p) f refl refl refl refl h
-  refused-run (look r hold) p f h = refused-one (look r hold) p (query r) (perform E (look r hold) p) f refl refl refl refl h
+  refused-run (look r hold) p f h =
+      refused-one (look r hold) p (query r) (perform E (look r hold) p) f refl refl refl refl h
   refused-run (list rs bs) p f h = absurd (true≢false h)
 
   format-refused : (p : Pool) → accepted (formatted E p .answer) ≡ false → Refused E format p (formatted E p)
@@ -338,6 +344,59 @@ module _ (E : Engine) where
         go true h = omega arith
         go false h = omega arith
 
+-- ---- look
+
+-- the outcome of a look, beside that of a find
+abbrev Looked : Pool → Row → Outcome → Outcome → Type 0
+Looked p r f o =
+    (o .answer ≡ f .answer) × (o .pool ≡ p)
+    × (accepted (f .answer) ≡ true → o .shown ≡ arenaPart (r .address) (r .words))
+    × (accepted (f .answer) ≡ false → o .shown ≡ placeholder)
+
+looks-at : (E : Engine) (p : Pool) (r : Row) (hold : Words) → Looked p r (step E (find r) p) (step E (look r hold) p)
+unfolding step checked perform
+looks-at E p r hold = go (lengths E p && true) (stored E p)
+  where
+    -- refused by 8 or 1, both show the placeholder
+    whole : (n : ℕ) → eqb n 0 ≡ false → Looked p r (refusedWhole (find r) p n) (refusedWhole (look r hold) p n)
+    whole n z = (refl, refl, λ h. absurd (false≢true (sym z ∙ h)), λ h. rw h)
+
+    go : (a b : Bool)
+        → Looked p r
+        (cond a (cond b (perform E (find r) p) (refusedWhole (find r) p 1)) (refusedWhole (find r) p 8))
+        (cond a (cond b (perform E (look r hold) p) (refusedWhole (look r hold) p 1)) (refusedWhole (look r hold) p 8))
+    go true true = (refl, query-kept E p r, λ h. rw h, λ h. rw h)
+    go true false = whole 1 refl
+    go false b = whole 8 refl
+
+-- ---- lists
+
+-- spare words that are not zero, and a kind that is neither
+request-kinds : Kinds
+request-kinds =
+    record {
+      asks = λ n. refl;
+      gives = λ t a w. refl;
+      others = λ k x y z spare give. rw (tests k y z spare, eqb-ne k 2 give);
+    }
+  where
+    tests : (k y z : ℕ) → ((k ≡ 1) × (y ≡ 0) × (z ≡ 0) → ⊥) → (eqb k 1 && eqb y 0 && eqb z 0) ≡ false
+    tests k y z spare =
+        false-of (eqb k 1 && eqb y 0 && eqb z 0)
+        (λ h. spare
+        (eqb-eq k 1 (search (and-l, and-r)), eqb-eq y 0 (search (and-l, and-r)), eqb-eq z 0 (search (and-l, and-r))))
+
+list-lengths : (rs bs : Words)
+    → (listSuits rs bs ≡ true) ↔ ((length rs % 4 ≡ 0) × (length rs ≤ 4096) × (length rs ≤ length bs))
+list-lengths rs bs = (
+  (λ h. (
+    eqb-eq (length rs % 4) 0 (search (and-l, and-r)),
+    le-of (length rs) 4096 (search (and-l, and-r)),
+    le-of (length rs) (length bs) (search (and-l, and-r)),
+  )),
+  (λ h. rw (h .0, of-le (length rs) 4096 (h .1), of-le (length rs) (length bs) (h .2))),
+)
+
 pub demand1 : (E : Engine) → Laws E → Demand1 E
 unfolding step
 demand1 E laws =
@@ -355,4 +414,7 @@ demand1 E laws =
       formats = λ p e. format-number E p ∙ rw e;
       performed = λ c p f s ok. subst (Performed E c p) (sym (step-sound E c p f s ok)) (run-performed E c p);
       numbers = λ p a ok. subst (ActNumbers E p a) (sym (answer-number E p a)) (act-numbers E laws p a ok);
+      looks = looks-at E;
+      kinds = request-kinds;
+      listLengths = list-lengths;
     }

@@ -17,16 +17,22 @@ use Rattle.ledger.specs.Runs.{freeRuns}
 use Rattle.ledger.proofs.RecordLaws.{record-kept}
 use Rattle.ledger.proofs.UnitLaws.{free-enter, free-settle, valid-settle}
 use Rattle.ledger.proofs.RunLaws.{runs-are}
-use Rattle.calls.specs.Pool.{store, Pool, ledger, wordCount, Engine, Laws, firstTicket, nextAfter, ruleOf, lengths, sound}
-use Rattle.calls.specs.Step.{refusedWhole, Call, format, refusal, accepted, Act, ask, give, Outcome, fitOf}
-use Rattle.calls.specs.Step.{numberOf, newRow, grant, answerTo, poolAfter, poolAfterAll, actsOf, perform}
-use Rattle.calls.specs.Step.{blank, formatted, step}
-use Rattle.calls.specs.Demand1.{BadSize, NoRecord, NoTicket, NoRoom, isFormat}
-use Rattle.calls.specs.Demand2.{LowestFit, Granted, Released, Names, Spares, Untouched, Demand2}
-use Rattle.calls.proofs.StoreLaws.{ledger-store, next-store, words-store, sound-valid, settled-sound, blank-sound}
+use Rattle.calls.specs.Pool.{store, Pool, ledger, wordCount, Engine, Laws, firstTicket, nextAfter, ruleOf}
+use Rattle.calls.specs.Pool.{lengths, sound}
+use Rattle.calls.specs.Step.{refusedWhole, Call, format, granted, done, refusal, accepted, Act, ask, give, query}
+use Rattle.calls.specs.Step.{Outcome, fitOf}
+use Rattle.calls.specs.Step.{numberOf, newRow, grant, answerOf, answerTo, poolAfter, poolAfterAll, actsOf}
+use Rattle.calls.specs.Step.{perform}
+use Rattle.calls.specs.Step.{blank, formatted, isFormat, step}
+use Rattle.calls.specs.Demand1.{BadSize, NoRecord, NoTicket, NoRoom}
+use Rattle.calls.specs.Demand2.{LowestFit, Granted, Released, Names, Spares, Untouched, Throughout, Demand2}
+use Rattle.calls.proofs.StoreLaws.{ledger-store, next-store, words-store, sound-valid, settled-sound}
+use Rattle.calls.proofs.StoreLaws.{blank-sound}
 use Rattle.calls.proofs.RowLaws.{size-test, record-test, ticket-test, fit-found, found-fit, room-test}
-use Rattle.calls.proofs.ActLaws.{named-zero, Asked, act-refused, ask-done, give-done, act-accepted, act-by}
+use Rattle.calls.proofs.ActLaws.{named-right, named-zero, Asked, act-done, act-refused, ask-done, give-done}
+use Rattle.calls.proofs.ActLaws.{act-accepted, act-by}
 use Rattle.calls.proofs.ActLaws.{Way, eight, one, runs, way}
+use Rattle.calls.proofs.CallLaws.{query-kept}
 use Rattle.calls.proofs.GrantLaws.{entered, over, zeroed, length-zeroed, grant-store, grant-valid, grant-sound}
 use Rattle.calls.proofs.GrantLaws.{grant-zeros, zeroed-keeps, grant-holds}
 use Rattle.calls.proofs.HeldLaws.{block-kept}
@@ -106,6 +112,11 @@ module _ (E : Engine) (laws : Laws E) where
       act-accepted E p (give r)
       ∙ eqb-ne (numberOf E p (give r)) 0 (λ z. h (named-zero (ledger p) r z))
 
+  finds-at : (p : Pool) → sound E p ≡ true → (r : Row) → Held p r
+      → (answerTo E p (query r) ≡ granted r) × (poolAfter E p (query r) ≡ p)
+  unfolding numberOf answerOf
+  finds-at p ok r e = (act-done E p (query r) (named-right (ledger p) r e) .0, query-kept E p r)
+
   -- ---- an act, and every pool that it leaves
 
   pub act-sound : (p : Pool) (a : Act) → sound E p ≡ true → sound E (poolAfter E p a) ≡ true
@@ -114,6 +125,10 @@ module _ (E : Engine) (laws : Laws E) where
       (λ p a ok. ok)
       (λ p n k asked ok. grant-sound E laws p ok n k asked)
       (λ p r e ok. settled-sound E laws p ok (member (r .ticket) vacate ∷ []))
+
+  acts-sound : (acts : List Act) (p : Pool) → sound E p ≡ true → Throughout E p acts
+  acts-sound [] p ok = ok
+  acts-sound (a ∷ more) p ok = (ok, acts-sound more (poolAfter E p a) (act-sound p a ok))
 
   pub act-shape : (p : Pool) (a : Act) → poolAfter E p a .shape ≡ p .shape
   unfolding grant store
@@ -160,8 +175,12 @@ module _ (E : Engine) (laws : Laws E) where
       act-by E (λ p a q. sound E p ≡ true → Held p r → (Names r a → ⊥) → Untouched E p q r)
       (λ p a ok e names. untouched-same p r e)
       (λ p n k asked ok e names. grant-spares p ok n k asked r e)
-      (λ p s f ok e names. release-spares p ok (s .ticket) r e names)
+      (λ p s f ok e names. release-spares p ok (s .ticket) r e (λ t. names (one-record p s f e t)))
       p a ok e
+    where
+      -- a ticket has one record
+      one-record : (p : Pool) (s : Row) → Held p s → Held p r → s .ticket ≡ r .ticket → s ≡ r
+      one-record p s f e t = let g = ap (λ k. recordOf k (ledger p)) t in cc
 
   acts-spare : (acts : List Act) (p : Pool) → sound E p ≡ true → (r : Row) → Held p r
       → Spares r acts → Untouched E p (poolAfterAll E p acts) r
@@ -188,11 +207,14 @@ module _ (E : Engine) (laws : Laws E) where
 module _ (E : Engine) (laws : Laws E) where
   format-blank : (p : Pool) → accepted (step E format p .answer) ≡ true
       → (ledger (step E format p .pool) ≡ blank E p) × (step E format p .pool .head .next ≡ firstTicket)
+      × (step E format p .answer ≡ done)
   unfolding step formatted
   format-blank p h = go (lengths E p) refl
     where
-      go : (b : Bool) → lengths E p ≡ b → (ledger (formatted E p .pool) ≡ blank E p) × (formatted E p .pool .head .next ≡ firstTicket)
-      go true e = rw e (ledger-store E (blank E p) firstTicket p, next-store E (blank E p) firstTicket p)
+      go : (b : Bool) → lengths E p ≡ b
+          → (ledger (formatted E p .pool) ≡ blank E p) × (formatted E p .pool .head .next ≡ firstTicket)
+          × (formatted E p .answer ≡ done)
+      go true e = rw e (ledger-store E (blank E p) firstTicket p, next-store E (blank E p) firstTicket p, refl)
       go false e = absurd (false≢true (sym (rw e) ∙ h))
 
   count-kept : (p : Pool) (a : Act) → wordCount (poolAfter E p a) ≡ wordCount p
@@ -211,9 +233,12 @@ demand2 E laws =
       refuses = no-room E laws;
       releases = releases-at E laws;
       others = releases-only E laws;
+      finds = finds-at E laws;
       stays = act-sound E laws;
-      formats = λ p h. (format-sound E laws p h, format-blank E laws p h .0, format-blank E laws p h .1);
-      keeps = count-kept E laws;
+      throughout = λ p c. acts-sound E laws (actsOf c) p;
+      formats = λ p h. let (holds, next, answer) = format-blank E laws p h in
+          (format-sound E laws p h, holds, next, answer);
+      keeps = λ p a. (count-kept E laws p a, act-shape E laws p a);
       merged = λ p. runs-are (free (ruleOf E p) (ledger p)) (wordCount p / ruleOf E p .unit);
       spares = act-spares E laws;
       sparesCall = call-spares E laws;

@@ -1,5 +1,5 @@
--- Demand 3, proved once for any engine. Of a call the proof uses only that its acts are answered one after another on what it was
--- lent, and that an act that is refused leaves the pool. Assumes nothing.
+-- Demand 3, proved once for any engine. Of a call the proof uses only that its acts are answered one after another on
+-- what it was lent, and that an act that is refused leaves the pool. Assumes nothing.
 use Prim.Native.Nat.{ℕ}
 use mathlib.Core.Path.{_≡_, refl, sym, ap, _∙_, subst}
 use mathlib.Core.Bool.{Bool, true, false, not, _||_, false≢true}
@@ -11,11 +11,16 @@ use Rattle.words.proofs.Tests.{and-l, and-r, not-true}
 use Rattle.ledger.specs.Records.{Ledger, recordOf, Plan, Member, planFor, settle, recordsOf, tableOf}
 use Rattle.ledger.proofs.RecordLaws.{settle-same, length-table-settle}
 use Rattle.calls.specs.Pool.{Pool, ledger, wordCount, Engine, Laws, store, lengths, sound}
-use Rattle.calls.specs.Step.{Call, format, allocate, release, find, look, list, done, accepted, Outcome, answersOf, answerWords, perform, step}
-use Rattle.calls.specs.Lent.{Lent, see, Event, mapCall, brought, isWhole, ownTable, outcome, after, laterEnd, laterOutcomes}
-use Rattle.calls.specs.Demand3.{Brings, Standing, live, standAll, RightAll, afterActs, brings, elsewhere, RightList, follows, Answered, endOf, atStart, Sequence, Demand3}
-use Rattle.calls.proofs.StoreLaws.{ledger-store, shape-store, words-store, store-keeps, settled-sound, settled-none, sound-lengths, settled}
-use Rattle.calls.proofs.LentLaws.{whole-brings, whole-table, own-table, quiet-after, Fits, whole-after, outcome-is}
+use Rattle.calls.specs.Step.{Call, format, allocate, release, find, look, list, done, accepted, Outcome}
+use Rattle.calls.specs.Step.{answersOf, answerWords, perform, step}
+use Rattle.calls.specs.Lent.{Lent, see, Event, mapCall, brought, isWhole, ownTable, headReturns, outcome, after}
+use Rattle.calls.specs.Lent.{laterEnd, laterOutcomes}
+use Rattle.calls.specs.Demand3.{Brings, Standing, live, standAll, RightAll, afterActs, brings, elsewhere}
+use Rattle.calls.specs.Demand3.{RightList, follows, Answered, endOf, atStart, Sequence, Demand3}
+use Rattle.calls.proofs.StoreLaws.{ledger-store, shape-store, words-store, store-keeps, settled-sound}
+use Rattle.calls.proofs.StoreLaws.{settled-none, sound-lengths, settled}
+use Rattle.calls.proofs.LentLaws.{whole-brings, whole-table, own-table, quiet-after, Fits, whole-after}
+use Rattle.calls.proofs.LentLaws.{outcome-is, returned-head, format-seen}
 use Rattle.calls.proofs.Standing.{orElse, Inv}
 use Rattle.calls.proofs.Strays.{stray-step}
 use Rattle.calls.proofs.WholeCalls.{all-own, not-there, WholeCall, whole-sound, whole-step}
@@ -55,23 +60,30 @@ module _ (E : Engine) (laws : Laws E) (p : Pool) (ok : sound E p ≡ true) (ms :
   same-shape x = shape-store E (settle x (ledger p)) (p .head .next) p
 
   -- every pool of the sequence has the lengths and the shape of the first
-  pub settled-fits : (x y : List Member) (q : Pool) (o : Outcome) → q ≡ settled E p x → o .pool ≡ settled E p y → Fits q o
+  pub settled-fits : (x y : List Member) (q : Pool) (o : Outcome) → q ≡ settled E p x → o .pool ≡ settled E p y
+      → Fits q o
   settled-fits x y q o e d = record {
-    arena = ap (λ (z : Pool). length (z .arena)) d ∙ same-arena y ∙ sym (ap (λ (z : Pool). length (z .arena)) e ∙ same-arena x);
-    table = ap (λ (z : Pool). length (z .table)) d ∙ same-table y ∙ sym (ap (λ (z : Pool). length (z .table)) e ∙ same-table x);
-    index = ap (λ (z : Pool). length (z .index)) d ∙ same-index y ∙ sym (ap (λ (z : Pool). length (z .index)) e ∙ same-index x);
+    arena = ap (λ (z : Pool). length (z .arena)) d ∙ same-arena y
+        ∙ sym (ap (λ (z : Pool). length (z .arena)) e ∙ same-arena x);
+    table = ap (λ (z : Pool). length (z .table)) d ∙ same-table y
+        ∙ sym (ap (λ (z : Pool). length (z .table)) e ∙ same-table x);
+    index = ap (λ (z : Pool). length (z .index)) d ∙ same-index y
+        ∙ sym (ap (λ (z : Pool). length (z .index)) e ∙ same-index x);
     shape = ap (λ (z : Pool). z .shape) d ∙ same-shape y ∙ sym (ap (λ (z : Pool). z .shape) e ∙ same-shape x);
   }
 
-  stray-event : (s : Standing) (past : List Member) (q : Pool) (e : Event) → q ≡ settled E p past → Inv ms s past → isWhole q e ≡ false
+  stray-event : (s : Standing) (past : List Member) (q : Pool) (e : Event) → q ≡ settled E p past → Inv ms s past
+      → isWhole q e ≡ false
       → standAll (ledger p) (brings q e) s (outcome E q e .counted) ≡ true
       → (not (accepted (outcome E q e .answer)) || elsewhere (e .call)) ≡ true → Moved s q e
   unfolding outcome
   stray-event s past q e d v w h b =
       let m = brought q e in
       let c = mapCall (see q) (e .call) in
-      let unknown : ownTable q e ≡ true → (t : ℕ) → live (ledger p) (s .spent) t ≡ false → recordOf t (ledger m) ≡ none =
-      λ k t n. ap (λ (z : Words). recordOf t (recordsOf z)) (own-table q e k) ∙ not-there E laws p ok ms s past q d v t n in
+      let unknown : ownTable q e ≡ true → (t : ℕ) → live (ledger p) (s .spent) t ≡ false
+      → recordOf t (ledger m) ≡ none =
+      λ k t n. ap (λ (z : Words). recordOf t (recordsOf z)) (own-table q e k)
+      ∙ not-there E laws p ok ms s past q d v t n in
       let k = stray-step E (ledger p) (brings q e) s w m unknown c h in
       record {
         past = past;
@@ -79,15 +91,20 @@ module _ (E : Engine) (laws : Laws E) (p : Pool) (ok : sound E p ≡ true) (ms :
           arena = k .arena;
           table = k .table;
           index = k .index;
-          head = λ a. absurd (false≢true (sym w ∙ and-r (accepted (outcome E q e .answer)) (isWhole q e) a));
-          buffers = λ a. k .buffers (not-true (accepted (outcome E q e .answer)) (or-first (not (accepted (outcome E q e .answer))) (elsewhere (e .call)) a b));
+          head = λ a.
+              let (f, back) = k .head (and-l (accepted (outcome E q e .answer)) (headReturns q e) a) in
+              back ∙ returned-head q e (and-r (accepted (outcome E q e .answer)) (headReturns q e) a)
+              (sym (format-seen (see q) (e .call)) ∙ f);
+          buffers = λ a. k .buffers (not-true (accepted (outcome E q e .answer))
+              (or-first (not (accepted (outcome E q e .answer))) (elsewhere (e .call)) a b));
         }) ∙ d;
         inv = subst (λ (z : Standing). Inv ms z past) (sym (k .standing)) v;
         right = k .right;
         listed = λ a. absurd (false≢true (sym w ∙ a));
       }
 
-  list-right : (q : Pool) → sound E q ≡ true → (c : Call Lent) (o : Outcome) → o ≡ step E (mapCall (see q) c) q → RightList q c o
+  list-right : (q : Pool) → sound E q ≡ true → (c : Call Lent) (o : Outcome) → o ≡ step E (mapCall (see q) c) q
+      → RightList q c o
   unfolding step perform
   list-right q so format o j = tt
   list-right q so (allocate n) o j = tt
@@ -95,13 +112,15 @@ module _ (E : Engine) (laws : Laws E) (p : Pool) (ok : sound E p ≡ true) (ms :
   list-right q so (find r) o j = tt
   list-right q so (look r hold) o j = tt
   list-right q so (list rs bs) o j = λ h.
-      let k : o ≡ perform E (list (see q rs) (see q bs)) q = j ∙ step-sound E (list (see q rs) (see q bs)) q refl h so in
+      let k : o ≡ perform E (list (see q rs) (see q bs)) q =
+      j ∙ step-sound E (list (see q rs) (see q bs)) q refl h so in
       subst
       (λ (z : Outcome). (z .answer ≡ done)
       × (z .buffers ≡ (answerWords (answersOf (z .counted)) ++ drop (length (see q rs)) (see q bs)) ∷ []))
       (sym k) (refl, refl)
 
-  whole-event : (s : Standing) (past : List Member) (q : Pool) (e : Event) → q ≡ settled E p past → Inv ms s past → isWhole q e ≡ true
+  whole-event : (s : Standing) (past : List Member) (q : Pool) (e : Event) → q ≡ settled E p past → Inv ms s past
+      → isWhole q e ≡ true
       → standAll (ledger p) (brings q e) s (outcome E q e .counted) ≡ true
       → (not (accepted (outcome E q e .answer)) || elsewhere (e .call)) ≡ true → Moved s q e
   whole-event s past q e d v w h b = record {
@@ -159,12 +178,14 @@ module _ (E : Engine) (laws : Laws E) (p : Pool) (ok : sound E p ≡ true) (ms :
 
   -- ---- a whole sequence
 
-  at-end : (s : Standing) (past : List Member) → Inv ms s past → _≡_ {A = Bool} (elim (s .due) [ [] ↦ true | m ∷ more ↦ false ]) true
+  at-end : (s : Standing) (past : List Member) → Inv ms s past
+      → _≡_ {A = Bool} (elim (s .due) [ [] ↦ true | m ∷ more ↦ false ]) true
       → settled E p past ≡ settled E p ms
   unfolding settled
   at-end s past v h =
       ap (λ (L : Ledger). store E L (p .head .next) p)
-      (settle-same past ms (λ t. ap (λ (due : List Member). orElse (planFor t due) (planFor t past)) (sym (none-due (s .due) h)) ∙ v .covers t) (ledger p))
+      (settle-same past ms (λ t. ap (λ (due : List Member). orElse (planFor t due) (planFor t past))
+      (sym (none-due (s .due) h)) ∙ v .covers t) (ledger p))
     where
       none-due : (due : List Member) → _≡_ {A = Bool} (elim due [ [] ↦ true | m ∷ more ↦ false ]) true → due ≡ []
       none-due [] h = refl
@@ -187,7 +208,8 @@ module _ (E : Engine) (laws : Laws E) (p : Pool) (ok : sound E p ≡ true) (ms :
       or-none none = refl
       or-none (some q) = refl
 
-  pub sequence-end : (es : List Event) → Sequence E p ms es → Answered E (ledger p) (atStart E ms) p es × (endOf E p es ≡ settled E p ms)
+  pub sequence-end : (es : List Event) → Sequence E p ms es
+      → Answered E (ledger p) (atStart E ms) p es × (endOf E p es ≡ settled E p ms)
   sequence-end es h = events es (atStart E ms) [] p (sym (unfold settled in settled-none E laws p ok)) start-inv h
 
 -- ---- the demand
@@ -201,7 +223,8 @@ demand3 E laws p ok ms alive es h =
       form = r .1;
       holds = ap (λ (q : Pool). ledger q) (r .1) ∙ ledger-store E (settle ms (ledger p)) (p .head .next) p;
       isSound = ap (λ (q : Pool). sound E q) (r .1) ∙ settled-sound E laws p ok ms;
-      kept = λ i k. ap (λ (q : Pool). getD (q .arena) i 0) (r .1) ∙ store-keeps E (settle ms (ledger p)) (p .head .next) p i k;
+      kept = λ i k. ap (λ (q : Pool). getD (q .arena) i 0) (r .1)
+          ∙ store-keeps E (settle ms (ledger p)) (p .head .next) p i k;
       same = λ others k ls.
           let e : endOf E p es ≡ endOf E p others = r .1 ∙ sym (sequence-end E laws p ok ms others k .1) in
           (e, ap (λ (q : Pool). laterOutcomes E q ls) e, ap (λ (q : Pool). laterEnd E q ls) e);

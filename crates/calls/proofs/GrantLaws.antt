@@ -13,7 +13,8 @@ use lib.ListN.{length, getD}
 use Rattle.words.specs.Lists.{Words}
 use Rattle.words.specs.Counted.{within}
 use Rattle.words.specs.Places.{wiped}
-use Rattle.words.proofs.Tests.{and-l, and-i, or-l, eqb-eq, eqb-ne, eqb-false, lt-of, of-lt, within-in, within-of, false-of}
+use Rattle.words.proofs.Tests.{and-l, and-i, or-l, eqb-eq, eqb-ne, eqb-false, lt-of, of-lt, within-in, within-of}
+use Rattle.words.proofs.Tests.{false-of}
 use Rattle.words.proofs.CountedLaws.{every-of}
 use Rattle.words.proofs.PlaceLaws.{length-wiped, wiped-in, wiped-out}
 use Rattle.ledger.specs.declared.Row.{Row}
@@ -93,7 +94,8 @@ module _ (E : Engine) (laws : Laws E) (p : Pool) (ok : sound E p ≡ true) (n k 
   grant-valid =
       let ρ = ruleOf E p in
       let next = p .head .next in
-      valid-enter ρ (laws .unit (p .shape)) (wordCount p) next (nextAfter next) k n (ledger p) (sound-valid E laws p ok)
+      valid-enter ρ (laws .unit (p .shape)) (wordCount p) next (nextAfter next) k n (ledger p)
+      (sound-valid E laws p ok)
       next-some (next-above next) size-some (fit .inside)
       (every-of (free ρ (ledger p)) k (span ρ n) (fit .enough))
 

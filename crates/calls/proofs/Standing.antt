@@ -18,16 +18,17 @@ abbrev pub orElse : Option Plan → Option Plan → Option Plan
 orElse none b = b
 orElse (some q) b = some q
 
-plan-other : (s t : ℕ) → eqb t s ≡ false → (ms : List Member) → planFor s (remove t ms) ≡ planFor s ms
+pub plan-other : (s t : ℕ) → eqb t s ≡ false → (ms : List Member) → planFor s (remove t ms) ≡ planFor s ms
 plan-other s t h [] = refl
 plan-other s t h (m ∷ ms) = go (plan-other s t h ms) (eqb (m .ticket) t) refl
   where
     go : planFor s (remove t ms) ≡ planFor s ms → (b : Bool) → eqb (m .ticket) t ≡ b
-        → planFor s (cond (eqb (m .ticket) t) (remove t ms) (m ∷ remove t ms)) ≡ cond (eqb (m .ticket) s) (some (m .plan)) (planFor s ms)
+        → planFor s (cond (eqb (m .ticket) t) (remove t ms) (m ∷ remove t ms))
+        ≡ cond (eqb (m .ticket) s) (some (m .plan)) (planFor s ms)
     go ih true e = rw e (rw (ap (λ k. eqb k s) (eqb-eq (m .ticket) t e) ∙ h) ih)
     go ih false e = rw e (rw ih)
 
-plan-removed : (t : ℕ) (ms : List Member) → planFor t (remove t ms) ≡ none
+pub plan-removed : (t : ℕ) (ms : List Member) → planFor t (remove t ms) ≡ none
 plan-removed t [] = refl
 plan-removed t (m ∷ ms) = go (plan-removed t ms) (eqb (m .ticket) t) refl
   where
@@ -61,18 +62,22 @@ inv-carried ms past s t v h = record {
         → orElse (planFor k (remove t (s .due))) (cond (eqb t k) (some vacate) (planFor k past)) ≡ planFor k ms
     cover k true e =
         let q : t ≡ k = eqb-eq t k e in
-        subst (λ (j : ℕ). orElse (planFor j (remove t (s .due))) (cond (eqb t j) (some vacate) (planFor j past)) ≡ planFor j ms) q
+        subst (λ (j : ℕ). orElse (planFor j (remove t (s .due))) (cond (eqb t j) (some vacate) (planFor j past))
+        ≡ planFor j ms) q
         (rw (plan-removed t (s .due), eqb-same t)
-        (sym (sym (v .covers t) ∙ ap (λ (o : Option Plan). orElse o (planFor t past)) (some-vacate (planFor t (s .due)) h))))
+        (sym (sym (v .covers t) ∙ ap (λ (o : Option Plan). orElse o (planFor t past))
+        (some-vacate (planFor t (s .due)) h))))
     cover k false e = rw (e, plan-other k t e (s .due)) (v .covers k)
 
     anew : (k : ℕ) (b : Bool) → eqb t k ≡ b → isSome (planFor k (remove t (s .due))) ≡ true
         → cond (eqb t k) (some vacate) (planFor k past) ≡ none
     anew k true e d =
-        absurd (false≢true (sym (ap (λ (o : Option Plan). isSome o) (ap (λ (j : ℕ). planFor j (remove t (s .due))) (sym (eqb-eq t k e)) ∙ plan-removed t (s .due))) ∙ d))
+        absurd (false≢true (sym (ap (λ (o : Option Plan). isSome o)
+        (ap (λ (j : ℕ). planFor j (remove t (s .due))) (sym (eqb-eq t k e)) ∙ plan-removed t (s .due))) ∙ d))
     anew k false e d = rw e (v .fresh k (ap (λ (o : Option Plan). isSome o) (sym (plan-other k t e (s .due))) ∙ d))
 
-    more : (k : ℕ) (b : Bool) → eqb t k ≡ b → (eqb k t || any (eqb k) (s .spent)) ≡ isSome (cond (eqb t k) (some vacate) (planFor k past))
+    more : (k : ℕ) (b : Bool) → eqb t k ≡ b
+        → (eqb k t || any (eqb k) (s .spent)) ≡ isSome (cond (eqb t k) (some vacate) (planFor k past))
     more k true e = rw (e, ap (λ j. eqb k j) (eqb-eq t k e), eqb-same k)
     more k false e = rw (e, eqb-ne k t (λ q. eqb-false t k e (sym q))) (v .spent k)
 
@@ -96,7 +101,8 @@ not-due start b s w (query r) = tt
 not-due start b s w bad = tt
 
 -- refused, it leaves the sequence where it stands
-pub stays : (start : Ledger) (b : Brings) (s : Standing) (a : Act) (x : Answer) → NotDue start b s a → accepted x ≡ false
+pub stays : (start : Ledger) (b : Brings) (s : Standing) (a : Act) (x : Answer) → NotDue start b s a
+    → accepted x ≡ false
     → afterAct start b s (given a x) ≡ s
 unfolding afterAct
 stays start b s (ask n) x w h = refl
@@ -104,7 +110,8 @@ stays start b s (give r) x w h = rw (w, h)
 stays start b s (query r) x w h = refl
 stays start b s bad x w h = refl
 
-pub right-stray : (start : Ledger) (b : Brings) (s : Standing) (a : Act) (x : Answer) → b .whole ≡ false → accepted x ≡ false
+pub right-stray : (start : Ledger) (b : Brings) (s : Standing) (a : Act) (x : Answer) → b .whole ≡ false
+    → accepted x ≡ false
     → Right start b s (given a x)
 right-stray start b s (ask n) x w h = tt
 right-stray start b s (give r) x w h = record {

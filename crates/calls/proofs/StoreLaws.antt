@@ -1,4 +1,5 @@
--- Laws of the stored form: store after store, soundness both ways, and the pool with some plans carried out. Assumes nothing.
+-- Laws of the stored form: store after store, soundness both ways, and the pool with some plans carried out. Assumes
+-- nothing.
 use Prim.Native.Nat.{ℕ, _%_}
 use native.Mathlib.Omega.{arith}
 use mathlib.Core.Path.{_≡_, refl, sym, ap, _∙_, subst}
@@ -15,7 +16,8 @@ use Rattle.ledger.specs.Records.{Ledger, emptyRow, Member, settle, recordWords,
 use Rattle.ledger.specs.Units.{valid, owned}
 use Rattle.ledger.proofs.RecordLaws.{records-table, length-tableOf, length-table-settle, settle-nil, settle-more}
 use Rattle.ledger.proofs.UnitLaws.{owned-settle, valid-settle, valid-blank}
-use Rattle.calls.specs.Pool.{Pool, ledger, wordCount, Engine, Laws, StoredForm, ruleOf, store, lengths, samePool, stored, sound, mostRecords, firstTicket}
+use Rattle.calls.specs.Pool.{Pool, ledger, wordCount, Engine, Laws, StoredForm, ruleOf, store, lengths, samePool}
+use Rattle.calls.specs.Pool.{stored, sound, mostRecords, firstTicket}
 use Rattle.calls.specs.Step.{blank}
 
 pub same-pool-eq : (p q : Pool) → samePool p q ≡ true → p ≡ q
@@ -90,7 +92,8 @@ module _ (E : Engine) where
 
   module _ (laws : Laws E) where
     -- a valid ledger, stored over memory of the right lengths, is a sound pool
-    module _ (p : Pool) (L : Ledger) (n : ℕ) (right : lengths E p ≡ true) (count : length (tableOf L) ≡ length (p .table))
+    module _ (p : Pool) (L : Ledger) (n : ℕ) (right : lengths E p ≡ true)
+        (count : length (tableOf L) ≡ length (p .table))
         (good : valid (ruleOf E p) (wordCount p) n L ≡ true) where
       store-lengths : lengths E (store E L n p) ≡ true
       unfolding store lengths
@@ -100,7 +103,8 @@ module _ (E : Engine) where
           let r : E .range s W ≡ true = search (and-l, and-r) in
           rw (length-stamp (owned (ruleOf E p) L) (E .word s W L) (p .arena), count, laws .indexed s W L r)
           (and-i
-          (E .range s W && eqb (length (p .table) % recordWords) 0 && leb 1 (slots (p .table)) && leb (slots (p .table)) mostRecords)
+          (E .range s W && eqb (length (p .table) % recordWords) 0 && leb 1 (slots (p .table))
+          && leb (slots (p .table)) mostRecords)
           (eqb (E .indexWords s) (E .indexWords s))
           (search and-l) (eqb-same (E .indexWords s)))
 
@@ -112,7 +116,8 @@ module _ (E : Engine) where
       unfolding stored
       store-stored =
           let q = store E L n p in
-          and-i (valid (ruleOf E q) (wordCount q) (q .head .next) (ledger q)) (samePool q (store E (ledger q) (q .head .next) q))
+          and-i (valid (ruleOf E q) (wordCount q) (q .head .next) (ledger q))
+          (samePool q (store E (ledger q) (q .head .next) q))
           (rw (ledger-store L n p, words-store L n p, next-store L n p, shape-store L n p) good)
           (ap (λ (x : Pool). samePool q x) store-again ∙ same-pool-same q)
 
@@ -162,7 +167,8 @@ module _ (E : Engine) where
     pub blank-sound : (p : Pool) → lengths E p ≡ true → sound E (store E (blank E p) firstTicket p) ≡ true
     unfolding lengths
     blank-sound p h =
-        let z : length (p .table) % recordWords ≡ 0 = eqb-eq (length (p .table) % recordWords) 0 (search (and-l, and-r)) in
+        let z : length (p .table) % recordWords ≡ 0 = eqb-eq (length (p .table) % recordWords) 0
+        (search (and-l, and-r)) in
         store-sound p (blank E p) firstTicket h
         (length-tableOf (blank E p) ∙ rw (length-replicate (slots (p .table)) emptyRow) (omega arith))
         (valid-blank (ruleOf E p) (wordCount p) firstTicket (slots (p .table)))
@@ -178,11 +184,17 @@ module _ (E : Engine) where
       (subst (λ (L : Ledger). owned (ruleOf E p) L i ≡ true) (sym (settle-more m ms (ledger p))) h)
 
   pub settled-more : (p : Pool) (m : Member) (ms : List Member)
-      → store E (settle (m ∷ []) (ledger (settled p ms))) (settled p ms .head .next) (settled p ms) ≡ settled p (m ∷ ms)
+      → store E (settle (m ∷ []) (ledger (settled p ms))) (settled p ms .head .next) (settled p ms)
+      ≡ settled p (m ∷ ms)
   unfolding settled store
   settled-more p m ms =
-      rw (ledger-store (settle ms (ledger p)) (p .head .next) p, next-store (settle ms (ledger p)) (p .head .next) p, settle-more m ms (ledger p))
-      (store-twice (settle ms (ledger p)) (settle (m ∷ ms) (ledger p)) (p .head .next) (p .head .next) p (owned-more p m ms))
+      rw (
+        ledger-store (settle ms (ledger p)) (p .head .next) p,
+        next-store (settle ms (ledger p)) (p .head .next) p,
+        settle-more m ms (ledger p),
+      )
+      (store-twice (settle ms (ledger p)) (settle (m ∷ ms) (ledger p)) (p .head .next) (p .head .next) p
+      (owned-more p m ms))
 
 -- Row 1, as 01 says it: a pool is sound exactly if its lengths are right and it is the stored form of some ledger.
 pub sound-form : (E : Engine) → Laws E → (p : Pool) → (sound E p ≡ true) ↔ StoredForm E p
@@ -196,5 +208,6 @@ sound-form E laws p = (
     good = sound-valid E laws p ok;
     form = is-store E laws p ok;
   }),
-  (λ s. ap (λ (q : Pool). sound E q) (s .form) ∙ store-sound E laws (s .over) (s .of) (s .next) (s .right) (s .slots) (s .good)),
+  (λ s. ap (λ (q : Pool). sound E q) (s .form) ∙ store-sound E laws (s .over) (s .of) (s .next) (s .right) (s .slots)
+      (s .good)),
 )

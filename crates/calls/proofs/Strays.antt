@@ -1,4 +1,5 @@
--- Calls that do not bring the pool whole: in a sequence all that they count as is refused, and they change nothing. Assumes nothing.
+-- Calls that do not bring the pool whole: in a sequence all that they count as is refused, and they change nothing.
+-- Assumes nothing.
 use Prim.Native.Nat.{ℕ}
 use mathlib.Core.Path.{_≡_, refl, sym, ap, ap₂, _∙_, subst}
 use mathlib.Core.Bool.{Bool, true, false, cond, not, _||_, false≢true}
@@ -10,8 +11,12 @@ use Rattle.words.proofs.Tests.{and-l, and-r, not-true}
 use Rattle.ledger.specs.declared.Row.{Row}
 use Rattle.ledger.specs.Records.{Ledger, recordOf}
 use Rattle.calls.specs.Pool.{Pool, ledger, Engine, lengths}
-use Rattle.calls.specs.Step.{Call, format, allocate, release, find, look, list, refusal, accepted, Act, ask, give, query, bad, Outcome, answerTo, poolAfter, countedOf, poolAfterAll, actsOf, buffersOf, countedWhole, formatDone, formatRefused, perform, formatted, refusedWhole, step}
-use Rattle.calls.specs.Demand3.{Brings, Standing, live, isReplay, stands, Right, afterAct, standAll, RightAll, afterActs}
+use Rattle.calls.specs.Step.{Call, format, allocate, release, find, look, list, refusal, accepted, Act, ask}
+use Rattle.calls.specs.Step.{give, query, bad, Outcome, answerTo, poolAfter, countedOf, poolAfterAll, actsOf}
+use Rattle.calls.specs.Step.{buffersOf, countedWhole, formatDone, formatRefused, perform, formatted}
+use Rattle.calls.specs.Step.{refusedWhole, isFormat, step}
+use Rattle.calls.specs.Demand3.{Brings, Standing, live, isReplay, stands, Right, afterAct, standAll, RightAll}
+use Rattle.calls.specs.Demand3.{afterActs}
 use Rattle.calls.proofs.ActLaws.{Way, eight, one, runs, way}
 use Rattle.calls.proofs.Standing.{given, not-due, stays, right-stray}
 use Rattle.calls.proofs.CallLaws.{act-kept, give-six, own-buffers}
@@ -29,7 +34,8 @@ module _ (E : Engine) (start : Ledger) (b : Brings) (s : Standing) (w : b .whole
   replay-refused : (r : Row) → isReplay start b s r ≡ true → accepted (answerTo E m (give r)) ≡ false
   unfolding isReplay
   replay-refused r h =
-      let n : live start (s .spent) (r .ticket) ≡ false = not-true (live start (s .spent) (r .ticket)) (search and-r) in
+      let n : live start (s .spent) (r .ticket) ≡ false = not-true (live start (s .spent) (r .ticket))
+      (search and-r) in
       ap accepted (give-six E m r (unknown (search and-l) (r .ticket) n))
 
   stray-refused : (a : Act) → stands start b s (given a (answerTo E m a)) ≡ true → accepted (answerTo E m a) ≡ false
@@ -37,7 +43,8 @@ module _ (E : Engine) (start : Ledger) (b : Brings) (s : Standing) (w : b .whole
   stray-refused (ask n) h = not-true (accepted (answerTo E m (ask n))) h
   stray-refused (give r) h = go (isReplay start b s r) refl (rw (not-due start b s w (give r)) at h)
     where
-      go : (c : Bool) → isReplay start b s r ≡ c → (c || not (accepted (answerTo E m (give r)))) ≡ true → accepted (answerTo E m (give r)) ≡ false
+      go : (c : Bool) → isReplay start b s r ≡ c → (c || not (accepted (answerTo E m (give r)))) ≡ true
+          → accepted (answerTo E m (give r)) ≡ false
       go true e k = replay-refused r e
       go false e k = not-true (accepted (answerTo E m (give r))) k
   stray-refused (query r) h = not-true (accepted (answerTo E m (query r))) (rw w at h)
@@ -48,11 +55,14 @@ module _ (E : Engine) (start : Ledger) (b : Brings) (s : Standing) (w : b .whole
   stray-acts (a ∷ more) h =
       let x = answerTo E m a in
       let c = given a x in
-      let f : accepted x ≡ false = stray-refused a (and-l (stands start b s c) (standAll start b (afterAct start b s c) (countedOf E (poolAfter E m a) more)) h) in
+      let f : accepted x ≡ false = stray-refused a (and-l (stands start b s c)
+      (standAll start b (afterAct start b s c) (countedOf E (poolAfter E m a) more)) h) in
       let k : poolAfter E m a ≡ m = act-kept E m a f in
       let d : afterAct start b s c ≡ s = stays start b s a x (not-due start b s w a) f in
-      let g : standAll start b (afterAct start b s c) (countedOf E (poolAfter E m a) more) ≡ true = and-r (stands start b s c) (standAll start b (afterAct start b s c) (countedOf E (poolAfter E m a) more)) h in
-      let ih = stray-acts more (subst (λ (z : Pool). standAll start b s (countedOf E z more) ≡ true) k (subst (λ (z : Standing). standAll start b z (countedOf E (poolAfter E m a) more) ≡ true) d g)) in
+      let g : standAll start b (afterAct start b s c) (countedOf E (poolAfter E m a) more) ≡ true = and-r
+      (stands start b s c) (standAll start b (afterAct start b s c) (countedOf E (poolAfter E m a) more)) h in
+      let ih = stray-acts more (subst (λ (z : Pool). standAll start b s (countedOf E z more) ≡ true) k
+      (subst (λ (z : Standing). standAll start b z (countedOf E (poolAfter E m a) more) ≡ true) d g)) in
       record {
         kept = ap (λ (z : Pool). poolAfterAll E z more) k ∙ ih .kept;
         right = (
@@ -65,11 +75,14 @@ module _ (E : Engine) (start : Ledger) (b : Brings) (s : Standing) (w : b .whole
 
 -- ---- the calls
 
--- all that it counts as is refused, and it changes nothing
-pub record StrayCall (E : Engine) (start : Ledger) (b : Brings) (s : Standing) (c : Call Words) (m : Pool) (o : Outcome) : Type 0 where
+-- all that it counts as is refused, and it changes nothing; if it is accepted all the same, as a list is, it is no
+-- format and hands back the head that it was brought
+pub record StrayCall (E : Engine) (start : Ledger) (b : Brings) (s : Standing) (c : Call Words) (m : Pool)
+    (o : Outcome) : Type 0 where
   pub arena : o .pool .arena ≡ m .arena
   pub table : o .pool .table ≡ m .table
   pub index : o .pool .index ≡ m .index
+  pub head : accepted (o .answer) ≡ true → (isFormat c ≡ false) × (o .pool .head ≡ m .head)
   pub buffers : accepted (o .answer) ≡ false → o .buffers ≡ buffersOf c
   pub right : RightAll start b s (o .counted)
   pub standing : afterActs start b s (o .counted) ≡ s
@@ -82,6 +95,7 @@ module _ (E : Engine) (start : Ledger) (b : Brings) (s : Standing) (w : b .whole
     arena = refl;
     table = refl;
     index = refl;
+    head = λ h. absurd (false≢true (sym z ∙ h));
     buffers = λ _. refl;
     right = (right c, tt);
     standing = still c;
@@ -103,14 +117,16 @@ module _ (E : Engine) (start : Ledger) (b : Brings) (s : Standing) (w : b .whole
       still (look r hold) = refl
       still (list rs bs) = refl
 
-  stray-performed : (c : Call Words) → standAll start b s (perform E c m .counted) ≡ true → StrayCall E start b s c m (perform E c m)
+  stray-performed : (c : Call Words) → isFormat c ≡ false → standAll start b s (perform E c m .counted) ≡ true
+      → StrayCall E start b s c m (perform E c m)
   unfolding perform
-  stray-performed c h =
+  stray-performed c f h =
       let a = stray-acts E start b s w m unknown (actsOf c) h in
       record {
         arena = ap (λ (z : Pool). z .arena) (a .kept);
         table = ap (λ (z : Pool). z .table) (a .kept);
         index = ap (λ (z : Pool). z .index) (a .kept);
+        head = λ _. (f, ap (λ (z : Pool). z .head) (a .kept));
         buffers = own-buffers c (countedOf E m (actsOf c));
         right = a .right;
         standing = a .standing;
@@ -120,22 +136,33 @@ module _ (E : Engine) (start : Ledger) (b : Brings) (s : Standing) (w : b .whole
   unfolding formatted stands afterAct
   stray-format h = go (lengths E m) h
     where
-      go : (x : Bool) → standAll start b s (cond x (formatDone E m) (formatRefused E m) .counted) ≡ true → StrayCall E start b s format m (cond x (formatDone E m) (formatRefused E m))
+      go : (x : Bool) → standAll start b s (cond x (formatDone E m) (formatRefused E m) .counted) ≡ true
+          → StrayCall E start b s format m (cond x (formatDone E m) (formatRefused E m))
       go true h = absurd (false≢true h)
-      go false h = record { arena = refl; table = refl; index = refl; buffers = λ _. refl; right = (tt, tt); standing = refl }
+      go false h = record {
+        arena = refl;
+        table = refl;
+        index = refl;
+        head = λ k. absurd (false≢true k);
+        buffers = λ _. refl;
+        right = (tt, tt);
+        standing = refl;
+      }
 
-  by-way : (c : Call Words) (o : Outcome) → Way E c m o → standAll start b s (o .counted) ≡ true → StrayCall E start b s c m o
-  by-way c o (eight x e) h = subst (λ (z : Outcome). StrayCall E start b s c m z) (sym e) (stray-whole c 8 refl)
-  by-way c o (one x y e) h = subst (λ (z : Outcome). StrayCall E start b s c m z) (sym e) (stray-whole c 1 refl)
-  by-way c o (runs x y e) h =
+  by-way : (c : Call Words) → isFormat c ≡ false → (o : Outcome) → Way E c m o
+      → standAll start b s (o .counted) ≡ true → StrayCall E start b s c m o
+  by-way c f o (eight x e) h = subst (λ (z : Outcome). StrayCall E start b s c m z) (sym e) (stray-whole c 8 refl)
+  by-way c f o (one x y e) h = subst (λ (z : Outcome). StrayCall E start b s c m z) (sym e) (stray-whole c 1 refl)
+  by-way c f o (runs x y e) h =
       subst (λ (z : Outcome). StrayCall E start b s c m z) (sym e)
-      (stray-performed c (subst (λ (z : Outcome). standAll start b s (z .counted) ≡ true) e h))
+      (stray-performed c f (subst (λ (z : Outcome). standAll start b s (z .counted) ≡ true) e h))
 
-  pub stray-step : (c : Call Words) → standAll start b s (step E c m .counted) ≡ true → StrayCall E start b s c m (step E c m)
+  pub stray-step : (c : Call Words) → standAll start b s (step E c m .counted) ≡ true
+      → StrayCall E start b s c m (step E c m)
   unfolding step
   stray-step format h = stray-format h
-  stray-step (allocate n) h = by-way (allocate n) (step E (allocate n) m) (way E (allocate n) m refl) h
-  stray-step (release r) h = by-way (release r) (step E (release r) m) (way E (release r) m refl) h
-  stray-step (find r) h = by-way (find r) (step E (find r) m) (way E (find r) m refl) h
-  stray-step (look r hold) h = by-way (look r hold) (step E (look r hold) m) (way E (look r hold) m refl) h
-  stray-step (list rs bs) h = by-way (list rs bs) (step E (list rs bs) m) (way E (list rs bs) m refl) h
+  stray-step (allocate n) h = by-way (allocate n) refl (step E (allocate n) m) (way E (allocate n) m refl) h
+  stray-step (release r) h = by-way (release r) refl (step E (release r) m) (way E (release r) m refl) h
+  stray-step (find r) h = by-way (find r) refl (step E (find r) m) (way E (find r) m refl) h
+  stray-step (look r hold) h = by-way (look r hold) refl (step E (look r hold) m) (way E (look r hold) m refl) h
+  stray-step (list rs bs) h = by-way (list rs bs) refl (step E (list rs bs) m) (way E (list rs bs) m refl) h

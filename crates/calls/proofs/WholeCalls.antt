@@ -12,10 +12,14 @@ use Rattle.ledger.specs.Records.{Ledger, recordOf, Plan, vacate, Member, member
 use Rattle.ledger.proofs.RecordLaws.{record-gone, record-kept}
 use Rattle.calls.specs.declared.Answer.{Answer}
 use Rattle.calls.specs.Pool.{Pool, ledger, Engine, Laws, store, sound}
-use Rattle.calls.specs.Step.{Call, granted, accepted, Act, ask, give, query, bad, Counted, Outcome, named, answerTo, poolAfter, countedOf, poolAfterAll, actsOf, buffersOf, suits, perform, formatted, refusedWhole, step, format, allocate, release, find, look, list}
-use Rattle.calls.specs.Demand1.{isFormat}
-use Rattle.calls.specs.Demand3.{Brings, Standing, remove, live, isDue, isReplay, stands, Right, afterAct, standAll, RightAll, afterActs}
-use Rattle.calls.proofs.StoreLaws.{ledger-store, settled-sound, sound-lengths, settled, settled-more, sound-stored}
+use Rattle.calls.specs.Step.{Call, granted, accepted, Act, ask, give, query, bad, Counted, Outcome, named}
+use Rattle.calls.specs.Step.{answerTo, poolAfter, countedOf, poolAfterAll, actsOf, buffersOf, suits, perform}
+use Rattle.calls.specs.Step.{formatted, refusedWhole, step, format, allocate, release, find, look, list}
+use Rattle.calls.specs.Step.{isFormat}
+use Rattle.calls.specs.Demand3.{Brings, Standing, remove, live, isDue, isReplay, stands, Right, afterAct}
+use Rattle.calls.specs.Demand3.{standAll, RightAll, afterActs}
+use Rattle.calls.proofs.StoreLaws.{ledger-store, settled-sound, sound-lengths, settled, settled-more}
+use Rattle.calls.proofs.StoreLaws.{sound-stored}
 use Rattle.calls.proofs.ActLaws.{give-done, one, named-zero, way, Way, eight, runs}
 use Rattle.calls.proofs.Standing.{Inv, inv-carried, given, stays, NotDue}
 use Rattle.calls.proofs.CallLaws.{act-kept, give-six, own-refused, own-buffers, unsuited-whole, query-kept}
@@ -40,7 +44,10 @@ module _ (start : Ledger) (s : Standing) (r : Row) (d : isDue start all-own s r 
   due-live h = rw (named-zero start r due-named, h)
 
   pub due-after : (x : Answer) → accepted x ≡ true
-      → afterAct start all-own s (given (give r) x) ≡ record { due = remove (r .ticket) (s .due); spent = r .ticket ∷ s .spent }
+      → afterAct start all-own s (given (give r) x) ≡ record {
+        due = remove (r .ticket) (s .due);
+        spent = r .ticket ∷ s .spent;
+      }
   unfolding afterAct
   due-after x h = rw (d, h)
 
@@ -78,7 +85,8 @@ module _ (E : Engine) (laws : Laws E) (p : Pool) (ok : sound E p ≡ true) (ms :
             absurd (true≢false (sym (rw (y, a)) ∙ h))
 
     -- an act that is refused and is no release of the set
-    refused-act : (a : Act) → NotDue (ledger p) all-own s a → accepted (answerTo E q a) ≡ false → Right (ledger p) all-own s (given a (answerTo E q a)) → Acted s q a
+    refused-act : (a : Act) → NotDue (ledger p) all-own s a → accepted (answerTo E q a) ≡ false
+        → Right (ledger p) all-own s (given a (answerTo E q a)) → Acted s q a
     refused-act a d f r = record {
       past = past;
       pool = act-kept E q a f ∙ e;
@@ -90,9 +98,11 @@ module _ (E : Engine) (laws : Laws E) (p : Pool) (ok : sound E p ≡ true) (ms :
     pub due-act : (r : Row) → isDue (ledger p) all-own s r ≡ true → Acted s q (give r)
     due-act r d = record {
       past = member (r .ticket) vacate ∷ past;
-      pool = did .1 ∙ ap (λ (z : Pool). store E (settle (member (r .ticket) vacate ∷ []) (ledger z)) (z .head .next) z) e
+      pool = did .1 ∙ ap (λ (z : Pool). store E (settle (member (r .ticket) vacate ∷ []) (ledger z))
+          (z .head .next) z) e
           ∙ settled-more E p (member (r .ticket) vacate) past;
-      inv = subst (λ (z : Standing). Inv ms z (member (r .ticket) vacate ∷ past)) (sym moved) (inv-carried ms past s (r .ticket) v has);
+      inv = subst (λ (z : Standing). Inv ms z (member (r .ticket) vacate ∷ past)) (sym moved)
+          (inv-carried ms past s (r .ticket) v has);
       right = record {
         accepts = λ _. did .0;
         refuses = λ k. absurd (true≢false (sym k ∙ no-replay));
@@ -116,10 +126,14 @@ module _ (E : Engine) (laws : Laws E) (p : Pool) (ok : sound E p ≡ true) (ms :
         no-replay : isReplay (ledger p) all-own s r ≡ false
         no-replay = due-live (ledger p) s r d (v .spent (r .ticket) ∙ ap (λ (o : Option Plan). isSome o) untouched)
 
-        moved : afterAct (ledger p) all-own s (given (give r) (answerTo E q (give r))) ≡ record { due = remove (r .ticket) (s .due); spent = r .ticket ∷ s .spent }
+        moved : afterAct (ledger p) all-own s (given (give r) (answerTo E q (give r))) ≡ record {
+          due = remove (r .ticket) (s .due);
+          spent = r .ticket ∷ s .spent;
+        }
         moved = due-after (ledger p) s r d (answerTo E q (give r)) (ap accepted (did .0))
 
-    replay-act : (r : Row) → isDue (ledger p) all-own s r ≡ false → isReplay (ledger p) all-own s r ≡ true → Acted s q (give r)
+    replay-act : (r : Row) → isDue (ledger p) all-own s r ≡ false → isReplay (ledger p) all-own s r ≡ true
+        → Acted s q (give r)
     unfolding isReplay
     replay-act r d h =
         let six = give-six E q r (not-there (r .ticket) (not-true (live (ledger p) (s .spent) (r .ticket)) h)) in
@@ -130,7 +144,11 @@ module _ (E : Engine) (laws : Laws E) (p : Pool) (ok : sound E p ≡ true) (ms :
         → accepted (answerTo E q (give r)) ≡ false → Acted s q (give r)
     other-give r d h f =
         refused-act (give r) d f
-        (record { accepts = λ k. absurd (true≢false (sym k ∙ d)); refuses = λ k. absurd (true≢false (sym k ∙ h)); six = λ k _. absurd (true≢false (sym k ∙ h)) })
+        (record {
+          accepts = λ k. absurd (true≢false (sym k ∙ d));
+          refuses = λ k. absurd (true≢false (sym k ∙ h));
+          six = λ k _. absurd (true≢false (sym k ∙ h));
+        })
 
     act-at : (a : Act) → stands (ledger p) all-own s (given a (answerTo E q a)) ≡ true → Acted s q a
     unfolding stands afterAct
@@ -140,7 +158,8 @@ module _ (E : Engine) (laws : Laws E) (p : Pool) (ok : sound E p ≡ true) (ms :
     act-at (give r) h = go (isDue (ledger p) all-own s r) refl (isReplay (ledger p) all-own s r) refl h
       where
         go : (b : Bool) → isDue (ledger p) all-own s r ≡ b → (c : Bool) → isReplay (ledger p) all-own s r ≡ c
-            → (isDue (ledger p) all-own s r || isReplay (ledger p) all-own s r || not (accepted (answerTo E q (give r)))) ≡ true → Acted s q (give r)
+            → (isDue (ledger p) all-own s r || isReplay (ledger p) all-own s r
+            || not (accepted (answerTo E q (give r)))) ≡ true → Acted s q (give r)
         go true d c x h = due-act r d
         go false d true x h = replay-act r d x
         go false d false x h = other-give r d x (not-true (accepted (answerTo E q (give r))) (rw (d, x) at h))
@@ -151,9 +170,11 @@ module _ (E : Engine) (laws : Laws E) (p : Pool) (ok : sound E p ≡ true) (ms :
   acts-at (a ∷ more) s past q e v h =
       let c = given a (answerTo E q a) in
       let later = countedOf E (poolAfter E q a) more in
-      let one = act-at s past q e v a (and-l (stands (ledger p) all-own s c) (standAll (ledger p) all-own (afterAct (ledger p) all-own s c) later) h) in
+      let one = act-at s past q e v a (and-l (stands (ledger p) all-own s c)
+      (standAll (ledger p) all-own (afterAct (ledger p) all-own s c) later) h) in
       let rest = acts-at more (afterAct (ledger p) all-own s c) (one .past) (poolAfter E q a) (one .pool) (one .inv)
-      (and-r (stands (ledger p) all-own s c) (standAll (ledger p) all-own (afterAct (ledger p) all-own s c) later) h) in
+      (and-r (stands (ledger p) all-own s c)
+      (standAll (ledger p) all-own (afterAct (ledger p) all-own s c) later) h) in
       record { past = rest .past; pool = rest .pool; inv = rest .inv; right = (one .right, rest .right) }
 
 -- ---- the calls
@@ -182,13 +203,15 @@ module _ (E : Engine) (laws : Laws E) (p : Pool) (ok : sound E p ≡ true) (ms :
     whole-unsuited c u = record {
       past = past;
       pool = e;
-      inv = subst (λ (k : Counted). Inv ms (afterActs (ledger p) all-own s (k ∷ [])) past) (sym (unsuited-whole c 8 u)) v;
+      inv = subst (λ (k : Counted). Inv ms (afterActs (ledger p) all-own s (k ∷ [])) past)
+          (sym (unsuited-whole c 8 u)) v;
       right = subst (λ (k : Counted). RightAll (ledger p) all-own s (k ∷ [])) (sym (unsuited-whole c 8 u)) (tt, tt);
       kept = λ _. refl;
       buffers = λ _. refl;
     }
 
-    whole-performed : (c : Call Words) → isFormat c ≡ false → standAll (ledger p) all-own s (perform E c q .counted) ≡ true
+    whole-performed : (c : Call Words) → isFormat c ≡ false
+        → standAll (ledger p) all-own s (perform E c q .counted) ≡ true
         → WholeCall s q c (perform E c q)
     unfolding perform
     whole-performed c n h =
@@ -202,7 +225,8 @@ module _ (E : Engine) (laws : Laws E) (p : Pool) (ok : sound E p ≡ true) (ms :
           buffers = own-buffers c (countedOf E q (actsOf c));
         }
 
-    by-way : (c : Call Words) → isFormat c ≡ false → (o : Outcome) → Way E c q o → standAll (ledger p) all-own s (o .counted) ≡ true
+    by-way : (c : Call Words) → isFormat c ≡ false → (o : Outcome) → Way E c q o
+        → standAll (ledger p) all-own s (o .counted) ≡ true
         → WholeCall s q c o
     unfolding sound
     by-way c f o (eight x e) h =
@@ -213,7 +237,8 @@ module _ (E : Engine) (laws : Laws E) (p : Pool) (ok : sound E p ≡ true) (ms :
         subst (λ (z : Outcome). WholeCall s q c z) (sym e)
         (whole-performed c f (subst (λ (z : Outcome). standAll (ledger p) all-own s (z .counted) ≡ true) e h))
 
-    pub whole-step : (c : Call Words) → standAll (ledger p) all-own s (step E c q .counted) ≡ true → WholeCall s q c (step E c q)
+    pub whole-step : (c : Call Words) → standAll (ledger p) all-own s (step E c q .counted) ≡ true
+        → WholeCall s q c (step E c q)
     unfolding step
     whole-step format h = absurd (no-format h)
     whole-step (allocate n) h = by-way (allocate n) refl (step E (allocate n) q) (way E (allocate n) q refl) h

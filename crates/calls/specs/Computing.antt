@@ -1,5 +1,5 @@
--- What a test opens that computes the machine: `unfolding treeMachine` or `unfolding segmentMachine` opens every definition below
--- it. Assumes nothing.
+-- What a test opens that computes the machine: `unfolding treeMachine` or `unfolding segmentMachine` opens every
+-- definition below it. Assumes nothing.
 use Rattle.words.specs.Places.{wiped}
 use Rattle.ledger.specs.Records.{recordsOf}
 use Rattle.ledger.specs.Units.{span, addressAt, first, past, fits, apart, valid, covers, free, owns, owned, lowestFit}
@@ -7,10 +7,11 @@ use Rattle.ledger.specs.Runs.{freeRuns}
 use Rattle.stored_forms.specs.Tree.{formOne, treeRange, freeTree}
 use Rattle.stored_forms.specs.Segments.{controlWord, segmentWord, segmentSize, indexWord, segmentIndex, segmentRange}
 use Rattle.calls.specs.Pool.{store, samePool, lengths, stored, sound}
-use Rattle.calls.specs.Step.{named, fitOf, numberOf, grant, answerOf, poolOf, answerTo, poolAfter, perform, checked}
+use Rattle.calls.specs.Step.{named, fitOf, numberOf, grant, answerOf, poolOf, answerTo, poolAfter, perform}
+use Rattle.calls.specs.Step.{checked}
 use Rattle.calls.specs.Step.{formatted, step}
 use Rattle.calls.specs.Engines.{treeEngineOf, treeEngine, segmentEngine}
-use Rattle.calls.specs.Lent.{isWhole, ownTable, outcome, after}
+use Rattle.calls.specs.Lent.{isWhole, ownTable, headReturns, outcome, after}
 use Rattle.calls.specs.Demand3.{live, isDue, isReplay, stands, afterAct}
 
 unfoldable pub ledgerOpened : Unit {0}
@@ -18,11 +19,12 @@ unfolding wiped recordsOf span addressAt first past fits apart valid covers free
 ledgerOpened = tt
 
 unfoldable pub stepOpened : Unit {0}
-unfolding store samePool lengths stored sound named fitOf numberOf grant answerOf poolOf answerTo poolAfter perform checked formatted step
+unfolding store samePool lengths stored sound named fitOf numberOf grant answerOf poolOf answerTo poolAfter perform
+    checked formatted step
 stepOpened = tt
 
 unfoldable pub sequenceOpened : Unit {0}
-unfolding isWhole ownTable outcome after live isDue isReplay stands afterAct
+unfolding isWhole ownTable headReturns outcome after live isDue isReplay stands afterAct
 sequenceOpened = tt
 
 unfoldable pub treeMachine : Unit {0}
@@ -30,5 +32,6 @@ unfolding ledgerOpened stepOpened sequenceOpened formOne treeRange freeTree tree
 treeMachine = tt
 
 unfoldable pub segmentMachine : Unit {0}
-unfolding ledgerOpened stepOpened sequenceOpened controlWord segmentWord segmentSize indexWord segmentIndex segmentRange segmentEngine
+unfolding ledgerOpened stepOpened sequenceOpened controlWord segmentWord segmentSize indexWord segmentIndex
+    segmentRange segmentEngine
 segmentMachine = tt

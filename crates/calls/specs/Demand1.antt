@@ -1,17 +1,23 @@
--- Demand 1: any call on any memory gets the number that the table of 01 fixes, and a refused call leaves every word as it stood.
--- Proved in proofs/Demand1. Assumes nothing.
-use Prim.Native.Nat.{ℕ, _+_, _/_, _≤_, _<_}
+-- Demand 1: any call on any memory gets the number that the table of 01 fixes, and a refused call leaves every word
+-- as it stood. 01, "Calls and numbers". Proved in proofs/Demand1; what row 8 says of each engine's lengths is in
+-- proofs/Engines. That a call ends, and stays inside what was lent, is shown elsewhere: `step` is a function on any
+-- memory, and the code's own proofs (the gate) show that every call of the code ends and stays inside.
+-- Assumes nothing.
+use Prim.Native.Nat.{ℕ, _+_, _/_, _%_, _≤_, _<_}
 use mathlib.Core.Path.{_≡_}
 use mathlib.Core.Logic.{_≢_, _↔_, _⊎_}
-use mathlib.Core.Bool.{Bool, true, false, _&&_}
-use mathlib.Core.List.{List, [], _∷_}
+use mathlib.Core.Bool.{true, false, _&&_}
+use lib.ListN.{length}
 use Rattle.words.specs.Lists.{Words}
 use Rattle.ledger.specs.declared.Row.{Row}
-use Rattle.ledger.specs.Records.{slots, recordAt, isEmpty}
+use Rattle.ledger.specs.Records.{row, slots, recordAt, isEmpty}
 use Rattle.ledger.specs.Units.{span, free}
-use Rattle.calls.specs.declared.Answer.{Answer}
 use Rattle.calls.specs.Pool.{Head, Pool, ledger, wordCount, Engine, ruleOf, lengths, sound, StoredForm}
-use Rattle.calls.specs.Step.{Call, format, allocate, release, find, look, list, refusal, accepted, Slice, Act, ask, give, query, bad, Outcome, countedOf, poolAfterAll, answerTo, poolAfter, actsOf, buffersOf, suits, ownAnswer, sliceOf, buffersAfter, zeroHead, step}
+pub use Rattle.calls.specs.Step.{isFormat}
+use Rattle.calls.specs.Step.{Call, format, allocate, release, find, look, list, refusal, accepted, arenaPart}
+use Rattle.calls.specs.Step.{placeholder, Act, ask, give, query, bad, Outcome, request, listSuits, countedOf}
+use Rattle.calls.specs.Step.{poolAfterAll, answerTo, poolAfter, actsOf, buffersOf, suits, ownAnswer, sliceOf}
+use Rattle.calls.specs.Step.{buffersAfter, zeroHead, step}
 
 -- ---- the rows of the table, each said of the records, units and words themselves
 
@@ -84,22 +90,20 @@ pub record Refused (E : Engine) (c : Call Words) (p : Pool) (o : Outcome) : Type
   -- look hands back the placeholder
   pub shown : o .shown ≡ sliceOf c (refusal (o .answer .number))
 
-abbrev pub isFormat : Call Words → Bool
-isFormat format = true
-isFormat (allocate n) = false
-isFormat (release r) = false
-isFormat (find r) = false
-isFormat (look r hold) = false
-isFormat (list rs bs) = false
-
--- a call on a sound pool and lengths that suit does its acts, one after another: each act's answer is `answerTo` on the pool
--- as the one before left it
+-- a call on a sound pool and lengths that suit does its acts, one after another: each act's answer is `answerTo` on
+-- the pool as the one before left it
 pub record Performed (E : Engine) (c : Call Words) (p : Pool) (o : Outcome) : Type 0 where
   pub counted : o .counted ≡ countedOf E p (actsOf c)
   pub pool : o .pool ≡ poolAfterAll E p (actsOf c)
   pub answer : o .answer ≡ ownAnswer c (o .counted)
   pub shown : o .shown ≡ sliceOf c (o .answer)
   pub buffers : o .buffers ≡ buffersAfter c (o .counted)
+
+-- Row 9: "1, words, 0, 0 to allocate; 2, ticket, address, words to release"; every other four words are a bad request.
+pub record Kinds : Type 0 where
+  pub asks : (n : ℕ) → request 1 n 0 0 ≡ ask n
+  pub gives : (t a w : ℕ) → request 2 t a w ≡ give (row t a w)
+  pub others : (k x y z : ℕ) → ((k ≡ 1) × (y ≡ 0) × (z ≡ 0) → ⊥) → (k ≡ 2 → ⊥) → request k x y z ≡ bad
 
 -- ---- the demand
 
@@ -114,5 +118,20 @@ pub record Demand1 (E : Engine) : Type 0 where
       ↔ ((isFormat c ≡ false) × ((lengths E p && suits c) ≡ true) × (StoredForm E p → ⊥))
   pub formats : (p : Pool) → lengths E p ≡ true → step E format p .answer .number ≡ 0
   -- else the call does its acts, and every act's number is the one whose row holds
-  pub performed : (c : Call Words) (p : Pool) → isFormat c ≡ false → suits c ≡ true → sound E p ≡ true → Performed E c p (step E c p)
+  pub performed : (c : Call Words) (p : Pool) → isFormat c ≡ false → suits c ≡ true → sound E p ≡ true
+      → Performed E c p (step E c p)
   pub numbers : (p : Pool) (a : Act) → sound E p ≡ true → ActNumbers E p a (answerTo E p a .number)
+  -- Find and look change nothing. Look's number is find's; it hands back "the part of the arena that begins at the
+  -- named record's address and has exactly its words asked, or, the caller's own placeholder slice, whole, when find
+  -- would refuse".
+  pub looks : (p : Pool) (r : Row) (hold : Words)
+      → (step E (look r hold) p .answer ≡ step E (find r) p .answer)
+      × (step E (look r hold) p .pool ≡ p)
+      × (accepted (step E (find r) p .answer) ≡ true
+      → step E (look r hold) p .shown ≡ arenaPart (r .address) (r .words))
+      × (accepted (step E (find r) p .answer) ≡ false → step E (look r hold) p .shown ≡ placeholder)
+  -- lists: 9 by the four words of a request; 8 by "a multiple of four long", 0 to 1,024 requests, and the answer
+  -- buffer at least as long
+  pub kinds : Kinds
+  pub listLengths : (rs bs : Words)
+      → (listSuits rs bs ≡ true) ↔ ((length rs % 4 ≡ 0) × (length rs ≤ 4096) × (length rs ≤ length bs))

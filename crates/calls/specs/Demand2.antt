@@ -1,20 +1,22 @@
--- Demand 2: exactly first fit, on any sound pool. Proved in proofs/Demand2. Assumes nothing.
+-- Demand 2: exactly first fit, on any sound pool. 01, "The ledger": "Allocation takes the lowest starting unit from
+-- which enough units are free, from the low end of the run. The new record goes into the lowest empty slot.";
+-- "Release removes the record."; "Words of held blocks, the odd spare word of a tree block included, are never
+-- touched by a call on another ticket or by a refused call." Proved in proofs/Demand2. Assumes nothing.
 use Prim.Native.Nat.{ℕ, _+_, _*_, _/_, _≤_, _<_}
 use mathlib.Core.Path.{_≡_}
-use mathlib.Core.Logic.{_≢_}
-use mathlib.Core.Bool.{Bool, true, false, cond, not, _&&_, _||_}
+use mathlib.Core.Bool.{true, false, not, _&&_, _||_}
 use mathlib.Core.List.{List, [], _∷_}
-use mathlib.Core.Option.{Option, some}
+use mathlib.Core.Option.{some}
 use lib.ListN.{getD}
-use Rattle.words.specs.Lists.{Words, all}
-use Rattle.words.specs.Counted.{every}
+use Rattle.words.specs.Lists.{Words}
 use Rattle.ledger.specs.declared.Row.{Row}
-use Rattle.ledger.specs.Records.{Ledger, recordOf, enter, vacate, member, settle}
+use Rattle.ledger.specs.Records.{recordOf, enter, vacate, member, settle}
 use Rattle.ledger.specs.Units.{span, first, past, covers, free}
 use Rattle.ledger.specs.Runs.{AreRuns, freeRuns}
 use Rattle.calls.specs.Pool.{Pool, ledger, wordCount, Engine, firstTicket, nextAfter, ruleOf, sound}
-use Rattle.calls.specs.Step.{Call, format, granted, refusal, accepted, Act, ask, give, query, bad, newRow, answerTo, poolAfter, actsOf, blank, step}
-use Rattle.calls.specs.Demand1.{BadSize, NoRecord, NoTicket, NoRoom, isFormat}
+use Rattle.calls.specs.Step.{Call, format, granted, done, refusal, accepted, Act, ask, give, query, bad, newRow}
+use Rattle.calls.specs.Step.{answerTo, poolAfter, actsOf, isFormat, blank, step}
+use Rattle.calls.specs.Demand1.{BadSize, NoRecord, NoTicket, NoRoom}
 
 -- unit k is the lowest from which the units for n words are free
 pub record LowestFit (E : Engine) (p : Pool) (n k : ℕ) : Type 0 where
@@ -23,8 +25,8 @@ pub record LowestFit (E : Engine) (p : Pool) (n k : ℕ) : Type 0 where
   pub lowest : (j : ℕ) → j < k
       → ((u : ℕ) × (j ≤ u) × (u < j + span (ruleOf E p) n) × (free (ruleOf E p) (ledger p) u ≡ false))
 
--- The grant at unit k: the answer, the record in the lowest empty slot, the next ticket, and exactly its units no longer free; the
--- words from its address to the end of its last unit, spare words included, read zero.
+-- The grant at unit k: the answer, the record in the lowest empty slot, the next ticket, and exactly its units no
+-- longer free; the words from its address to the end of its last unit, spare words included, read zero.
 pub record Granted (E : Engine) (p : Pool) (n k : ℕ) : Type 0 where
   pub answer : answerTo E p (ask n) ≡ granted (newRow E p n k)
   pub holds : ledger (poolAfter E p (ask n)) ≡ enter (newRow E p n k) (ledger p)
@@ -34,7 +36,8 @@ pub record Granted (E : Engine) (p : Pool) (n k : ℕ) : Type 0 where
   pub zeros : (i : ℕ) → newRow E p n k .address ≤ i → i < ruleOf E p .unit * past (ruleOf E p) (newRow E p n k)
       → getD (poolAfter E p (ask n) .arena) i 0 ≡ 0
 
--- The release of the live record r: its slot is empty, the others' stay, the next ticket stays, and exactly its units become free.
+-- The release of the live record r: its slot is empty, the others' stay, the next ticket stays, and exactly its units
+-- become free.
 pub record Released (E : Engine) (p : Pool) (r : Row) : Type 0 where
   pub answer : answerTo E p (give r) ≡ granted r
   pub holds : ledger (poolAfter E p (give r)) ≡ settle (member (r .ticket) vacate ∷ []) (ledger p)
@@ -42,10 +45,11 @@ pub record Released (E : Engine) (p : Pool) (r : Row) : Type 0 where
   pub units : (u : ℕ) → free (ruleOf E p) (ledger (poolAfter E p (give r))) u
       ≡ (free (ruleOf E p) (ledger p) u || covers (ruleOf E p) u r)
 
--- an act on the ticket of r: its release
+-- The release of exactly r. One that names r's ticket with another address or other words is refused, and r's words
+-- stay.
 abbrev pub Names : Row → Act → Type 0
 Names r (ask n) = ⊥
-Names r (give s) = s .ticket ≡ r .ticket
+Names r (give s) = s ≡ r
 Names r (query s) = ⊥
 Names r bad = ⊥
 
@@ -59,8 +63,14 @@ pub record Untouched (E : Engine) (p q : Pool) (r : Row) : Type 0 where
   pub words : (i : ℕ) → ruleOf E p .unit * first (ruleOf E p) r ≤ i → i < ruleOf E p .unit * past (ruleOf E p) r
       → getD (q .arena) i 0 ≡ getD (p .arena) i 0
 
+-- sound now, and after each of some acts
+abbrev pub Throughout : Engine → Pool → List Act → Type 0
+Throughout E p [] = sound E p ≡ true
+Throughout E p (a ∷ more) = (sound E p ≡ true) × Throughout E (poolAfter E p a) more
+
 pub record Demand2 (E : Engine) : Type 0 where
-  -- if the size is good and a record and a ticket are left, the grant is at the lowest fit, and there is one unless there is no room
+  -- if the size is good and a record and a ticket are left, the grant is at the lowest fit, and there is one unless
+  -- there is no room
   pub grants : (p : Pool) → sound E p ≡ true → (n : ℕ) → (BadSize E p n → ⊥) → (NoRecord p → ⊥) → (NoTicket p → ⊥)
       → (k : ℕ) → LowestFit E p n k → Granted E p n k
   pub fit : (p : Pool) (n : ℕ) → (NoRoom E p n → ⊥) → ((k : ℕ) × LowestFit E p n k)
@@ -69,18 +79,27 @@ pub record Demand2 (E : Engine) : Type 0 where
       → NoRoom E p n → answerTo E p (ask n) ≡ refusal 5
   -- a release is accepted exactly if it names a live record's ticket, address and words
   pub releases : (p : Pool) → sound E p ≡ true → (r : Row) → recordOf (r .ticket) (ledger p) ≡ some r → Released E p r
-  pub others : (p : Pool) (r : Row) → (recordOf (r .ticket) (ledger p) ≡ some r → ⊥) → accepted (answerTo E p (give r)) ≡ false
+  pub others : (p : Pool) (r : Row) → (recordOf (r .ticket) (ledger p) ≡ some r → ⊥)
+      → accepted (answerTo E p (give r)) ≡ false
+  -- find echoes the three of a live record, and changes nothing
+  pub finds : (p : Pool) → sound E p ≡ true → (r : Row) → recordOf (r .ticket) (ledger p) ≡ some r
+      → (answerTo E p (query r) ≡ granted r) × (poolAfter E p (query r) ≡ p)
   -- what is stored after every act is the stored form of the ledger, whose free runs are the longest possible
   pub stays : (p : Pool) (a : Act) → sound E p ≡ true → sound E (poolAfter E p a) ≡ true
-  -- a formatted pool is sound, has no record, and its next ticket is 1
+  -- every act of a call is answered on a sound pool: a list's requests too
+  pub throughout : (p : Pool) (c : Call Words) → sound E p ≡ true → Throughout E p (actsOf c)
+  -- a formatted pool is sound, has no record, and its next ticket is 1; the answer is 0 and zeros
   pub formats : (p : Pool) → accepted (step E format p .answer) ≡ true
       → (sound E (step E format p .pool) ≡ true)
       × (ledger (step E format p .pool) ≡ blank E p)
       × (step E format p .pool .head .next ≡ firstTicket)
-  -- no act changes the arena's length
-  pub keeps : (p : Pool) (a : Act) → wordCount (poolAfter E p a) ≡ wordCount p
-  pub merged : (p : Pool) → AreRuns (free (ruleOf E p) (ledger p)) (wordCount p / ruleOf E p .unit) (freeRuns (ruleOf E p) (wordCount p) (ledger p))
-  -- words of held blocks: an act on another ticket, and a call none of whose acts names the ticket, leave them
+      × (step E format p .answer ≡ done)
+  -- no act changes the arena's length or S
+  pub keeps : (p : Pool) (a : Act) → (wordCount (poolAfter E p a) ≡ wordCount p) × (poolAfter E p a .shape ≡ p .shape)
+  pub merged : (p : Pool)
+      → AreRuns (free (ruleOf E p) (ledger p)) (wordCount p / ruleOf E p .unit)
+      (freeRuns (ruleOf E p) (wordCount p) (ledger p))
+  -- words of held blocks: an act that is not the block's release, and a call none of whose acts is, leave them
   pub spares : (p : Pool) (a : Act) → sound E p ≡ true → (r : Row) → recordOf (r .ticket) (ledger p) ≡ some r
       → (Names r a → ⊥) → Untouched E p (poolAfter E p a) r
   pub sparesCall : (p : Pool) (c : Call Words) → sound E p ≡ true → isFormat c ≡ false → (r : Row)

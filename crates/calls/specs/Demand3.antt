@@ -1,10 +1,10 @@
--- Demand 3: order makes no difference. One claim over whole sequences of calls, for any engine; 01, "Demand 3 is one single claim ..".
--- Proved in proofs/Demand3. Assumes nothing.
+-- Demand 3: order makes no difference. One claim over whole sequences of calls, for any engine; 01, "Demand 3 is one
+-- single claim ..". Proved in proofs/Demand3. Assumes nothing.
 use Prim.Native.Nat.{ℕ}
 use mathlib.Core.Path.{_≡_}
 use mathlib.Core.Bool.{Bool, true, false, cond, not, _&&_, _||_}
 use mathlib.Core.List.{List, [], _∷_, _++_}
-use mathlib.Core.Option.{Option, none, some}
+use mathlib.Core.Option.{none, some}
 use lib.Dec.{eqb}
 use lib.ListN.{length, getD, drop}
 use Rattle.words.specs.Lists.{Words, all, any, isSome}
@@ -13,8 +13,10 @@ use Rattle.ledger.specs.Records.{Ledger, recordOf, Member, planFor, settle}
 use Rattle.ledger.specs.Units.{owned}
 use Rattle.calls.specs.declared.Answer.{Answer}
 use Rattle.calls.specs.Pool.{Pool, ledger, Engine, ruleOf, store, sound}
-use Rattle.calls.specs.Step.{Call, list, granted, done, refusal, accepted, Act, ask, give, query, bad, Counted, Outcome, named, buffersOf, listSuits, answerWords, answersOf}
-use Rattle.calls.specs.Lent.{Lent, see, isOther, Event, isWhole, ownTable, outcome, after, Later, laterEnd, laterOutcomes}
+use Rattle.calls.specs.Step.{Call, list, granted, done, refusal, accepted, ask, give, query, bad, Counted}
+use Rattle.calls.specs.Step.{Outcome, named, buffersOf, listSuits, answerWords, answersOf}
+use Rattle.calls.specs.Lent.{Lent, see, isOther, Event, isWhole, ownTable, outcome, after, Later, laterEnd}
+use Rattle.calls.specs.Lent.{laterOutcomes}
 
 -- ---- one act of a sequence
 
@@ -23,7 +25,8 @@ pub record Brings : Type 0 where
   pub whole : Bool
   pub table : Bool
 
--- Where a sequence stands: the members of the set that are still to be released, and the tickets whose release was accepted.
+-- Where a sequence stands: the members of the set that are still to be released, and the tickets whose release was
+-- accepted.
 pub record Standing : Type 0 where
   pub due : List Member
   pub spent : Words
@@ -32,7 +35,8 @@ abbrev pub remove : ℕ → List Member → List Member
 remove t [] = []
 remove t (m ∷ ms) = cond (eqb (m .ticket) t) (remove t ms) (m ∷ remove t ms)
 
--- `start` is the ledger at the start. A ticket is live at a call if it has it and no release of it was accepted earlier.
+-- `start` is the ledger at the start. A ticket is live at a call if it has it and no release of it was accepted
+-- earlier.
 unfoldable pub live : Ledger → Words → ℕ → Bool
 live start spent t = isSome (recordOf t start) && not (any (eqb t) spent)
 
@@ -40,12 +44,13 @@ live start spent t = isSome (recordOf t start) && not (any (eqb t) spent)
 unfoldable pub isDue : Ledger → Brings → Standing → Row → Bool
 isDue start b s r = b .whole && isSome (planFor (r .ticket) (s .due)) && eqb (named start r) 0
 
--- a replay: a release whose ticket is not live there. It may bring any head, S, arena and index with the pool's own table.
+-- a replay: a release whose ticket is not live there. It may bring any head, S, arena and index with the pool's own
+-- table.
 unfoldable pub isReplay : Ledger → Brings → Standing → Row → Bool
 isReplay start b s r = b .table && not (live start (s .spent) (r .ticket))
 
--- What is assumed of an act and its answer: nothing of a release of the set, of a replay, and of a find or look that brings the pool
--- whole; every other act is refused.
+-- What is assumed of an act and its answer: nothing of a release of the set, of a replay, and of a find or look that
+-- brings the pool whole; every other act is refused.
 unfoldable pub stands : Ledger → Brings → Standing → Counted → Bool
 stands start b s c =
     elim (c .act) [
@@ -58,7 +63,8 @@ stands start b s c =
       ]
     ]
 
--- What is claimed: a release of the set is accepted, with its three echoed; a replay is refused, by 6 where it brings the pool whole.
+-- What is claimed: a release of the set is accepted, with its three echoed; a replay is refused, by 6 where it brings
+-- the pool whole.
 pub record RightRelease (start : Ledger) (b : Brings) (s : Standing) (r : Row) (x : Answer) : Type 0 where
   pub accepts : isDue start b s r ≡ true → x ≡ granted r
   pub refuses : isReplay start b s r ≡ true → accepted x ≡ false
@@ -114,8 +120,8 @@ brings q e = record { whole = isWhole q e; table = ownTable q e }
 abbrev pub elsewhere : Call Lent → Bool
 elsewhere c = all (all isOther) (buffersOf c)
 
--- A list call that brings the pool whole and suits its buffer runs: it answers 0 and zeros, and leaves its answers in the buffer,
--- whose words beyond the list stay.
+-- A list call that brings the pool whole and suits its buffer runs: it answers 0 and zeros, and leaves its answers in
+-- the buffer, whose words beyond the list stay.
 abbrev pub RightList : Pool → Call Lent → Outcome → Type 0
 RightList q (list rs bs) o =
     listSuits (see q rs) (see q bs) ≡ true
@@ -160,15 +166,17 @@ module _ (E : Engine) where
   pub record Claim (p : Pool) (ms : List Member) (es : List Event) : Type 0 where
     -- each release of the set is accepted, and each replay is refused
     pub answered : Answered E (ledger p) (atStart ms) p es
-    -- Every stored word at the end: the stored form of the start's ledger with the set's plans carried out, the others in their
-    -- slots, next ticket as it was.
+    -- Every stored word at the end: the stored form of the start's ledger with the set's plans carried out, the
+    -- others in their slots, next ticket as it was.
     pub form : endOf p es ≡ store E (settle ms (ledger p)) (p .head .next) p
     pub holds : ledger (endOf p es) ≡ settle ms (ledger p)
     pub isSound : sound E (endOf p es) ≡ true
     -- in blocks still held every word but a control word is as at the start
-    pub kept : (i : ℕ) → owned (ruleOf E p) (settle ms (ledger p)) i ≡ true → getD (endOf p es .arena) i 0 ≡ getD (p .arena) i 0
-    -- After another such sequence from this pool and this set every word is the same; and the same later calls, accepted ones too,
-    -- with the same writing by callers between them, get the same answers and leave the same words.
+    pub kept : (i : ℕ) → owned (ruleOf E p) (settle ms (ledger p)) i ≡ true
+        → getD (endOf p es .arena) i 0 ≡ getD (p .arena) i 0
+    -- After another such sequence from this pool and this set every word is the same; and the same later calls,
+    -- accepted ones too, with the same writing by callers between them, get the same answers and leave the same
+    -- words.
     pub same : (others : List Event) → Sequence p ms others → (ls : List Later)
         → (endOf p es ≡ endOf p others)
         × (laterOutcomes E (endOf p es) ls ≡ laterOutcomes E (endOf p others) ls)

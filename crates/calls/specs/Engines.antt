@@ -1,7 +1,7 @@
--- The two engines. Assumes nothing.
-use Prim.Native.Nat.{ℕ, _*_}
-use mathlib.Core.List.{List, [], _∷_}
-use Rattle.words.specs.Lists.{Words}
+-- The two engines, by what each stores. 01, "The pool and its two engines": "the tree pool (Stephenson, source
+-- document 000) and the segment pool (Brent, source document 001). Above both stands one ledger". Assumes nothing.
+use Prim.Native.Nat.{_*_}
+use mathlib.Core.List.{[], _∷_}
 use Rattle.stored_forms.specs.Tree.{Form, formOne, formRule, treeRange, freeTree, nodeWord, link}
 use Rattle.stored_forms.specs.Segments.{segmentRule, segmentRange, segmentWord, segmentIndex, mostWords}
 use Rattle.calls.specs.Pool.{Engine}

@@ -1,14 +1,17 @@
--- What a call brings: the pool whole, or any head, S and buffers, parts of the pool's own memory among them; and the pool after it.
--- Assumes nothing.
-use Prim.Native.Nat.{ℕ, zero, suc, _+_}
-use mathlib.Core.Bool.{Bool, true, false, cond, not, _&&_, _||_}
+-- What a call brings: the pool whole, or any head, S and buffers, parts of the pool's own memory among them; and the
+-- pool after it. 01, "Calls and numbers", demand 3: "Each call gets head, arena, table and, in the segment pool,
+-- index as the one before left them; format takes no head. A refused call may bring a wrong head, S, length or buffer
+-- instead; the pool keeps the head it had." Assumes nothing.
+use Prim.Native.Nat.{ℕ, _+_}
+use mathlib.Core.Bool.{Bool, true, false, cond, _&&_, _||_}
 use mathlib.Core.List.{List, [], _∷_, _++_}
 use mathlib.Core.Option.{Option, none, some}
 use lib.Dec.{eqb}
 use lib.ListN.{length, take, drop, set}
-use Rattle.words.specs.Lists.{Words, all, sameWords}
+use Rattle.words.specs.Lists.{Words, sameWords}
 use Rattle.calls.specs.Pool.{Head, Pool, Engine}
-use Rattle.calls.specs.Step.{Call, format, allocate, release, find, look, list, accepted, Outcome, buffersOf, step}
+use Rattle.calls.specs.Step.{Call, format, allocate, release, find, look, list, accepted, Outcome, buffersOf}
+use Rattle.calls.specs.Step.{isFormat, step}
 
 -- ---- lent buffers
 
@@ -59,7 +62,8 @@ leaveAll [] xs p = p
 leaveAll (l ∷ ls) [] p = p
 leaveAll (l ∷ ls) (x ∷ xs) p = leaveAll ls xs (leave l x p)
 
--- other memory alone; all of a part of the pool, whose words are x, and nothing else
+-- other memory alone; all of a part of the pool, whose words are x, and nothing else (a buffer with no piece is all of
+-- a part with no words, such as the tree pool's index)
 abbrev pub isOther : Piece → Bool
 isOther (own q f n) = false
 isOther (other x) = true
@@ -76,14 +80,15 @@ samePart inIndex inTable = false
 samePart inIndex inIndex = true
 
 abbrev pub isAllOf : Part → Words → Lent → Bool
-isAllOf q x [] = false
+isAllOf q x [] = eqb (length x) 0
 isAllOf q x (other y ∷ ls) = false
 isAllOf q x (own r f n ∷ []) = samePart q r && eqb f 0 && eqb n (length x)
 isAllOf q x (own r f n ∷ l ∷ ls) = false
 
 -- ---- events
 
--- A call with what it brings: the head that the pool has (none) or another, S, the three buffers, and the call's own arguments.
+-- A call with what it brings: the head that the pool has (none) or another, S, the three buffers, and the call's own
+-- arguments.
 pub record Event : Type 0 where
   pub head : Option Head
   pub shape : ℕ
@@ -121,11 +126,17 @@ sameHead h k = sameWords (h .root) (k .root) && eqb (h .next) (k .next)
 unfoldable pub isWhole : Pool → Event → Bool
 isWhole p e =
     sameHead (headOf p (e .head)) (p .head) && eqb (e .shape) (p .shape)
-    && isAllOf inArena (p .arena) (e .arena) && isAllOf inTable (p .table) (e .table) && isAllOf inIndex (p .index) (e .index)
+    && isAllOf inArena (p .arena) (e .arena) && isAllOf inTable (p .table) (e .table)
+    && isAllOf inIndex (p .index) (e .index)
 
 -- the pool's own table, with whatever else
 unfoldable pub ownTable : Pool → Event → Bool
 ownTable p e = isAllOf inTable (p .table) (e .table)
+
+-- the head handed back belongs to the pool whose table the call got, where it got that pool's head too or, a format,
+-- takes none
+unfoldable pub headReturns : Pool → Event → Bool
+headReturns p e = ownTable p e && (isFormat (e .call) || sameHead (headOf p (e .head)) (p .head))
 
 -- the call c on the pool whole
 abbrev pub allOf : Part → Pool → Lent
@@ -145,13 +156,17 @@ module _ (E : Engine) where
   unfoldable pub outcome : Pool → Event → Outcome
   outcome p e = step E (mapCall (see p) (e .call)) (brought p e)
 
-  -- What the call left is the pool's memory now, where it was lent. The head handed back is the pool's if the pool was brought
-  -- whole and the call accepted; else it belongs to no pool, and the pool goes on with the head it had.
+  -- What the call left is the pool's memory now, where it was lent. The head handed back is the pool's where the call
+  -- was accepted, got all of the pool's own table, and got the pool's head or takes none; else it belongs to no pool,
+  -- and the pool goes on with the head it had. 01, of a refused format: "hands back a head of zeros. That head
+  -- belongs to no pool: a pool that lay there goes on with the head it had"; of a refused call in demand 3: "the pool
+  -- keeps the head it had".
   unfoldable pub after : Pool → Event → Pool
   after p e =
       let o = outcome p e in
-      withHead (cond (accepted (o .answer) && isWhole p e) (o .pool .head) (p .head))
-      (leaveAll (e .arena ∷ e .table ∷ e .index ∷ buffersOf (e .call)) (o .pool .arena ∷ o .pool .table ∷ o .pool .index ∷ o .buffers) p)
+      withHead (cond (accepted (o .answer) && headReturns p e) (o .pool .head) (p .head))
+      (leaveAll (e .arena ∷ e .table ∷ e .index ∷ buffersOf (e .call))
+      (o .pool .arena ∷ o .pool .table ∷ o .pool .index ∷ o .buffers) p)
 
 -- ---- what comes later: any calls, and writing by callers into any part of the pool
 

@@ -1,25 +1,24 @@
 -- Pool memory, an engine as what it stores, and soundness. 01, "Calls and numbers", rows 8 and 1. Assumes nothing.
-use Prim.Native.Nat.{ℕ, zero, suc, _+_, _*_, _/_, _%_, _<_, _≤_}
+use Prim.Native.Nat.{ℕ, suc, _*_, _%_, _<_, _≤_}
 use mathlib.Core.Path.{_≡_}
-use mathlib.Core.Bool.{Bool, true, false, cond, not, _&&_}
-use mathlib.Core.List.{List, [], _∷_}
+use mathlib.Core.Bool.{Bool, true, cond, _&&_}
 use mathlib.Core.Option.{Option}
 use lib.Dec.{eqb, leb}
-use lib.ListN.{length, replicate}
+use lib.ListN.{length}
 use Rattle.words.specs.Lists.{Words, sameWords}
 use Rattle.words.specs.Places.{stamp}
 use Rattle.ledger.specs.declared.Row.{Row}
 use Rattle.ledger.specs.declared.Rule.{Rule}
-use Rattle.ledger.specs.Records.{Ledger, recordWords, recordsOf, tableOf, slots, recordOf, isLive}
-use Rattle.ledger.specs.Units.{first, past, valid, owned}
+use Rattle.ledger.specs.Records.{Ledger, recordWords, recordsOf, tableOf, slots, recordOf}
+use Rattle.ledger.specs.Units.{first, valid, owned}
 
 -- What a call is passed and hands back: the root link, in the tree pool alone, and the next ticket; 0 means none left.
 pub record Head : Type 0 where
   pub root : Words
   pub next : ℕ
 
--- Head, lent memory, and the one argument that lies in neither: S in the segment pool. The tree pool has no such argument
--- and no index.
+-- Head, lent memory, and the one argument that lies in neither: S in the segment pool. The tree pool has no such
+-- argument and no index.
 pub record Pool : Type 0 where
   pub head : Head
   pub shape : ℕ
@@ -34,8 +33,8 @@ ledger p = recordsOf (p .table)
 abbrev pub wordCount : Pool → ℕ
 wordCount p = length (p .arena)
 
--- An engine, as what it stores of a ledger: each word of the arena that no holder owns, the root link, the index. Every part takes
--- the shape first, then the arena's length.
+-- An engine, as what it stores of a ledger: each word of the arena that no holder owns, the root link, the index.
+-- Every part takes the shape first, then the arena's length.
 pub record Engine : Type 0 where
   pub rule : ℕ → Rule
   pub range : ℕ → ℕ → Bool
@@ -84,8 +83,8 @@ module _ (E : Engine) where
       && eqb (length (p .table) % recordWords) 0 && leb 1 (slots (p .table)) && leb (slots (p .table)) mostRecords
       && eqb (length (p .index)) (E .indexWords (p .shape))
 
-  -- Row 1: head and lent memory are the stored form of a ledger, which can only be the one that the table and the next ticket
-  -- name. `sound-form` in proofs/StoreLaws says it with "of some ledger".
+  -- Row 1: head and lent memory are the stored form of a ledger, which can only be the one that the table and the
+  -- next ticket name. `sound-form` in proofs/StoreLaws says it with "of some ledger".
   unfoldable pub stored : Pool → Bool
   stored p =
       valid (ruleOf p) (wordCount p) (p .head .next) (ledger p)

@@ -1,18 +1,19 @@
 -- Calls, answers, numbers in their order, and one total step over an engine. 01, "Calls and numbers". Assumes nothing.
-use Prim.Native.Nat.{ℕ, zero, suc, _+_, _*_, _/_, _%_}
+use Prim.Native.Nat.{ℕ, _*_, _/_, _%_}
 use mathlib.Core.Bool.{Bool, true, false, cond, not, _&&_, _||_}
 use mathlib.Core.List.{List, [], _∷_, _++_, map}
 use mathlib.Core.Option.{Option, none, some}
 use lib.Dec.{eqb, leb, ltb}
-use lib.ListN.{length, take, drop, replicate}
+use lib.ListN.{length, drop, replicate}
 use Rattle.words.specs.Lists.{Words}
 use Rattle.words.specs.Places.{wiped}
 use Rattle.ledger.specs.declared.Row.{Row}
-use Rattle.ledger.specs.declared.Rule.{Rule}
-use Rattle.ledger.specs.Records.{Ledger, row, emptyRow, slots, recordOf, sameBlock, full, enter, vacate, member, settle}
+use Rattle.ledger.specs.Records.{Ledger, row, emptyRow, slots, recordOf, sameBlock, full, enter, vacate, member}
+use Rattle.ledger.specs.Records.{settle}
 use Rattle.ledger.specs.Units.{span, addressAt, past, free, lowestFit}
 use Rattle.calls.specs.declared.Answer.{Answer}
-use Rattle.calls.specs.Pool.{Head, Pool, ledger, wordCount, Engine, firstTicket, nextAfter, ruleOf, store, lengths, stored}
+use Rattle.calls.specs.Pool.{Head, Pool, ledger, wordCount, Engine, firstTicket, nextAfter, ruleOf, store}
+use Rattle.calls.specs.Pool.{lengths, stored}
 
 -- ---- calls and answers
 
@@ -39,13 +40,15 @@ refusal n = record { number = n; ticket = 0; address = 0; words = 0 }
 abbrev pub accepted : Answer → Bool
 accepted x = eqb (x .number) 0
 
--- What look hands back: `count` words of the arena from `from` on, or the caller's placeholder, whole. Other calls show nothing.
+-- What look hands back: `count` words of the arena from `from` on, or the caller's placeholder, whole. Other calls
+-- show nothing.
 pub data Slice : Type 0 where
   arenaPart : ℕ → ℕ → Slice
   placeholder : Slice
   nothing : Slice
 
--- What a call does on a sound pool: a list call does its requests, one after another, and every other call but format one such act.
+-- What a call does on a sound pool: a list call does its requests, one after another, and every other call but format
+-- one such act.
 pub data Act : Type 0 where
   ask : ℕ → Act
   give : Row → Act
@@ -58,7 +61,8 @@ pub record Counted : Type 0 where
   pub act : Option Act
   pub answer : Answer
 
--- All that a call hands back and leaves: its own answer, what it counts as, look's slice, the pool, and the lent buffers beside it.
+-- All that a call hands back and leaves: its own answer, what it counts as, look's slice, the pool, and the lent
+-- buffers beside it.
 pub record Outcome : Type 0 where
   pub answer : Answer
   pub counted : List Counted
@@ -112,7 +116,8 @@ module _ (E : Engine) where
   numberOf p (query r) = named (ledger p) r
   numberOf p bad = 9
 
-  -- n words from unit k on, under the next ticket: the record goes into the lowest empty slot, and the granted words read zero
+  -- n words from unit k on, under the next ticket: the record goes into the lowest empty slot, and the granted words
+  -- read zero
   abbrev pub newRow : Pool → ℕ → ℕ → Row
   newRow p n k = row (p .head .next) (addressAt (ruleOf E p) k) n
 
@@ -174,6 +179,15 @@ buffersOf (release r) = []
 buffersOf (find r) = []
 buffersOf (look r hold) = []
 buffersOf (list rs bs) = bs ∷ []
+
+-- format alone takes no head
+abbrev pub isFormat : {B : Type 0} → Call B → Bool
+isFormat format = true
+isFormat (allocate n) = false
+isFormat (release r) = false
+isFormat (find r) = false
+isFormat (look r hold) = false
+isFormat (list rs bs) = false
 
 abbrev pub suits : Call Words → Bool
 suits format = true

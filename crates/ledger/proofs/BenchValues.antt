@@ -5,7 +5,7 @@ use mathlib.Core.List.{[], _∷_}
 use mathlib.Core.Option.{none, some}
 use lib.Dec.{eqb, leb}
 use Rattle.ledger.specs.declared.Rule.{Rule}
-use Rattle.ledger.specs.Records.{row, emptyRow, recordOf}
+use Rattle.ledger.specs.Records.{row, emptyRow, isEmpty, recordOf}
 use Rattle.ledger.specs.Units.{span, first, past, fits, apart, lowestFit}
 use Rattle.ledger.specs.Runs.{run, runsFrom}
 
@@ -19,8 +19,17 @@ control = record { unit = 1; lead = 1 }
 zero-unmatched : recordOf 0 (emptyRow ∷ []) ≡ none
 zero-unmatched = refl
 
+-- "an empty record is three zeros": one with ticket 0 and words asked is damage, not an empty slot
+words-without-ticket : isEmpty (row 0 2 2) ≡ false
+words-without-ticket = refl
+
+-- a record is found by its ticket, so that a replay does not fit the new holder of its address and words
+other-ticket : recordOf 2 (row 1 0 5 ∷ []) ≡ none
+other-ticket = refl
+
 -- of units 2 and 3 of 4, two lie together from unit 2 on, and no three; a lone free unit before them is passed over
-lowest-found : (lowestFit (leb 2) 4 2 ≡ some 2) × (lowestFit (leb 2) 4 3 ≡ none) × (lowestFit (λ u. not (eqb u 1)) 4 2 ≡ some 2)
+lowest-found : (lowestFit (leb 2) 4 2 ≡ some 2) × (lowestFit (leb 2) 4 3 ≡ none)
+    × (lowestFit (λ u. not (eqb u 1)) 4 2 ≡ some 2)
 unfolding lowestFit
 lowest-found = (refl, refl, refl)
 

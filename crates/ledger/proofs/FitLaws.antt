@@ -79,7 +79,8 @@ module _ (f : ℕ → Bool) (N m : ℕ) (one : 1 ≤ m) where
 
       -- nor in it, where it is too short
       short : r .size < m → (j : ℕ) → j < r .start + r .size → j + m ≤ N → Dec (r .start ≤ j) → every f j m ≡ false
-      short s j a b (yes c) = every-breaks f j m (r .start + r .size) (omega arith) (omega arith) (n .after (omega arith))
+      short s j a b (yes c) = every-breaks f j m (r .start + r .size) (omega arith) (omega arith)
+          (n .after (omega arith))
       short s j a b (no c) = below j (omega arith) b (decLe k j)
 
       go : (b : Bool) → leb m (r .size) ≡ b → (r .size < m → lowestFit f N m ≡ startOf (firstFit m rs))

@@ -96,7 +96,8 @@ within-join b z s m u q = go (decLe b u) (decLe s u) (decLe (s + m) u)
     go (no x) y w =
         within-low b (b + (z + m)) u (omega arith)
         ∙ sym (rw (within-low b (b + z) u (omega arith)) (within-low s (s + m) u (omega arith)))
-    go (yes x) (no y) w = within-in b (b + (z + m)) u x (omega arith) ∙ sym (rw (within-in b (b + z) u x (omega arith)))
+    go (yes x) (no y) w = within-in b (b + (z + m)) u x (omega arith)
+        ∙ sym (rw (within-in b (b + z) u x (omega arith)))
     go (yes x) (yes y) (no w) =
         within-in b (b + (z + m)) u x (omega arith)
         ∙ sym (rw (within-in s (s + m) u y (omega arith)) (or-true (within b (b + z) u)))
@@ -350,7 +351,8 @@ module _ (ρ : Rule) where
       let n = runs-next (free ρ L) N k l r rs e in
       let end : ℕ = r .start + r .size in
       let i : ℕ = r .start - 1 in
-      let past-k : k ≢ r .start = λ q. true≢false (sym (n .passes k (omega arith) (omega arith)) ∙ off (omega arith)) in
+      let past-k : k ≢ r .start = λ q. true≢false (sym (n .passes k (omega arith) (omega arith))
+      ∙ off (omega arith)) in
       let s : r .start ≡ suc i = omega arith in
       let used = not-false (any (covers ρ i) L) (n .before i (omega arith) (omega arith)) in
       let unused = not-true (any (covers ρ (suc i)) L) (n .passes (suc i) (omega arith) (omega arith)) in
@@ -378,8 +380,8 @@ module _ (ρ : Rule) where
 
 -- ---- the runs after a release
 
--- The runs with units s to s + m, of which none was in a run, made a run: it takes in a run that ends at s and one that
--- begins at s + m, so that no two touch.
+-- The runs with units s to s + m, of which none was in a run, made a run: it takes in a run that ends at s and one
+-- that begins at s + m, so that no two touch.
 abbrev pub addRun : ℕ → ℕ → List Run → List Run
 addRun s m [] = run s m ∷ []
 addRun s m (r ∷ rs) =

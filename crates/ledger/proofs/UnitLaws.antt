@@ -16,7 +16,8 @@ use lib.ListN.{length, getD, replicate}
 use Rattle.words.proofs.ByPlace.{all-of, pairwise-getD, all-replicate, pairwise-replicate}
 use Rattle.words.specs.Lists.{all, any, pairwise}
 use Rattle.words.specs.Counted.{every, within}
-use Rattle.words.proofs.Tests.{and-l, and-r, and-i, and-map, or-map, not-true, of-not, eqb-eq, eqb-ne, eqb-false, false-of}
+use Rattle.words.proofs.Tests.{and-l, and-r, and-i, and-map, or-map, not-true, of-not, eqb-eq, eqb-ne, eqb-false}
+use Rattle.words.proofs.Tests.{false-of}
 use Rattle.words.proofs.Tests.{le-of, of-le, lt-of, of-lt, within-in, within-of, absurd-some}
 use Rattle.words.proofs.ListLaws.{all-map, any-map, pairwise-map, all-imp, all-getD, any-getD, any-at, any-not}
 use Rattle.words.proofs.CountedLaws.{every-at}
@@ -346,7 +347,8 @@ module _ (ρ : Rule) (pos : 0 < ρ .unit) where
       go (no a) (yes b) = rw (of-le (past ρ r) k b) (or-true (leb e (first ρ r)))
       go (no a) (no b) =
           let u : ℕ = max k (first ρ r) in
-          absurd (true≢false (sym (covers-in ρ u r live (omega arith) (omega arith)) ∙ h u (omega arith) (omega arith)))
+          absurd (true≢false (sym (covers-in ρ u r live (omega arith) (omega arith))
+          ∙ h u (omega arith) (omega arith)))
 
   -- a record for ticket `next` at unit k, over free units; the next ticket after it is 0 or above it
   module _ (W next next′ k n : ℕ) (L : Ledger) (good : valid ρ W next L ≡ true) (some-next : next ≢ 0)

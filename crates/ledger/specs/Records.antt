@@ -1,7 +1,7 @@
 -- Records in the slots of the table, and the changes of a ledger. 01, "The ledger" and "Stored form of the tree pool".
 -- Assumes nothing.
-use Prim.Native.Nat.{ℕ, zero, suc, _+_, _*_, _/_}
-use mathlib.Core.Bool.{Bool, true, false, cond, not, _&&_}
+use Prim.Native.Nat.{ℕ, _+_, _*_, _/_}
+use mathlib.Core.Bool.{Bool, cond, not, _&&_}
 use mathlib.Core.List.{List, [], _∷_, _++_, map}
 use mathlib.Core.Option.{Option, none, some}
 use lib.Dec.{eqb}
@@ -66,7 +66,8 @@ abbrev pub enter : Row → Ledger → Ledger
 enter new [] = []
 enter new (r ∷ L) = cond (isEmpty r) (new ∷ L) (r ∷ enter new L)
 
--- What is done to the record that a call names: a release empties it. (A change that keeps part of a block would stand beside it.)
+-- What is done to the record that a call names: a release empties it. (A change that keeps part of a block would
+-- stand beside it.)
 pub data Plan : Type 0 where
   vacate : Plan
 

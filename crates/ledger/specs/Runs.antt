@@ -1,8 +1,9 @@
 -- The maximal free runs, in address order. 01: "A free run is always the longest possible: no two free blocks touch."
--- What makes the list right is `AreRuns`; that it is the only such list is `runs-unique` in proofs/RunLaws. Assumes nothing.
+-- What makes the list right is `AreRuns`; that it is the only such list is `runs-unique` in proofs/RunLaws. Assumes
+-- nothing.
 use Prim.Native.Nat.{ℕ, zero, suc, _+_, _/_, _≤_, _<_}
 use mathlib.Core.Path.{_≡_}
-use mathlib.Core.Bool.{Bool, true, false, cond, _||_}
+use mathlib.Core.Bool.{Bool, false, cond, _||_}
 use mathlib.Core.List.{List, [], _∷_}
 use lib.Dec.{eqb}
 use Rattle.words.specs.Counted.{within}
@@ -40,7 +41,8 @@ covered (r ∷ rs) u = within (r .start) (r .start + r .size) u || covered rs u
 -- runs from unit k up to unit e, none empty, with a gap before each but the first
 abbrev pub Gapped : ℕ → ℕ → List Run → Type 0
 Gapped k e [] = Unit {0}
-Gapped k e (r ∷ rs) = (k ≤ r .start) × (1 ≤ r .size) × (r .start + r .size ≤ e) × Gapped (suc (r .start + r .size)) e rs
+Gapped k e (r ∷ rs) = (k ≤ r .start) × (1 ≤ r .size) × (r .start + r .size ≤ e)
+    × Gapped (suc (r .start + r .size)) e rs
 
 -- `rs` are the maximal runs of the units below N that pass
 pub record AreRuns (f : ℕ → Bool) (N : ℕ) (rs : List Run) : Type 0 where

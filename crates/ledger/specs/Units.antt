@@ -1,8 +1,7 @@
 -- The unit rule: where records lie, which ledgers are valid, which units are free, and the lowest fit.
 -- 01, "The ledger" and row 1 of "Calls and numbers". Assumes nothing.
-use Prim.Native.Nat.{ℕ, zero, suc, _+_, _-_, _*_, _/_, _%_}
-use mathlib.Core.Bool.{Bool, true, false, not, _&&_, _||_}
-use mathlib.Core.List.{List, [], _∷_}
+use Prim.Native.Nat.{ℕ, suc, _+_, _-_, _*_, _/_, _%_}
+use mathlib.Core.Bool.{Bool, not, _&&_, _||_}
 use mathlib.Core.Option.{Option}
 use lib.Dec.{eqb, leb, ltb}
 use Rattle.words.specs.Lists.{all, any, pairwise}
@@ -29,8 +28,8 @@ module _ (ρ : Rule) where
   unfoldable pub past : Row → ℕ
   past r = first r + span (r .words)
 
-  -- Row 1, a record by itself, in an arena of W words: ticket not 0 and, where the next ticket is not 0, below it; words asked
-  -- 1 or more; starting on a unit; inside the arena.
+  -- Row 1, a record by itself, in an arena of W words: ticket not 0 and, where the next ticket is not 0, below it;
+  -- words asked 1 or more; starting on a unit; inside the arena.
   unfoldable pub fits : ℕ → ℕ → Row → Bool
   fits W next r =
       not (eqb (r .ticket) 0)

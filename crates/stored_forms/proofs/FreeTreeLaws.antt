@@ -1,8 +1,9 @@
--- The free tree of a ledger in its arena, over the form: what an arena has to show to be the stored form of a valid ledger.
--- 01, "Stored form of the tree pool". Assumes of a form that its nodes are readable.
+-- The free tree of a ledger in its arena, over the form: what an arena has to show to be the stored form of a valid
+-- ledger. 01, "Stored form of the tree pool". Assumes of a form that its nodes are readable.
 use Prim.Native.Nat.{ℕ, zero, suc, _+_, _*_, _/_, _%_, _≤_, _<_}
 use native.Mathlib.Nat.{add-mul, one-mul, suc-mul, zero-mul, mul-assoc, mul-comm, mul-zero, mul-le-mul-right}
-use native.Mathlib.Nat.{div-add-mod, div-add-mod', div-div-eq-div-mul, mul-div-right, mul-div-le, div-mul-le-self, le-div-iff-mul-le, div-lt-iff-lt-mul}
+use native.Mathlib.Nat.{div-add-mod, div-add-mod', div-div-eq-div-mul, mul-div-right, mul-div-le, div-mul-le-self}
+use native.Mathlib.Nat.{le-div-iff-mul-le, div-lt-iff-lt-mul}
 use native.Mathlib.Omega.{arith}
 use native.Mathlib.Decide.{decLe}
 use mathlib.Core.Path.{_≡_, refl, sym, ap, ap₂, _∙_}
@@ -12,7 +13,8 @@ use lib.ListN.{length, getD}
 use Rattle.words.specs.Lists.{Words, any}
 use Rattle.words.specs.Counted.{within}
 use Rattle.words.specs.Places.{stamp}
-use Rattle.words.proofs.Tests.{bool-iff, and-i, not-true, not-false, within-in, within-low, within-high}
+use Rattle.words.proofs.Tests.{bool-iff, and-l, and-r, and-i, eqb-eq, le-of, not-true, not-false}
+use Rattle.words.proofs.Tests.{within-in, within-low, within-high}
 use Rattle.words.proofs.ListLaws.{any-getD, any-at}
 use Rattle.words.proofs.PlaceLaws.{length-stamp, stamp-keeps, stamp-sets, stamp-is}
 use Rattle.ledger.specs.Records.{Ledger, emptyRow, isLive}
@@ -20,10 +22,10 @@ use Rattle.ledger.specs.Units.{addressAt, first, past, valid, covers, free, own
 use Rattle.ledger.specs.Runs.{Run, run, runsFrom, freeRuns, covered, Gapped}
 use Rattle.ledger.proofs.UnitLaws.{valid-at, covers-of, owned-covered}
 use Rattle.ledger.proofs.RunLaws.{gapped-weaken, runs-are}
-use Rattle.stored_forms.specs.Tree.{inorder, Form, formRule, cellRun, freeTree, nodeWord}
+use Rattle.stored_forms.specs.Tree.{inorder, Form, formRule, treeRange, cellRun, freeTree, nodeWord}
 use Rattle.stored_forms.proofs.TreeLaws.{inorder-treeOf}
-use Rattle.stored_forms.proofs.NodeLaws.{Readable, Within, Holds, In, in-range, covered-in, in-covered, gapped-within}
-use Rattle.stored_forms.proofs.NodeLaws.{holds-stored, stored-holds}
+use Rattle.stored_forms.proofs.NodeLaws.{Readable, Within, Holds, In, in-range, covered-in, in-covered}
+use Rattle.stored_forms.proofs.NodeLaws.{gapped-within, holds-stored, stored-holds}
 
 -- ---- runs of units as runs of cells, p to a unit
 
@@ -53,16 +55,28 @@ module _ (p : ℕ) (some-cells : 0 < p) where
       below n h = div-lt-iff-lt-mul some-cells .0 h
 
       go : Dec (lo ≤ c / p) → Dec (hi ≤ c / p) → within (lo * p) (hi * p) c ≡ within lo hi (c / p)
-      go (no x) y = within-low (lo * p) (hi * p) c (below lo (omega arith)) ∙ sym (within-low lo hi (c / p) (omega arith))
+      go (no x) y =
+          within-low (lo * p) (hi * p) c (below lo (omega arith)) ∙ sym (within-low lo hi (c / p) (omega arith))
       go (yes x) (yes y) = within-high (lo * p) (hi * p) c (above hi y) ∙ sym (within-high lo hi (c / p) y)
       go (yes x) (no y) =
-          within-in (lo * p) (hi * p) c (above lo x) (below hi (omega arith)) ∙ sym (within-in lo hi (c / p) x (omega arith))
+          within-in (lo * p) (hi * p) c (above lo x) (below hi (omega arith))
+          ∙ sym (within-in lo hi (c / p) x (omega arith))
 
   covered-scaled : (rs : List Run) (c : ℕ) → covered (map scaled rs) c ≡ covered rs (c / p)
   covered-scaled [] c = refl
   covered-scaled (r ∷ rs) c =
       ap₂ _||_ (ap (λ e. within (r .start * p) e c) (sym (add-mul (r .start) (r .size) p))
       ∙ within-scaled (r .start) (r .start + r .size) c) (covered-scaled rs c)
+
+-- ---- the range of an arena
+
+pub tree-range : (F : Form) (W : ℕ) → treeRange F W ≡ true → (F .unit ≤ W) × (W ≤ F .most) × (W % F .unit ≡ 0)
+unfolding treeRange
+tree-range F W h = (
+  le-of (F .unit) W (search (and-l, and-r)),
+  le-of W (F .most) (search (and-l, and-r)),
+  eqb-eq (W % F .unit) 0 (search (and-l, and-r)),
+)
 
 -- ---- the free tree in an arena of W words, a whole number of units
 
@@ -98,19 +112,23 @@ module _ (F : Form) (bound : ℕ) (readable : Readable F bound) where
         let p = F .unit / F .cell in
         let runs = runsFrom (free (formRule F) L) 0 n in
         let gaps = gapped-scaled p cells-pos 0 n runs (runs-are (free (formRule F) L) n .gapped) in
-        gapped-within (freeTree F W L) 0 (W / F .cell) (omega arith) (rw runs-of-tree (rw (zero-mul p, cells-are) at gaps))
+        gapped-within (freeTree F W L) 0 (W / F .cell) (omega arith)
+        (rw runs-of-tree (rw (zero-mul p, cells-are) at gaps))
 
     -- a word's cell is in a block of the tree where its unit is free
-    free-cell : (i : ℕ) → i < W → covered (inorder (freeTree F W L)) (i / F .cell) ≡ free (formRule F) L (i / F .unit)
+    free-cell : (i : ℕ) → i < W
+        → covered (inorder (freeTree F W L)) (i / F .cell) ≡ free (formRule F) L (i / F .unit)
     unfolding freeRuns
     free-cell i h =
         let N = W / F .unit in
         let p = F .unit / F .cell in
         let runs = runsFrom (free (formRule F) L) 0 N in
-        let unit : i / F .cell / p ≡ i / F .unit = div-div-eq-div-mul i (F .cell) p ∙ ap (λ n. i / n) (readable .whole) in
+        let unit : i / F .cell / p ≡ i / F .unit =
+        div-div-eq-div-mul i (F .cell) p ∙ ap (λ n. i / n) (readable .whole) in
         let inside : i / F .unit < N =
         div-lt-iff-lt-mul (readable .units) .1 (omega (arith, div-add-mod' W (F .unit))) in
-        ap (λ rs. covered rs (i / F .cell)) runs-of-tree ∙ covered-scaled p cells-pos runs (i / F .cell) ∙ ap (covered runs) unit
+        ap (λ rs. covered rs (i / F .cell)) runs-of-tree
+        ∙ covered-scaled p cells-pos runs (i / F .cell) ∙ ap (covered runs) unit
         ∙ runs-are (free (formRule F) L) N .cover (i / F .unit) inside
 
     -- ---- a valid ledger
@@ -138,22 +156,25 @@ module _ (F : Form) (bound : ℕ) (readable : Readable F bound) where
           (λ h. ap not (owned-covered (formRule F) (readable .units) W next L good i h))
           (λ h. held-owned i (not-true (free (formRule F) L (i / F .unit)) h))
 
-      -- what an engine has to show of the arena it leaves: the words of the free tree, and the holders' words as they were in a
+      -- What an engine has to show of the arena it leaves: the words of the free tree, and the holders' words as they
+      -- were in a.
       pub stamped : (a b : Words) → length a ≡ W → length b ≡ length a
           → ((i : ℕ) → i < length a → owned (formRule F) L i ≡ true → getD b i 0 ≡ getD a i 0)
           → Holds F b (freeTree F W L)
           → b ≡ stamp (owned (formRule F) L) (nodeWord F (freeTree F W L)) a
       stamped a b size same keeps holds =
           stamp-is (owned (formRule F) L) (nodeWord F (freeTree F W L)) a b 0 same keeps
-          (λ i l o. holds-stored F bound readable b (freeTree F W L) 0 (W / F .cell) tree-within holds i (block i (omega arith) o))
+          (λ i l o. holds-stored F bound readable b (freeTree F W L) 0 (W / F .cell) tree-within holds i
+          (block i (omega arith) o))
         where
           block : (i : ℕ) → i < W → owned (formRule F) L i ≡ false → In (i / F .cell) (freeTree F W L)
           block i l o =
               let u = not-false (free (formRule F) L (i / F .unit)) (sym (owned-free i) ∙ o) in
               covered-in (freeTree F W L) (i / F .cell) (free-cell i l ∙ u)
 
-      -- and what such an arena shows
-      pub of-stamped : (a b : Words) → length a ≡ W → b ≡ stamp (owned (formRule F) L) (nodeWord F (freeTree F W L)) a
+      -- And what such an arena shows.
+      pub of-stamped : (a b : Words) → length a ≡ W
+          → b ≡ stamp (owned (formRule F) L) (nodeWord F (freeTree F W L)) a
           → (length b ≡ length a)
           × ((i : ℕ) → owned (formRule F) L i ≡ true → getD b i 0 ≡ getD a i 0)
           × Holds F b (freeTree F W L)

@@ -1,5 +1,5 @@
--- How the tree's nodes lie in words, over the form: an arena that holds the tree node by node has its words by their places, and
--- back. 01, "Stored form of the tree pool". Assumes of a form that a node's words give back what they were made from.
+-- How the tree's nodes lie in words, over the form: an arena that holds the tree node by node has its words by their
+-- places, and back. 01, "Stored form of the tree pool". Assumes of a form that its nodes are readable.
 use Prim.Native.Nat.{ℕ, suc, _+_, _-_, _*_, _/_, _≤_, _<_}
 use native.Mathlib.Nat.{mul-comm, mul-suc, mul-le-mul-left, add-sub-cancel-left, le-div-iff-mul-le, div-lt-iff-lt-mul}
 use native.Mathlib.Omega.{arith}
@@ -20,8 +20,8 @@ use Rattle.stored_forms.specs.Tree.{lengthAt, leftAt, rightAt, link, nod
 
 -- ---- what is asked of a form
 
--- cells and units have words, a unit is a whole number of cells, and the readings of a node's words, with links below `bound`, give
--- back its length and links
+-- Cells and units have words, a unit is a whole number of cells, a node fills a cell, and the readings of its words
+-- give back its length and its links, if these are below `bound`.
 pub record Readable (F : Form) (bound : ℕ) : Type 0 where
   pub cells : 0 < F .cell
   pub units : 0 < F .unit
@@ -64,7 +64,8 @@ NotFirst c (node a q b) = NotFirst c a × (c ≢ q .start) × NotFirst c b
 abbrev pub Zeros : Words → ℕ → ℕ → Type 0
 Zeros a lo hi = (k : ℕ) → lo ≤ k → k < hi → getD a k 0 ≡ 0
 
--- The arena has every word of the tree's free blocks: "A free block's first cell is its node. All its other words are zero."
+-- The arena has every word of the tree's free blocks: "A free block's first cell is its node. All its other words are
+-- zero."
 abbrev pub Holds : Form → Words → Tree → Type 0
 Holds F m leaf = Unit {0}
 Holds F m (node a q b) =
@@ -73,7 +74,8 @@ Holds F m (node a q b) =
 
 pub within-le : (t : Tree) (lo hi : ℕ) → Within lo hi t → lo ≤ hi
 within-le leaf lo hi w = w
-within-le (node a q b) lo hi w = omega (arith, within-le a lo (q .start) (w .0), within-le b (q .start + q .size) hi (w .2))
+within-le (node a q b) lo hi w =
+    omega (arith, within-le a lo (q .start) (w .0), within-le b (q .start + q .size) hi (w .2))
 
 pub link-within : (t : Tree) (lo hi : ℕ) → Within lo hi t → link t ≤ hi
 link-within leaf lo hi w = omega arith
@@ -109,7 +111,8 @@ covered-in (node a q b) c e =
     (within-of (q .start) (q .start + q .size) c) (sym (covered-append (inorder a) (q ∷ inorder b) c) ∙ e)
   where
     go : (x y : Bool) → (x ≡ true → In c a) → (covered (inorder b) c ≡ true → In c b)
-        → (y ≡ true → (q .start ≤ c) × (c < q .start + q .size)) → (x || (y || covered (inorder b) c)) ≡ true → In c (node a q b)
+        → (y ≡ true → (q .start ≤ c) × (c < q .start + q .size)) → (x || (y || covered (inorder b) c)) ≡ true
+        → In c (node a q b)
     go true y f g h e = inl (f refl)
     go false true f g h e = inr (inl (h refl))
     go false false f g h e = inr (inr (g e))
@@ -136,7 +139,13 @@ gapped-split k e [] q ys g = record { before = tt; low = g .0; long = g .1; high
 gapped-split k e (r ∷ xs) q ys g =
     let s = gapped-split (suc (r .start + r .size)) e xs q ys (g .3) in
     let low = s .low in
-    record { before = (g .0, g .1, omega arith, s .before); low = omega arith; long = s .long; high = s .high; behind = s .behind }
+    record {
+      before = (g .0, g .1, omega arith, s .before);
+      low = omega arith;
+      long = s .long;
+      high = s .high;
+      behind = s .behind;
+    }
 
 pub gapped-within : (t : Tree) (lo hi : ℕ) → lo ≤ hi → Gapped lo hi (inorder t) → Within lo hi t
 gapped-within leaf lo hi h g = h
@@ -177,15 +186,19 @@ module _ (F : Form) (bound : ℕ) (readable : Readable F bound) where
       getD-take (F .cell) (drop (F .cell * c) m) j 0 k ∙ getD-drop (F .cell * c) m j 0 ∙ h j k)
     where
       long : length (cellWords F m c) ≡ F .cell
-      long = length-take-le (F .cell) (drop (F .cell * c) m) (rw (length-drop (F .cell * c) m) (omega (arith, mul-suc (F .cell) c)))
+      long =
+          length-take-le (F .cell) (drop (F .cell * c) m)
+          (rw (length-drop (F .cell * c) m) (omega (arith, mul-suc (F .cell) c)))
 
   -- ---- `nodeWord` by where the word lies
 
-  word-left : (a : Tree) (q : Run) (b : Tree) (i : ℕ) → i < F .cell * q .start → nodeWord F (node a q b) i ≡ nodeWord F a i
+  word-left : (a : Tree) (q : Run) (b : Tree) (i : ℕ) → i < F .cell * q .start
+      → nodeWord F (node a q b) i ≡ nodeWord F a i
   word-left a q b i h =
       rw (within-low (F .cell * q .start) (F .cell * suc (q .start)) i h, of-lt i (F .cell * q .start) h)
 
-  word-right : (a : Tree) (q : Run) (b : Tree) (i : ℕ) → F .cell * suc (q .start) ≤ i → nodeWord F (node a q b) i ≡ nodeWord F b i
+  word-right : (a : Tree) (q : Run) (b : Tree) (i : ℕ) → F .cell * suc (q .start) ≤ i
+      → nodeWord F (node a q b) i ≡ nodeWord F b i
   word-right a q b i h =
       rw (
         within-high (F .cell * q .start) (F .cell * suc (q .start)) i h,
@@ -210,7 +223,8 @@ module _ (F : Form) (bound : ℕ) (readable : Readable F bound) where
 
   pub nodeWord-zero : (t : Tree) (i : ℕ) → NotFirst (i / F .cell) t → nodeWord F t i ≡ 0
   nodeWord-zero leaf i n = refl
-  nodeWord-zero (node a q b) i n = go (decLe (q .start) (i / F .cell)) (nodeWord-zero a i (n .0)) (nodeWord-zero b i (n .2))
+  nodeWord-zero (node a q b) i n =
+      go (decLe (q .start) (i / F .cell)) (nodeWord-zero a i (n .0)) (nodeWord-zero b i (n .2))
     where
       go : Dec (q .start ≤ i / F .cell) → nodeWord F a i ≡ 0 → nodeWord F b i ≡ 0 → nodeWord F (node a q b) i ≡ 0
       go (yes h) x y = word-right a q b i (cell-low i (suc (q .start)) (let d = n .1 in omega arith)) ∙ y
@@ -256,22 +270,25 @@ module _ (F : Form) (bound : ℕ) (readable : Readable F bound) where
       let first = mul-le-mul-left {m = suc (q .start)} {n = hi} (F .cell) (omega arith) in
       let block = mul-le-mul-left {m = suc (q .start)} {n = q .start + q .size} (F .cell) (omega arith) in
       let cell = mul-suc (F .cell) (q .start) in (
-        cell-of-words m (F .node (q .size) (link a) (link b)) (q .start) (readable .node-length (q .size) (link a) (link b))
-            (omega arith)
+        cell-of-words m (F .node (q .size) (link a) (link b)) (q .start)
+            (readable .node-length (q .size) (link a) (link b)) (omega arith)
             (λ j k. let i = F .cell * q .start + j in
-            h i (inr (inl (low-cell i (q .start) (omega arith), high-cell i (q .start + q .size) (omega arith)))) ∙ word-node a q b j k),
+            h i (inr (inl (low-cell i (q .start) (omega arith), high-cell i (q .start + q .size) (omega arith))))
+            ∙ word-node a q b j k),
         (λ i k u.
             h i (inr (inl (low-cell i (q .start) (omega arith), high-cell i (q .start + q .size) u)))
             ∙ word-right a q b i k ∙ word-low b (q .start + q .size) hi i (w .2) u),
         stored-holds m a lo (q .start) (w .0) (omega arith)
-            (λ i x. h i (inl x) ∙ word-left a q b i (cell-high i (q .start) (in-range a lo (q .start) (i / F .cell) (w .0) x .1))),
+            (λ i x. let y = in-range a lo (q .start) (i / F .cell) (w .0) x .1 in
+            h i (inl x) ∙ word-left a q b i (cell-high i (q .start) y)),
         stored-holds m b (q .start + q .size) hi (w .2) l
             (λ i x. let y = in-range b (q .start + q .size) hi (i / F .cell) (w .2) x .0 in
             h i (inr (inr x)) ∙ word-right a q b i (cell-low i (suc (q .start)) (omega arith))),
       )
 
   -- a node that lies in the arena reads back
-  pub holds-reads : (m : Words) (a : Tree) (q : Run) (b : Tree) → Holds F m (node a q b) → link a < bound → link b < bound
+  pub holds-reads : (m : Words) (a : Tree) (q : Run) (b : Tree) → Holds F m (node a q b)
+      → link a < bound → link b < bound
       → (lengthAt F m (q .start) ≡ q .size) × (leftAt F m (q .start) ≡ link a) × (rightAt F m (q .start) ≡ link b)
   holds-reads m a q b h x y = (
     ap (F .lengthOf) (h .0) ∙ readable .length-back (q .size) (link a) (link b) x y,

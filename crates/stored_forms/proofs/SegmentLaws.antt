@@ -1,11 +1,13 @@
--- The segment pool's control words and index, line by line as 01 states them: "Stored form of the segment pool". Assumes nothing;
--- the laws of control words are of valid ledgers.
-use Prim.Native.Nat.{ℕ, zero, suc, _+_, _-_, _*_, _^_, _≤_, _<_, max}
-use native.Mathlib.Nat.{mul-one, mul-comm, mul-assoc, add-mul, pow-suc, pow-le-pow-right, add-sub-cancel-left, zero-add, add-zero, sub-zero, div-one}
+-- The segment pool's index and control words, line by line as 01 states them: "Stored form of the segment pool".
+-- Assumes nothing; the laws of control words are of valid ledgers.
+use Prim.Native.Nat.{ℕ, zero, suc, _+_, _-_, _*_, _/_, _^_, _≤_, _<_, max}
+use native.Mathlib.Nat.{mul-one, mul-comm, mul-assoc, add-mul, pow-suc, pow-le-pow-right, add-sub-cancel-left}
+use native.Mathlib.Nat.{zero-add, add-zero, sub-zero, div-one}
+use native.Mathlib.Nat.{suc-mul, lt-div-mul-add, div-lt-iff-lt-mul}
 use native.Mathlib.Omega.{arith}
 use native.Mathlib.Decide.{ℕ-discrete, decLe}
-use mathlib.Core.Path.{_≡_, refl, sym, ap, ap₂, _∙_}
-use mathlib.Core.Logic.{_≢_, _⊎_, inl, inr, _↔_}
+use mathlib.Core.Path.{_≡_, refl, sym, ap, ap₂, _∙_, subst}
+use mathlib.Core.Logic.{_≢_, _↔_}
 use mathlib.Core.Bool.{Bool, true, false, cond, not, _&&_, _||_, true≢false, or-true}
 use mathlib.Core.List.{List, [], _∷_, _++_}
 use mathlib.Core.Option.{Option, none, some}
@@ -16,18 +18,22 @@ use lib.Signed.{mag}
 use mir.Syntax.{w32}
 use mir.Val.{Fits, SFits, toZ}
 use mir.Facts.{fits-ofZ, toZ-ofZ}
-use Rattle.words.proofs.Tests.{and-l, and-r, and-i, eqb-eq, eqb-same, eqb-ne, of-le, of-lt, of-gt, of-ge}
+use Rattle.words.specs.Lists.{firstThat}
+use Rattle.words.proofs.Tests.{and-l, and-r, and-i, not-true, eqb-eq, eqb-same, eqb-ne, of-le, of-lt, of-gt, of-ge}
 use Rattle.words.proofs.CountedLaws.{lowest-nothing, lowest-is}
-use Rattle.words.proofs.ListLaws.{any-at, length-listFrom, getD-listFrom}
+use Rattle.words.proofs.ListLaws.{all-getD, any-at, firstThat-some, firstThat-none, length-listFrom, getD-listFrom}
 use Rattle.ledger.specs.declared.Row.{Row}
 use Rattle.ledger.specs.Records.{Ledger, emptyRow, isLive, recordOf}
 use Rattle.ledger.specs.Units.{span, addressAt, first, past, valid, covers, free}
 use Rattle.ledger.specs.Runs.{Run, runsFrom, freeRuns}
+use Rattle.words.proofs.ByPlace.{firstThat-at}
 use Rattle.ledger.proofs.RecordLaws.{record-slot}
 use Rattle.ledger.proofs.UnitLaws.{Fitted, valid-at, valid-record, span-pos, covers-in, disjoint}
 use Rattle.ledger.proofs.RunLaws.{runs-next}
-use Rattle.stored_forms.specs.Segments.{controlWord, weight, largest, firstBlock, treeWord, segmentSize, depth, indexWord}
-use Rattle.stored_forms.specs.Segments.{segmentIndex, isPower, segmentRule, startsAt, freeFrom, opens, segmentWord, mostWords}
+use Rattle.stored_forms.specs.Segments.{segmentRule, mostWords, startsAt, freeFrom, opens}
+use Rattle.stored_forms.specs.Segments.{controlWord, segmentWord}
+use Rattle.stored_forms.specs.Segments.{weight, largest, firstBlock, treeWord, segmentSize, depth, indexWord}
+use Rattle.stored_forms.specs.Segments.{segmentIndex, isPower}
 
 -- ---- the number of segments
 
@@ -55,7 +61,19 @@ power-is S d = (power-from S d, λ (e, h, q). power-to S d e h q)
 pub power-range : (S d : ℕ) → isPower S d ≡ true → (1 ≤ S) × (S ≤ 2 ^ d)
 power-range S d h =
     let (e, l, q) = power-from S d h in
-    (rw q (pow-le-pow-right {n = 2} (omega arith) {i = 0} (omega arith)), rw q (pow-le-pow-right {n = 2} (omega arith) l))
+    let two : 0 < 2 = omega arith in
+    (rw q (pow-le-pow-right two {i = 0} (omega arith)), rw q (pow-le-pow-right two l))
+
+-- "Each has W/S words, rounded up": S segments of so many words hold all W, and of fewer they do not.
+pub segment-size : (W S : ℕ) → 1 ≤ S → (W ≤ S * segmentSize W S) × ((z : ℕ) → W ≤ S * z → segmentSize W S ≤ z)
+unfolding segmentSize
+segment-size W S h = (
+  rw (mul-comm S ((W + (S - 1)) / S)) (let up = lt-div-mul-add {a = W + (S - 1)} h in omega arith),
+  (λ z l.
+      let below : W + (S - 1) < suc z * S = rw (suc-mul z S, mul-comm z S) (omega arith) in
+      let less = div-lt-iff-lt-mul {k = S} {x = W + (S - 1)} {y = suc z} h .1 below in
+      omega arith),
+)
 
 -- ---- the index by its words
 
@@ -107,8 +125,10 @@ module _ (c : ℕ → ℤ) (W S : ℕ) where
   unfolding indexWord
   zero-word = refl
 
-  tree-part : (i : ℕ) → 0 < i → i < 2 * S
-      → indexWord c W S i ≡ treeWord (λ k. largest c (k * segmentSize W S) (segmentSize W S)) S depth i
+  abbrev leafAt : ℕ → ℕ
+  leafAt k = largest c (k * segmentSize W S) (segmentSize W S)
+
+  tree-part : (i : ℕ) → 0 < i → i < 2 * S → indexWord c W S i ≡ treeWord leafAt S depth i
   unfolding indexWord
   tree-part i l h = rw (eqb-ne i 0 (omega arith), of-lt i (2 * S) h)
 
@@ -116,25 +136,27 @@ module _ (c : ℕ → ℤ) (W S : ℕ) where
   pub tree-word : isPower S depth ≡ true → (i : ℕ) → 0 < i → i < S
       → indexWord c W S i ≡ max (indexWord c W S (2 * i)) (indexWord c W S (2 * i + 1))
   tree-word power i l h =
-      tree-part i l (omega arith)
-      ∙ treeWord-node (λ k. largest c (k * segmentSize W S) (segmentSize W S)) S (power-range S depth power .1) i l h
-      ∙ sym (ap₂ max (tree-part (2 * i) (omega arith) (omega arith)) (tree-part (2 * i + 1) (omega arith) (omega arith)))
+      let left = tree-part (2 * i) (omega arith) (omega arith) in
+      let right = tree-part (2 * i + 1) (omega arith) (omega arith) in
+      tree-part i l (omega arith) ∙ treeWord-node leafAt S (power-range S depth power .1) i l h
+      ∙ sym (ap₂ max left right)
 
   -- "Words S to 2S - 1 are the leaves."
   pub leaf-word : (k : ℕ) → k < S → indexWord c W S (S + k) ≡ largest c (k * segmentSize W S) (segmentSize W S)
-  leaf-word k h =
-      tree-part (S + k) (omega arith) (omega arith)
-      ∙ treeWord-leaf (λ k. largest c (k * segmentSize W S) (segmentSize W S)) S depth k
+  leaf-word k h = tree-part (S + k) (omega arith) (omega arith) ∙ treeWord-leaf leafAt S depth k
 
   -- "Words 2S to 3S - 1: address of the first control word in the segment, or W if none."
-  pub first-word : (k : ℕ) → k < S → indexWord c W S (2 * S + k) ≡ firstBlock c W (k * segmentSize W S) (segmentSize W S)
+  pub first-word : (k : ℕ) → k < S
+      → indexWord c W S (2 * S + k) ≡ firstBlock c W (k * segmentSize W S) (segmentSize W S)
   unfolding indexWord
-  first-word k h = rw (eqb-ne (2 * S + k) 0 (omega arith), of-ge (2 * S + k) (2 * S) (omega arith), add-sub-cancel-left (2 * S) k)
+  first-word k h =
+      let i = 2 * S + k in
+      rw (eqb-ne i 0 (omega arith), of-ge i (2 * S) (omega arith), add-sub-cancel-left (2 * S) k)
 
 -- ---- leaves: "0 if no block begins in that segment, else the largest free block beginning there, and at least 1"
 
 -- a word that is not 0 begins a block
-weight-zero : (z : ℤ) → (weight z ≡ 0) ↔ (z ≡ pos 0)
+pub weight-zero : (z : ℤ) → (weight z ≡ 0) ↔ (z ≡ pos 0)
 weight-zero (pos n) = (λ e. ap pos e, λ e. ap weight e)
 weight-zero (negsuc n) = (λ e. absurd (omega arith), λ e. ap weight e)
 
@@ -143,15 +165,16 @@ weight-free (pos n) h = refl
 weight-free (negsuc n) h = absurd (omega arith)
 
 module _ (c : ℕ → ℤ) where
-  largest-above : (u n k : ℕ) → u ≤ k → k < u + n → weight (c k) ≤ largest c u n
+  pub largest-above : (u n k : ℕ) → u ≤ k → k < u + n → weight (c k) ≤ largest c u n
   largest-above u zero k a b = absurd (omega arith)
   largest-above u (suc n) k a b = go (ℕ-discrete k u) (λ l. largest-above (suc u) n k l (omega arith))
     where
-      go : Dec (k ≡ u) → (suc u ≤ k → weight (c k) ≤ largest c (suc u) n) → weight (c k) ≤ max (weight (c u)) (largest c (suc u) n)
+      go : Dec (k ≡ u) → (suc u ≤ k → weight (c k) ≤ largest c (suc u) n)
+          → weight (c k) ≤ max (weight (c u)) (largest c (suc u) n)
       go (yes e) ih = rw e (omega arith)
       go (no e) ih = let l = ih (omega arith) in omega arith
 
-  largest-at : (u n : ℕ) → 1 ≤ largest c u n → (k : ℕ) × (u ≤ k) × (k < u + n) × (weight (c k) ≡ largest c u n)
+  pub largest-at : (u n : ℕ) → 1 ≤ largest c u n → (k : ℕ) × (u ≤ k) × (k < u + n) × (weight (c k) ≡ largest c u n)
   largest-at u zero h = absurd (omega arith)
   largest-at u (suc n) h = go (decLe (largest c (suc u) n) (weight (c u))) (largest-at (suc u) n)
     where
@@ -225,9 +248,9 @@ pub record MaximalRun (f : ℕ → Bool) (N : ℕ) (r : Run) : Type 0 where
   pub passes : (u : ℕ) → r .start ≤ u → u < r .start + r .size → f u ≡ true
   pub after : r .start + r .size < N → f (r .start + r .size) ≡ false
 
--- k is no unit inside a run
-opens-from : (f : ℕ → Bool) (k s : ℕ) → k ≤ s → (f k ≡ true → opens f k ≡ true) → ((u : ℕ) → k ≤ u → u < s → f u ≡ false)
-    → f s ≡ true → opens f s ≡ true
+-- from a unit k that is not inside a run, the next unit that passes begins one
+opens-from : (f : ℕ → Bool) (k s : ℕ) → k ≤ s → (f k ≡ true → opens f k ≡ true)
+    → ((u : ℕ) → k ≤ u → u < s → f u ≡ false) → f s ≡ true → opens f s ≡ true
 opens-from f k zero l h before here = refl
 opens-from f k (suc s) l h before here = go (ℕ-discrete k (suc s))
   where
@@ -260,8 +283,8 @@ free-run-maximal W L xs r ys e =
     run-maximal (free segmentRule L) W 0 (omega arith) (λ b p. refl) xs r ys
     (rw (sub-zero W) (rw (div-one W) at e))
 
-freeFrom-is : (f : ℕ → Bool) (u z n : ℕ) → ((v : ℕ) → u ≤ v → v < u + z → f v ≡ true) → z ≤ n → (z < n → f (u + z) ≡ false)
-    → freeFrom f u n ≡ z
+freeFrom-is : (f : ℕ → Bool) (u z n : ℕ) → ((v : ℕ) → u ≤ v → v < u + z → f v ≡ true) → z ≤ n
+    → (z < n → f (u + z) ≡ false) → freeFrom f u n ≡ z
 freeFrom-is f u zero zero h l k = refl
 freeFrom-is f u zero (suc n) h l k = rw (rw add-zero at (k (omega arith)))
 freeFrom-is f u (suc z) zero h l k = absurd (omega arith)
@@ -272,137 +295,124 @@ freeFrom-is f u (suc z) (suc n) h l k =
 
 -- ---- control words
 
--- the record that begins at a unit, if there is one
-record Begins (L : Ledger) (u i : ℕ) : Type 0 where
-  slot : i < length L
-  live : isLive (getD L i emptyRow) ≡ true
-  unit : first segmentRule (getD L i emptyRow) ≡ u
+-- live record r begins at unit u
+abbrev beginsAt : ℕ → Row → Bool
+beginsAt u r = isLive r && eqb (first segmentRule r) u
 
-record Began (L : Ledger) (u : ℕ) : Type 0 where
-  place : ℕ
-  begins-there : Begins L u place
-  size : startsAt L u ≡ span segmentRule (getD L place emptyRow .words)
+abbrev unitsOf : Option Row → ℕ
+unitsOf none = 0
+unitsOf (some r) = span segmentRule (r .words)
 
-record Unbegun (L : Ledger) (u : ℕ) : Type 0 where
-  nothing : startsAt L u ≡ 0
-  nowhere : (i : ℕ) → Begins L u i → ⊥
-
-starts-cases : (L : Ledger) (u : ℕ) → Began L u ⊎ Unbegun L u
-starts-cases [] u = inr (record { nothing = refl; nowhere = λ i b. omega (arith, b .slot) })
-starts-cases (r ∷ L) u = go (isLive r && eqb (first segmentRule r) u) refl (starts-cases L u)
+starts-is : (L : Ledger) (u : ℕ) → startsAt L u ≡ unitsOf (firstThat (beginsAt u) L)
+starts-is [] u = refl
+starts-is (r ∷ L) u = go (beginsAt u r) (starts-is L u)
   where
-    go : (b : Bool) → (isLive r && eqb (first segmentRule r) u) ≡ b → Began L u ⊎ Unbegun L u → Began (r ∷ L) u ⊎ Unbegun (r ∷ L) u
-    go true e ih = inl (record {
-      place = 0;
-      begins-there = record {
-        slot = omega arith;
-        live = and-l (isLive r) (eqb (first segmentRule r) u) e;
-        unit = eqb-eq (first segmentRule r) u (and-r (isLive r) (eqb (first segmentRule r) u) e);
-      };
-      size = rw e;
-    })
-    go false e (inl b) = inl (record {
-      place = suc (b .place);
-      begins-there = record { slot = omega (arith, b .begins-there .slot); live = b .begins-there .live; unit = b .begins-there .unit };
-      size = rw e (b .size);
-    })
-    go false e (inr n) = inr (record { nothing = rw e (n .nothing); nowhere = none-there })
-      where
-        none-there : (i : ℕ) → Begins (r ∷ L) u i → ⊥
-        none-there zero b = true≢false (sym (and-i (isLive r) (eqb (first segmentRule r) u) (b .live) (rw (b .unit) (eqb-same u))) ∙ e)
-        none-there (suc i) b = n .nowhere i (record { slot = omega (arith, b .slot); live = b .live; unit = b .unit })
+    go : (b : Bool) → startsAt L u ≡ unitsOf (firstThat (beginsAt u) L)
+        → cond b (span segmentRule (r .words)) (startsAt L u) ≡ unitsOf (cond b (some r) (firstThat (beginsAt u) L))
+    go true ih = refl
+    go false ih = ih
 
 module _ (W next : ℕ) (L : Ledger) (good : valid segmentRule W next L ≡ true) where
-  fitted : (u i : ℕ) → Begins L u i → Fitted segmentRule W next (getD L i emptyRow)
-  fitted u i b = valid-at segmentRule (omega arith) W next L good i (b .slot) (b .live)
+  -- slot i has the record s, and it covers unit u
+  record Covered (u : ℕ) (s : Row) : Type 0 where
+    slot : ℕ
+    inside : slot < length L
+    is : getD L slot emptyRow ≡ s
+    covered : covers segmentRule u (getD L slot emptyRow) ≡ true
 
-  begins-covers : (u i : ℕ) → Begins L u i → covers segmentRule u (getD L i emptyRow) ≡ true
-  begins-covers u i b =
-      let r = getD L i emptyRow in
-      let n = fitted u i b .nonempty in
-      let e = b .unit in
-      covers-in segmentRule u r (b .live) (omega arith) (omega arith)
-
-  -- the record that begins at a unit of a slot's record is that record
-  begins-same : (u i j : ℕ) → Begins L u i → j < length L → covers segmentRule u (getD L j emptyRow) ≡ true → i ≡ j
-  begins-same u i j b l h = go (ℕ-discrete i j)
+  one-holder : (u : ℕ) (r s : Row) → Covered u r → Covered u s → r ≡ s
+  one-holder u r s a b = sym (a .is) ∙ ap (λ i. getD L i emptyRow) (go (ℕ-discrete (a .slot) (b .slot))) ∙ b .is
     where
-      go : Dec (i ≡ j) → i ≡ j
+      go : Dec (a .slot ≡ b .slot) → a .slot ≡ b .slot
       go (yes e) = e
-      go (no e) = absurd (true≢false (sym h ∙ disjoint segmentRule W next L good u i j (b .slot) l e (begins-covers u i b)))
+      go (no e) =
+          let off = disjoint segmentRule W next L good u (a .slot) (b .slot) (a .inside) (b .inside) e (a .covered) in
+          absurd (true≢false (sym (b .covered) ∙ off))
+
+  covered-held : (u : ℕ) (s : Row) → Covered u s → free segmentRule L u ≡ false
+  unfolding free
+  covered-held u s c = ap not (any-at (covers segmentRule u) emptyRow L (c .slot) (c .covered) (c .inside))
+
+  -- the record that is found to begin at u
+  module _ (u : ℕ) (s : Row) (found : firstThat (beginsAt u) L ≡ some s) where
+    begun-first : first segmentRule s ≡ u
+    begun-first =
+        let h = firstThat-some (beginsAt u) L s found in
+        eqb-eq (first segmentRule s) u (and-r (isLive s) (eqb (first segmentRule s) u) h)
+
+    begun-fits : Fitted segmentRule W next s
+    begun-fits =
+        let h = firstThat-some (beginsAt u) L s found in
+        let live = and-l (isLive s) (eqb (first segmentRule s) u) h in
+        let (i, l, q) = firstThat-at (beginsAt u) emptyRow L s found in
+        subst (Fitted segmentRule W next) q (valid-at segmentRule (omega arith) W next L good i l (ap isLive q ∙ live))
+
+    begun-covered : Covered u s
+    begun-covered =
+        let (i, l, q) = firstThat-at (beginsAt u) emptyRow L s found in
+        let some-units = begun-fits .nonempty in
+        let at = begun-first in
+        let here = covers-in segmentRule u s (begun-fits .live) (omega arith) (omega arith) in
+        record { slot = i; inside = l; is = q; covered = ap (covers segmentRule u) q ∙ here }
 
   -- ---- a held block
 
   module _ (r : Row) (held : recordOf (r .ticket) L ≡ some r) where
-    slot : ℕ
-    slot = record-slot (r .ticket) L r held .0
+    held-fits : Fitted segmentRule W next r
+    held-fits = valid-record segmentRule (omega arith) W next L good (r .ticket) r held
 
-    slot-covers : (u : ℕ) → first segmentRule r ≤ u → u < past segmentRule r
-        → (slot < length L) × (getD L slot emptyRow ≡ r) × (covers segmentRule u (getD L slot emptyRow) ≡ true)
-    unfolding slot
-    slot-covers u a b =
+    held-covered : (u : ℕ) → first segmentRule r ≤ u → u < past segmentRule r → Covered u r
+    held-covered u a b =
         let (i, l, q) = record-slot (r .ticket) L r held in
-        let facts = valid-record segmentRule (omega arith) W next L good (r .ticket) r held in
-        (l, q, ap (covers segmentRule u) q ∙ covers-in segmentRule u r (facts .live) a b)
-
-    not-free : (u : ℕ) → first segmentRule r ≤ u → u < past segmentRule r → free segmentRule L u ≡ false
-    unfolding free
-    not-free u a b =
-        let (l, q, c) = slot-covers u a b in
-        ap not (any-at (covers segmentRule u) emptyRow L slot c l)
-
-    -- what begins in the block is the record itself
-    begins-held : (u i : ℕ) → Begins L u i → first segmentRule r ≤ u → u < past segmentRule r → getD L i emptyRow ≡ r
-    begins-held u i b lo hi =
-        let (l, q, c) = slot-covers u lo hi in
-        ap (λ j. getD L j emptyRow) (begins-same u i slot b l c) ∙ q
+        let here = covers-in segmentRule u r (held-fits .live) a b in
+        record { slot = i; inside = l; is = q; covered = ap (covers segmentRule u) q ∙ here }
 
     pub starts-held : startsAt L (first segmentRule r) ≡ span segmentRule (r .words)
-    starts-held = go (starts-cases L (first segmentRule r))
+    starts-held = starts-is L u ∙ go (firstThat (beginsAt u) L) refl
       where
-        facts : Fitted segmentRule W next r
-        facts = valid-record segmentRule (omega arith) W next L good (r .ticket) r held
+        u : ℕ
+        u = first segmentRule r
 
-        go : Began L (first segmentRule r) ⊎ Unbegun L (first segmentRule r) → startsAt L (first segmentRule r) ≡ span segmentRule (r .words)
-        go (inl b) =
-            b .size
-            ∙ ap (λ (s : Row). span segmentRule (s .words))
-            (begins-held (first segmentRule r) (b .place) (b .begins-there) (omega arith) (facts .nonempty))
-        go (inr n) =
-            let (l, q, c) = slot-covers (first segmentRule r) (omega arith) (facts .nonempty) in
-            absurd (n .nowhere slot (record { slot = l; live = ap isLive q ∙ facts .live; unit = ap (first segmentRule) q }))
+        here : Covered u r
+        here = held-covered u (omega arith) (held-fits .nonempty)
+
+        go : (o : Option Row) → firstThat (beginsAt u) L ≡ o → unitsOf o ≡ span segmentRule (r .words)
+        go (some s) e = ap (λ (x : Row). span segmentRule (x .words)) (one-holder u s r (begun-covered u s e) here)
+        go none e =
+            let none-begins = firstThat-none (beginsAt u) L e in
+            let none-there = all-getD (λ s. not (beginsAt u s)) emptyRow L none-begins (here .slot) (here .inside) in
+            let begins = and-i (isLive r) (eqb u u) (held-fits .live) (eqb-same u) in
+            absurd (true≢false (sym begins ∙ not-true (beginsAt u r) (rw (here .is) at none-there)))
 
     starts-inside : (u : ℕ) → first segmentRule r < u → u < past segmentRule r → startsAt L u ≡ 0
-    starts-inside u a b = go (starts-cases L u)
+    starts-inside u a b = starts-is L u ∙ go (firstThat (beginsAt u) L) refl
       where
-        go : Began L u ⊎ Unbegun L u → startsAt L u ≡ 0
-        go (inl x) =
-            let e = sym (x .begins-there .unit) ∙ ap (first segmentRule) (begins-held u (x .place) (x .begins-there) (omega arith) b) in
+        go : (o : Option Row) → firstThat (beginsAt u) L ≡ o → unitsOf o ≡ 0
+        go none e = refl
+        go (some s) e =
+            let same = one-holder u s r (begun-covered u s e) (held-covered u (omega arith) b) in
+            let at = sym (begun-first u s e) ∙ ap (first segmentRule) same in
             absurd (omega arith)
-        go (inr n) = n .nothing
 
     -- "negative if held"
     pub control-held : controlWord W L (first segmentRule r) ≡ negℤ (pos (span segmentRule (r .words)))
     unfolding controlWord
     control-held =
-        let facts = valid-record segmentRule (omega arith) W next L good (r .ticket) r held in
-        rw (starts-held, of-lt 0 (span segmentRule (r .words)) (span-pos segmentRule (omega arith) (r .words) (facts .asked)))
+        let some-units = span-pos segmentRule (omega arith) (r .words) (held-fits .asked) in
+        rw (starts-held, of-lt 0 (span segmentRule (r .words)) some-units)
 
     pub control-inside : (u : ℕ) → first segmentRule r < u → u < past segmentRule r → controlWord W L u ≡ pos 0
     unfolding controlWord
-    control-inside u a b = rw (starts-inside u a b, not-free u (omega arith) b)
+    control-inside u a b = rw (starts-inside u a b, covered-held u r (held-covered u (omega arith) b))
 
   -- ---- a free run
 
   starts-free : (u : ℕ) → free segmentRule L u ≡ true → startsAt L u ≡ 0
-  unfolding free
-  starts-free u h = go (starts-cases L u)
+  starts-free u h = starts-is L u ∙ go (firstThat (beginsAt u) L) refl
     where
-      go : Began L u ⊎ Unbegun L u → startsAt L u ≡ 0
-      go (inl b) =
-          let here = b .begins-there in
-          absurd (true≢false (sym h ∙ ap not (any-at (covers segmentRule u) emptyRow L (b .place) (begins-covers u (b .place) here) (here .slot))))
-      go (inr n) = n .nothing
+      go : (o : Option Row) → firstThat (beginsAt u) L ≡ o → unitsOf o ≡ 0
+      go none e = refl
+      go (some s) e = absurd (true≢false (sym h ∙ covered-held u s (begun-covered u s e)))
 
   module _ (r : Run) (free-run : MaximalRun (free segmentRule L) W r) where
     -- "positive if free"
@@ -457,11 +467,11 @@ mag-neg (suc n) = omega arith
 module _ (W next : ℕ) (L : Ledger) (good : valid segmentRule W next L ≡ true) (u : ℕ) where
   starts-le : startsAt L u ≤ W
   unfolding past
-  starts-le = go (starts-cases L u)
+  starts-le = rw (starts-is L u) (go (firstThat (beginsAt u) L) refl)
     where
-      go : Began L u ⊎ Unbegun L u → startsAt L u ≤ W
-      go (inl b) = let i = fitted W next L good u (b .place) (b .begins-there) .inside in let e = b .size in omega arith
-      go (inr n) = let e = n .nothing in omega arith
+      go : (o : Option Row) → firstThat (beginsAt u) L ≡ o → unitsOf o ≤ W
+      go none e = omega arith
+      go (some s) e = let inside = begun-fits W next L good u s e .inside in omega arith
 
   control-le : mag (controlWord W L u) ≤ W
   unfolding controlWord

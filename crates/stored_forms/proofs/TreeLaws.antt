@@ -1,6 +1,6 @@
--- The tree of the free runs: it has them from left to right, it is the only such tree, and its leftmost fit is the first run that
--- is long enough. 01, "Stored form of the tree pool". Assumes nothing.
-use Prim.Native.Nat.{ℕ, _≤_}
+-- The tree of the free runs: it has them from left to right, it is the only such tree, and its leftmost fit is the
+-- first run that is long enough. 01, "Stored form of the tree pool". Assumes nothing.
+use Prim.Native.Nat.{ℕ, _/_, _≤_}
 use native.Mathlib.Nat.{mul-one}
 use native.Mathlib.Omega.{arith}
 use mathlib.Core.Path.{_≡_, refl, sym, ap, ap₂, _∙_}
@@ -8,12 +8,15 @@ use mathlib.Core.Bool.{Bool, true, false, cond, not, false≢true}
 use mathlib.Core.List.{List, [], _∷_, _++_, map, append-nil}
 use mathlib.Core.Option.{Option, none, some}
 use lib.Dec.{leb}
-use Rattle.words.specs.Lists.{all, firstThat}
+use Rattle.words.specs.Lists.{all}
 use Rattle.words.proofs.Tests.{and-l, and-r, and-i, not-true, le-of, of-le, lt-of, of-lt, not-le, of-gt, absurd-some}
 use Rattle.words.proofs.ListLaws.{all-imp, all-append, all-append-r}
 use Rattle.ledger.specs.Records.{Ledger}
+use Rattle.ledger.specs.Units.{free, lowestFit}
 use Rattle.ledger.specs.Runs.{Run, freeRuns}
-use Rattle.stored_forms.specs.Tree.{Tree, leaf, node, addLeft, treeOf, inorder, shorter, noLonger, Heaped, IsTreeOf, formOne, formRule, cellRun, freeTree}
+use Rattle.ledger.proofs.FitLaws.{firstFit, startOf, fit-first}
+use Rattle.stored_forms.specs.Tree.{Tree, leaf, node, addLeft, treeOf, inorder, shorter, noLonger, Heaped}
+use Rattle.stored_forms.specs.Tree.{IsTreeOf, formOne, formRule, cellRun, freeTree}
 
 -- ---- the runs of the tree, from left to right
 
@@ -84,7 +87,8 @@ heaped-addLeft r (node a q b) h = go (leb (q .size) (r .size)) refl (heaped-addL
         )
     go false e ih = (
       rw (inorder-addLeft r a)
-          (and-i (shorter q r) (all (shorter q) (inorder a)) (of-lt (r .size) (q .size) (not-le (q .size) (r .size) e)) (h .0)),
+          (and-i (shorter q r) (all (shorter q) (inorder a))
+          (of-lt (r .size) (q .size) (not-le (q .size) (r .size) e)) (h .0)),
       h .1,
       ih,
       h .3,
@@ -99,43 +103,44 @@ tree-is rs = record { order = inorder-treeOf rs; heap = heaped-treeOf rs }
 
 -- ---- leftmost fit
 
+-- a run of at least m cells
 abbrev pub longEnough : ℕ → Run → Bool
 longEnough m r = leb m (r .size)
 
 -- the tree has a root, and it is long enough
 abbrev pub rootFits : ℕ → Tree → Bool
 rootFits m leaf = false
-rootFits m (node a q b) = longEnough m q
+rootFits m (node a q b) = leb m (q .size)
 
--- 01, "Leftmost fit: refuse if the root is too short or absent; go left while the left son is long enough; where that stops is
--- the block."
+-- 01, "Leftmost fit: refuse if the root is too short or absent; go left while the left son is long enough; where that
+-- stops is the block."
 abbrev pub leftmost : ℕ → Tree → Option Run
 leftmost m leaf = none
-leftmost m (node a q b) = cond (longEnough m q) (cond (rootFits m a) (leftmost m a) (some q)) none
+leftmost m (node a q b) = cond (leb m (q .size)) (cond (rootFits m a) (leftmost m a) (some q)) none
 
 tooShort : ℕ → Run → Bool
-tooShort m r = not (longEnough m r)
+tooShort m r = not (leb m (r .size))
 
 -- the first that passes: past a part where none does, and in a part where one does
 first-past : (m : ℕ) (xs ys : List Run) → all (tooShort m) xs ≡ true
-    → firstThat (longEnough m) (xs ++ ys) ≡ firstThat (longEnough m) ys
+    → firstFit m (xs ++ ys) ≡ firstFit m ys
 unfolding tooShort
 first-past m [] ys h = refl
 first-past m (x ∷ xs) ys h =
-    rw (not-true (longEnough m x) (and-l (tooShort m x) (all (tooShort m) xs) h))
+    rw (not-true (leb m (x .size)) (and-l (tooShort m x) (all (tooShort m) xs) h))
     (first-past m xs ys (and-r (tooShort m x) (all (tooShort m) xs) h))
 
-first-none : (m : ℕ) (xs : List Run) → all (tooShort m) xs ≡ true → firstThat (longEnough m) xs ≡ none
-first-none m xs h = ap (firstThat (longEnough m)) (sym (append-nil xs)) ∙ first-past m xs [] h
+first-none : (m : ℕ) (xs : List Run) → all (tooShort m) xs ≡ true → firstFit m xs ≡ none
+first-none m xs h = ap (firstFit m) (sym (append-nil xs)) ∙ first-past m xs [] h
 
-first-in : (m : ℕ) (xs ys : List Run) (r : Run) → firstThat (longEnough m) xs ≡ some r
-    → firstThat (longEnough m) (xs ++ ys) ≡ some r
+first-in : (m : ℕ) (xs ys : List Run) (r : Run) → firstFit m xs ≡ some r
+    → firstFit m (xs ++ ys) ≡ some r
 first-in m [] ys r h = absurd (absurd-some h)
-first-in m (x ∷ xs) ys r h = go (longEnough m x) (first-in m xs ys r) h
+first-in m (x ∷ xs) ys r h = go (leb m (x .size)) (first-in m xs ys r) h
   where
-    go : (b : Bool) → (firstThat (longEnough m) xs ≡ some r → firstThat (longEnough m) (xs ++ ys) ≡ some r)
-        → cond b (some x) (firstThat (longEnough m) xs) ≡ some r
-        → cond b (some x) (firstThat (longEnough m) (xs ++ ys)) ≡ some r
+    go : (b : Bool) → (firstFit m xs ≡ some r → firstFit m (xs ++ ys) ≡ some r)
+        → cond b (some x) (firstFit m xs) ≡ some r
+        → cond b (some x) (firstFit m (xs ++ ys)) ≡ some r
     go true ih h = h
     go false ih h = ih h
 
@@ -157,19 +162,19 @@ leftmost-found m leaf h = absurd (false≢true h)
 leftmost-found m (node a q b) h = go (rootFits m a) refl (leftmost-found m a)
   where
     go : (c : Bool) → rootFits m a ≡ c → (rootFits m a ≡ true → (r : Run) × (leftmost m a ≡ some r))
-        → (r : Run) × (cond (longEnough m q) (cond (rootFits m a) (leftmost m a) (some q)) none ≡ some r)
+        → (r : Run) × (cond (leb m (q .size)) (cond (rootFits m a) (leftmost m a) (some q)) none ≡ some r)
     go true e ih = (ih e .0, rw (h, e) (ih e .1))
     go false e ih = (q, rw (h, e))
 
 -- leftmost fit gives the first run, by address, that is long enough
-pub leftmost-first : (m : ℕ) (t : Tree) → Heaped t → leftmost m t ≡ firstThat (longEnough m) (inorder t)
+pub leftmost-first : (m : ℕ) (t : Tree) → Heaped t → leftmost m t ≡ firstFit m (inorder t)
 leftmost-first m leaf h = refl
-leftmost-first m (node a q b) h = go (longEnough m q) refl (rootFits m a) refl (leftmost-first m a (h .2))
+leftmost-first m (node a q b) h = go (leb m (q .size)) refl (rootFits m a) refl (leftmost-first m a (h .2))
   where
-    go : (c : Bool) → longEnough m q ≡ c → (d : Bool) → rootFits m a ≡ d
-        → leftmost m a ≡ firstThat (longEnough m) (inorder a)
-        → cond (longEnough m q) (cond (rootFits m a) (leftmost m a) (some q)) none
-        ≡ firstThat (longEnough m) (inorder a ++ q ∷ inorder b)
+    go : (c : Bool) → leb m (q .size) ≡ c → (d : Bool) → rootFits m a ≡ d
+        → leftmost m a ≡ firstFit m (inorder a)
+        → cond (leb m (q .size)) (cond (rootFits m a) (leftmost m a) (some q)) none
+        ≡ firstFit m (inorder a ++ q ∷ inorder b)
     go true e true k ih =
         let f = leftmost-found m a k in
         rw (e, k) (f .1 ∙ sym (first-in m (inorder a) (q ∷ inorder b) (f .0) (sym ih ∙ f .1)))
@@ -182,10 +187,20 @@ pub cellRun-one : (r : Run) → cellRun formOne r ≡ r
 unfolding formOne
 cellRun-one r = rw (mul-one (r .start), mul-one (r .size))
 
-cellRuns-one : (rs : List Run) → map (cellRun formOne) rs ≡ rs
+pub cellRuns-one : (rs : List Run) → map (cellRun formOne) rs ≡ rs
 cellRuns-one [] = refl
 cellRuns-one (r ∷ rs) = ap₂ (λ (x : Run) (l : List Run). x ∷ l) (cellRun-one r) (cellRuns-one rs)
 
 pub freeTree-one : (W : ℕ) (L : Ledger) → freeTree formOne W L ≡ treeOf (freeRuns (formRule formOne) W L)
 unfolding freeTree
 freeTree-one W L = ap treeOf (cellRuns-one (freeRuns (formRule formOne) W L))
+
+-- the block that leftmost fit finds begins at the lowest unit from which enough units are free: demand 2's
+pub leftmost-lowest : (W : ℕ) (L : Ledger) (m : ℕ) → 1 ≤ m
+    → startOf (leftmost m (freeTree formOne W L)) ≡ lowestFit (free (formRule formOne) L) (W / formOne .unit) m
+unfolding freeRuns
+leftmost-lowest W L m one =
+    let runs = freeRuns (formRule formOne) W L in
+    ap (λ (t : Tree). startOf (leftmost m t)) (freeTree-one W L)
+    ∙ ap startOf (leftmost-first m (treeOf runs) (heaped-treeOf runs) ∙ ap (firstFit m) (inorder-treeOf runs))
+    ∙ sym (fit-first (free (formRule formOne) L) (W / formOne .unit) m one)

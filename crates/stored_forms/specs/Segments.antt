@@ -1,17 +1,14 @@
 -- The segment pool's stored form: control words and the index. 01, "Stored form of the segment pool". Assumes nothing.
 use Prim.Native.Nat.{ℕ, zero, suc, _+_, _-_, _*_, _/_, _^_, max}
-use mathlib.Core.Path.{_≡_}
 use mathlib.Core.Bool.{Bool, true, false, cond, not, _&&_, _||_}
-use mathlib.Core.List.{List, [], _∷_, _++_}
-use mathlib.Core.Option.{Option, none, some}
+use mathlib.Core.List.{[], _∷_}
+use mathlib.Core.Option.{none, some}
 use lib.Dec.{eqb, leb, ltb}
 use lib.IntN.{ℤ, pos, negsuc, negℤ}
-use lib.ListN.{getD}
 use mir.Syntax.{w32}
 use mir.Val.{ofZ}
-use Rattle.words.specs.Lists.{Words, listFrom, firstThat}
+use Rattle.words.specs.Lists.{Words, listFrom}
 use Rattle.words.specs.Counted.{lowest}
-use Rattle.ledger.specs.declared.Row.{Row}
 use Rattle.ledger.specs.declared.Rule.{Rule}
 use Rattle.ledger.specs.Records.{Ledger, isLive}
 use Rattle.ledger.specs.Units.{span, first, free}
@@ -41,8 +38,8 @@ abbrev pub opens : (ℕ → Bool) → ℕ → Bool
 opens f zero = true
 opens f (suc u) = not (f u)
 
--- The control word at word u of W: the block's size, the control word counted, positive if free and negative if held; 0 where no
--- block begins.
+-- The control word at word u of W: the block's size, the control word counted, positive if free and negative if held;
+-- 0 where no block begins.
 unfoldable pub controlWord : ℕ → Ledger → ℕ → ℤ
 controlWord W L u =
     let f = free segmentRule L in
@@ -69,8 +66,8 @@ largest c u (suc n) = max (weight (c u)) (largest c (suc u) n)
 abbrev pub firstBlock : (ℕ → ℤ) → ℕ → ℕ → ℕ → ℕ
 firstBlock c W u n = elim (lowest (λ k. ltb 0 (weight (c k))) u n) [ none ↦ W | some k ↦ k ]
 
--- Word i of the tree over S leaves: a leaf from S on, else the larger of words 2i and 2i + 1. `d` levels are enough where S is at
--- most 2 ^ d; `tree-word` in proofs/SegmentLaws is the paper's line, with no d.
+-- Word i of the tree over S leaves: a leaf from S on, else the larger of words 2i and 2i + 1. `d` levels are enough
+-- where S is at most 2 ^ d; `tree-word` in proofs/SegmentLaws is the paper's line, with no d.
 abbrev pub treeWord : (ℕ → ℕ) → ℕ → ℕ → ℕ → ℕ
 treeWord leaf S zero i = leaf (i - S)
 treeWord leaf S (suc d) i =
@@ -80,7 +77,7 @@ treeWord leaf S (suc d) i =
 unfoldable pub segmentSize : ℕ → ℕ → ℕ
 segmentSize W S = (W + (S - 1)) / S
 
--- S has at most 2 ^ 8 segments
+-- S is at most 2 ^ 8
 abbrev pub depth : ℕ
 depth = 8
 

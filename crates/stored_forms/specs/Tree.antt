@@ -1,8 +1,8 @@
 -- The tree pool's stored form: the one Cartesian tree of the free runs, and the words of its nodes.
 -- 01, "Stored form of the tree pool". Assumes nothing.
-use Prim.Native.Nat.{ℕ, zero, suc, _+_, _-_, _*_, _/_, _%_}
+use Prim.Native.Nat.{ℕ, suc, _+_, _-_, _*_, _/_, _%_}
 use mathlib.Core.Path.{_≡_}
-use mathlib.Core.Bool.{Bool, true, false, cond, _&&_}
+use mathlib.Core.Bool.{Bool, true, cond, _&&_}
 use mathlib.Core.List.{List, [], _∷_, _++_, map}
 use lib.Dec.{eqb, leb, ltb}
 use lib.ListN.{getD, take, drop}
@@ -27,8 +27,9 @@ abbrev pub treeOf : List Run → Tree
 treeOf [] = leaf
 treeOf (r ∷ rs) = addLeft r (treeOf rs)
 
--- What makes it the right tree: it has the runs from left to right (000's first rule), no son is longer than its father (its
--- second), and of equal lengths the lower address stands above (01). `tree-unique` in proofs/TreeLaws: no other tree does.
+-- What makes it the right tree: it has the runs from left to right (000's first rule), no son is longer than its
+-- father (its second), and of equal lengths the lower address stands above (01). `tree-unique` in proofs/TreeLaws: no
+-- other tree does.
 abbrev pub inorder : Tree → List Run
 inorder leaf = []
 inorder (node a q b) = inorder a ++ q ∷ inorder b
@@ -50,8 +51,8 @@ pub record IsTreeOf (rs : List Run) (t : Tree) : Type 0 where
 
 -- ---- how a node lies in words
 
--- A form of the tree pool. The ledger's unit and the cell, where nodes lie and what lengths and links count, are two things.
--- `node` gives a node's words from its length and its two links, and the readings give them back.
+-- A form of the tree pool. The ledger's unit and the cell, where nodes lie and what lengths and links count, are two
+-- things. `node` gives a node's words from its length and its two links, and the readings give them back.
 pub record Form : Type 0 where
   -- words to a unit, and to a cell
   pub unit : ℕ

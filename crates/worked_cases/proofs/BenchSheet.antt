@@ -4,9 +4,11 @@ use mathlib.Core.List.{map}
 use lib.ListN.{drop}
 use Rattle.calls.specs.Engines.{treeEngine, segmentEngine}
 use Rattle.calls.specs.Computing.{treeMachine, segmentMachine}
-use Rattle.worked_cases.specs.BenchSheet.{State, trace, treeMemory, treeCalls, treeStates, segmentMemory, segmentCalls, segmentStates, otherCalls, otherAnswers}
+use Rattle.worked_cases.specs.BenchSheet.{State, trace, treeMemory, treeCalls, treeStates, segmentMemory}
+use Rattle.worked_cases.specs.BenchSheet.{segmentCalls, segmentStates, otherCalls, otherAnswers}
 
-pub bench-sheet : (trace treeEngine treeMemory treeCalls ≡ treeStates) × (trace segmentEngine segmentMemory segmentCalls ≡ segmentStates)
+pub bench-sheet : (trace treeEngine treeMemory treeCalls ≡ treeStates)
+    × (trace segmentEngine segmentMemory segmentCalls ≡ segmentStates)
 unfolding treeMachine segmentMachine
 bench-sheet = (refl, refl)
 

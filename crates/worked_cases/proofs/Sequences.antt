@@ -11,6 +11,7 @@ pub tree-sequence : (sound treeEngine treeStart ≡ true) × Sequence treeEngine
 unfolding treeMachine
 tree-sequence = (refl, refl)
 
-pub segment-sequence : (sound segmentEngine segmentStart ≡ true) × Sequence segmentEngine segmentStart segmentSet segmentEvents
+pub segment-sequence : (sound segmentEngine segmentStart ≡ true)
+    × Sequence segmentEngine segmentStart segmentSet segmentEvents
 unfolding segmentMachine
 segment-sequence = (refl, refl)

@@ -1,5 +1,5 @@
--- The bench sheet of document 01: the calls of T1 to T14, and every answer, head, arena, table and index along the way.
--- Between T13 and T14 stands the sheet's A 12, which is refused. Assumes nothing.
+-- The bench sheet of document 01: the calls of T1 to T14, and every answer, head, arena, table and index along the
+-- way. Between T13 and T14 stands the sheet's A 12, which is refused. Assumes nothing.
 use Prim.Native.Nat.{ℕ}
 use mathlib.Core.List.{List, [], _∷_, _++_}
 use lib.ListN.{replicate}
@@ -22,7 +22,8 @@ abbrev pub state : Answer → Words → ℕ → Words → Words → Words → St
 state x r n a t i = record { answer = x; root = r; next = n; arena = a; table = t; index = i }
 
 abbrev pub stateOf : Outcome → State
-stateOf o = state (o .answer) (o .pool .head .root) (o .pool .head .next) (o .pool .arena) (o .pool .table) (o .pool .index)
+stateOf o = state (o .answer) (o .pool .head .root) (o .pool .head .next) (o .pool .arena) (o .pool .table)
+    (o .pool .index)
 
 -- the states of a run of calls, each on the pool that the one before left
 abbrev pub trace : Engine → Pool → List (Call Words) → List State
@@ -31,10 +32,22 @@ trace E p (c ∷ cs) = let o = step E c p in stateOf o ∷ trace E (o .pool) cs
 
 -- memory before the format, with any contents: 24 words or 16, 4 records, S 4
 abbrev pub treeMemory : Pool
-treeMemory = record { head = record { root = 0 ∷ []; next = 0 }; shape = 0; arena = replicate 24 7; table = replicate 12 9; index = [] }
+treeMemory = record {
+  head = record { root = 0 ∷ []; next = 0 };
+  shape = 0;
+  arena = replicate 24 7;
+  table = replicate 12 9;
+  index = [];
+}
 
 abbrev pub segmentMemory : Pool
-segmentMemory = record { head = record { root = []; next = 0 }; shape = 4; arena = replicate 16 7; table = replicate 12 9; index = replicate 12 5 }
+segmentMemory = record {
+  head = record { root = []; next = 0 };
+  shape = 4;
+  arena = replicate 16 7;
+  table = replicate 12 9;
+  index = replicate 12 5;
+}
 
 -- T1 to T11, and T12 to T14
 abbrev pub treeCalls : List (Call Words)

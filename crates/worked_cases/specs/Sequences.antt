@@ -2,7 +2,7 @@
 use Prim.Native.Nat.{ℕ}
 use mathlib.Core.List.{List, [], _∷_}
 use mathlib.Core.Option.{none, some}
-use lib.ListN.{length, replicate}
+use lib.ListN.{replicate}
 use Rattle.words.specs.Lists.{Words}
 use Rattle.ledger.specs.Records.{row, Member, vacate, member}
 use Rattle.calls.specs.Pool.{Head, Pool}

@@ -1,4 +1,5 @@
--- `call_parts::named_slot` meets its contract: the search of the table, then the comparison of address and words. Assumes nothing.
+-- `call_parts::named_slot` meets its contract: the search of the table, then the comparison of address and words.
+-- Assumes nothing.
 use mathlib.Core.Path.{_∙_, sym}
 use borrow.Author.Needs.{needs}
 use denote.Ref.{now}
@@ -18,7 +19,8 @@ enum-known-i c = search needs
 read-row-requires : tie.Need-read-row-requires
 read-row-requires c κs =
     let d = c .before .before .before .before .before in
-    named-below (now (d .args .table)) (d .args .named) (c .before .i .given .0 .0) (sym (c .before .i .given .1) ∙ c .before .before .before .find-slot .ensures)
+    named-below (now (d .args .table)) (d .args .named) (c .before .i .given .0 .0)
+    (sym (c .before .i .given .1) ∙ c .before .before .before .find-slot .ensures)
 
 returns : tie.Need-returns
 returns c =
@@ -26,7 +28,8 @@ returns c =
     let i = r .before .before in
     let f = i .before .before in
     let s = f .before .before in
-    named-same (now (s .args .table)) (s .args .named) (i .i .given .0 .0) (sym (i .i .given .1) ∙ f .find-slot .ensures)
+    named-same (now (s .args .table)) (s .args .named) (i .i .given .0 .0)
+    (sym (i .i .given .1) ∙ f .find-slot .ensures)
     (rw (r .read-row .ensures) at (c .if1 .taken))
 
 returns-2 : tie.Need-returns-2
@@ -41,7 +44,8 @@ returns-3 c =
     let i = r .before .before in
     let f = i .before .before in
     let s = f .before .before in
-    named-other (now (s .args .table)) (s .args .named) (i .i .given .0 .0) (sym (i .i .given .1) ∙ f .find-slot .ensures)
+    named-other (now (s .args .table)) (s .args .named) (i .i .given .0 .0)
+    (sym (i .i .given .1) ∙ f .find-slot .ensures)
     (rw (r .read-row .ensures) at (c .if1 .left))
 
 pub named-slot-spec : {M : Type 1} → statement M

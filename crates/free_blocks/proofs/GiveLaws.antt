@@ -1,0 +1,617 @@
+-- Laws of cells given back: a run taken out of a list of runs and out of the arena, what touches the cells, and
+-- the sum put in. Assumes nothing.
+use Prim.Native.Nat.{ℕ, suc, _+_, _-_, _*_, _/_, _≤_, _<_}
+use native.Mathlib.Omega.{arith}
+use native.Mathlib.Decide.{ℕ-discrete, decLe}
+use mathlib.Core.Path.{_≡_, refl, sym, ap, _∙_, subst}
+use mathlib.Core.Logic.{_≢_, inl, inr}
+use mathlib.Core.Bool.{Bool, true, false, cond, not, _&&_, _||_, true≢false, or-true, or-false, or-assoc, or-comm}
+use mathlib.Core.List.{List, [], _∷_, _++_}
+use mathlib.Core.Option.{some}
+use lib.Dec.{eqb, leb, ltb}
+use lib.ListN.{length, getD}
+use Rattle.words.specs.Lists.{Words, all, firstThat}
+use Rattle.words.specs.Counted.{within}
+use Rattle.words.specs.Places.{wiped}
+use Rattle.words.proofs.Tests.{false-of, and-l, and-r, and-i, or-l, or-r, not-true, eqb-eq, eqb-same, eqb-ne}
+use Rattle.words.proofs.Tests.{eqb-false, lt-of, not-lt, of-le, of-lt, within-in, within-low, within-high, within-of}
+use Rattle.words.proofs.ListLaws.{all-append, all-append-l, all-append-r}
+use Rattle.words.proofs.PlaceLaws.{length-wiped, wiped-in, wiped-out}
+use Rattle.ledger.specs.Runs.{Run, run, covered, Gapped}
+use Rattle.ledger.proofs.RunLaws.{gapped-weaken, gapped-below, runs-unique, addRun, runs-after-release}
+use Rattle.stored_forms.specs.Tree.{Tree, leaf, node, inorder, treeOf, formOne, lengthAt}
+use Rattle.stored_forms.proofs.TreeLaws.{inorder-treeOf}
+use Rattle.stored_forms.proofs.NodeLaws.{Within, In, NotFirst, Zeros, readable-one, in-range, covered-in, in-covered}
+use Rattle.stored_forms.proofs.NodeLaws.{nodeWord-zero, holds-stored, stored-holds}
+use Rattle.free_tree.specs.Shapes.{putRun, dropRun, endsAt, beginsAt, linkTo}
+use Rattle.free_tree.specs.Held.{links, cells, NodeCleared, At, Became, NoNode, NoNodeNor, Apart, Room}
+use Rattle.free_tree.specs.Held.{Inserted, Deleted, RunFound}
+use Rattle.free_tree.proofs.RunOrder.{beginsElsewhere}
+use Rattle.free_tree.proofs.ChangeLaws.{insert-tree, delete-tree}
+use Rattle.free_tree.proofs.StepLaws.{at-length, at-left, at-right}
+use Rattle.free_blocks.specs.Blocks.{Lies, Changed, Gives}
+use Rattle.free_blocks.specs.Giving.{Removed, TakenOut, HeldCell, MergedBelow, MergedAbove}
+
+-- cell u lies in the run
+abbrev has : Run → ℕ → Bool
+has r u = within (r .start) (r .start + r .size) u
+
+-- ---- a run put into a list
+
+-- a range in two parts
+within-parts : (a b c u : ℕ) → a ≤ b → b ≤ c → within a c u ≡ (within a b u || within b c u)
+within-parts a b c u h k = go (decLe b u)
+  where
+    go : Dec (b ≤ u) → within a c u ≡ (within a b u || within b c u)
+    go (yes l) = rw (within-high a b u l, of-le a u (omega arith), of-le b u l)
+    go (no l) =
+        rw (within-low b c u (omega arith), of-lt u c (omega arith), of-lt u b (omega arith))
+        (sym (or-false (leb a u && true)))
+
+covered-put : (r : Run) (rs : List Run) (u : ℕ) → covered (putRun r rs) u ≡ (covered rs u || has r u)
+covered-put r [] u = or-false (has r u)
+covered-put r (q ∷ qs) u = go (ltb (q .start) (r .start)) (covered-put r qs u)
+  where
+    go : (b : Bool) → covered (putRun r qs) u ≡ (covered qs u || has r u)
+        → covered (cond b (q ∷ putRun r qs) (r ∷ q ∷ qs)) u ≡ (covered (q ∷ qs) u || has r u)
+    go true i = rw i (sym (or-assoc (has q u) (covered qs u) (has r u)))
+    go false i = or-comm (has r u) (has q u || covered qs u)
+
+-- the run touches none of the others
+gapped-put : (r : Run) (rs : List Run) (k e : ℕ) → Gapped k e rs → k ≤ r .start → 1 ≤ r .size → r .start + r .size ≤ e
+    → ((u : ℕ) → r .start ≤ suc u → u ≤ r .start + r .size → covered rs u ≡ false)
+    → Gapped k e (putRun r rs)
+gapped-put r [] k e g a b c d = (a, b, c, tt)
+gapped-put r (q ∷ qs) k e g a b c d =
+    go (ltb (q .start) (r .start)) refl
+    (λ l. gapped-put r qs (suc end) e (g .3) l b c (λ u x y. or-r (has q u) (covered qs u) (d u x y)))
+  where
+    end : ℕ
+    end = q .start + q .size
+
+    out : (u : ℕ) → r .start ≤ suc u → u ≤ r .start + r .size → q .start ≤ u → u < end → ⊥
+    out u x y v w =
+        true≢false (sym (within-in (q .start) end u v w) ∙ or-l (has q u) (covered qs u) (d u x y))
+
+    go : (x : Bool) → ltb (q .start) (r .start) ≡ x → (suc end ≤ r .start → Gapped (suc end) e (putRun r qs))
+        → Gapped k e (cond x (q ∷ putRun r qs) (r ∷ q ∷ qs))
+    go true x i =
+        let low = lt-of (q .start) (r .start) x in
+        let away : r .start ≤ end → ⊥ =
+        λ h. out (r .start - 1) (omega arith) (omega arith) (omega arith) (omega arith) in
+        (g .0, g .1, g .2, i (omega arith))
+    go false x i =
+        let high = not-lt (q .start) (r .start) x in
+        let one = g .1 in
+        let away : q .start ≤ r .start + r .size → ⊥ =
+        λ h. out (q .start) (omega arith) h (omega arith) (omega arith) in
+        (a, b, c, (omega arith, g .1, g .2, g .3))
+
+-- the list that covers the cells too is the one that `addRun` makes
+added : (e s n : ℕ) (rs qs : List Run) → Gapped 0 e rs → Gapped 0 e qs → 1 ≤ n → s + n ≤ e
+    → ((u : ℕ) → s ≤ u → u < s + n → covered rs u ≡ false)
+    → ((u : ℕ) → covered qs u ≡ (covered rs u || within s (s + n) u))
+    → addRun s n rs ≡ qs
+added e s n rs qs g h filled inside clear cover =
+    let old = runs-unique (covered rs) e rs (record { gapped = g; cover = λ u l. refl }) in
+    let new = runs-unique (covered qs) e qs (record { gapped = h; cover = λ u l. refl }) in
+    sym (ap (addRun s n) old)
+    ∙ sym (runs-after-release (covered rs) (covered qs) e s n filled inside clear (λ u l. cover u)) ∙ new
+
+-- ---- a run taken out of a list
+
+-- the run of n cells at cell c, between xs and ys, and the list without it
+record Without (k e : ℕ) (xs : List Run) (c n : ℕ) (ys : List Run) : Type 0 where
+  low : k ≤ c
+  filled : 1 ≤ n
+  high : c + n ≤ e
+  gapped : Gapped k e (xs ++ ys)
+  dropped : dropRun c (xs ++ run c n ∷ ys) ≡ xs ++ ys
+  cover : (u : ℕ) → covered (xs ++ run c n ∷ ys) u ≡ (covered (xs ++ ys) u || within c (c + n) u)
+  clear : (u : ℕ) → c ≤ suc u → u ≤ c + n → covered (xs ++ ys) u ≡ false
+  inner : (d : ℕ) → c < d → d < c + n → all (beginsElsewhere d) (xs ++ run c n ∷ ys) ≡ true
+
+elsewhere-above : (d k e : ℕ) (rs : List Run) → Gapped k e rs → d < k → all (beginsElsewhere d) rs ≡ true
+elsewhere-above d k e [] g h = refl
+elsewhere-above d k e (r ∷ rs) g h =
+    and-i (beginsElsewhere d r) (all (beginsElsewhere d) rs) (ap not (eqb-ne (r .start) d (λ z. omega arith)))
+    (elsewhere-above d (suc (r .start + r .size)) e rs (g .3) (omega arith))
+
+without : (k e : ℕ) (xs : List Run) (c n : ℕ) (ys : List Run) → Gapped k e (xs ++ run c n ∷ ys)
+    → Without k e xs c n ys
+without k e [] c n ys g = record {
+  low = g .0;
+  filled = g .1;
+  high = g .2;
+  gapped = gapped-weaken k (suc (c + n)) e ys (omega arith) (g .3);
+  dropped = rw (eqb-same c);
+  cover = λ u. or-comm (within c (c + n) u) (covered ys u);
+  clear = λ u x y. gapped-below (suc (c + n)) e ys (g .3) u (omega arith);
+  inner = λ d x y.
+      and-i (beginsElsewhere d (run c n)) (all (beginsElsewhere d) ys) (ap not (eqb-ne c d (λ z. omega arith)))
+      (elsewhere-above d (suc (c + n)) e ys (g .3) (omega arith));
+}
+without k e (r ∷ xs) c n ys g =
+    let end = r .start + r .size in
+    let w = without (suc end) e xs c n ys (g .3) in
+    let low = w .low in
+    record {
+      low = omega arith;
+      filled = w .filled;
+      high = w .high;
+      gapped = (g .0, g .1, g .2, w .gapped);
+      dropped = rw (eqb-ne (r .start) c (λ z. omega arith)) (ap (λ (l : List Run). r ∷ l) (w .dropped));
+      cover = λ u. rw (w .cover u) (sym (or-assoc (has r u) (covered (xs ++ ys) u) (within c (c + n) u)));
+      clear = λ u x y. rw (within-high (r .start) end u (omega arith)) (w .clear u x y);
+      inner = λ d x y.
+          and-i (beginsElsewhere d r) (all (beginsElsewhere d) (xs ++ run c n ∷ ys))
+          (ap not (eqb-ne (r .start) d (λ z. omega arith))) (w .inner d x y);
+    }
+
+-- ---- the list and its tree
+
+covered-tree : (rs : List Run) (u : ℕ) → covered rs u ≡ true → In u (treeOf rs)
+covered-tree rs u h = covered-in (treeOf rs) u (rw (inorder-treeOf rs) h)
+
+tree-covered : (rs : List Run) (u : ℕ) → In u (treeOf rs) → covered rs u ≡ true
+tree-covered rs u i = ap (λ l. covered l u) (sym (inorder-treeOf rs)) ∙ in-covered (treeOf rs) u i
+
+uncovered : (rs : List Run) (u : ℕ) → covered rs u ≡ false → In u (treeOf rs) → ⊥
+uncovered rs u h i = true≢false (sym (tree-covered rs u i) ∙ h)
+
+-- a cell in no block is no node
+no-node : (t : Tree) (lo hi c : ℕ) → Within lo hi t → (In c t → ⊥) → NotFirst c t
+no-node leaf lo hi c w h = tt
+no-node (node a q b) lo hi c w h =
+    let one = w .1 in (
+      no-node a lo (q .start) c (w .0) (λ i. h (inl i)),
+      (λ z. h (inr (inl (omega arith, omega arith)))),
+      no-node b (q .start + q .size) hi c (w .2) (λ i. h (inr (inr i))),
+    )
+
+begins-elsewhere : (c : ℕ) (t : Tree) → all (beginsElsewhere c) (inorder t) ≡ true → NotFirst c t
+begins-elsewhere c leaf h = tt
+begins-elsewhere c (node a q b) h =
+    let f = beginsElsewhere c in
+    let rest = all-append-r f (inorder a) (q ∷ inorder b) h in (
+      begins-elsewhere c a (all-append-l f (inorder a) (q ∷ inorder b) h),
+      (λ z. eqb-false (q .start) c (not-true (beginsAt c q) (and-l (f q) (all f (inorder b)) rest)) (sym z)),
+      begins-elsewhere c b (and-r (f q) (all f (inorder b)) rest),
+    )
+
+-- a run of which no cell lies in a block overlaps none
+apart-of : (r : Run) (t : Tree) (lo hi : ℕ) → Within lo hi t → 1 ≤ r .size
+    → ((u : ℕ) → r .start ≤ u → u < r .start + r .size → In u t → ⊥)
+    → Apart r t
+apart-of r leaf lo hi w filled h = tt
+apart-of r (node a q b) lo hi w filled h =
+    let one = w .1 in
+    let end = q .start + q .size in
+    let below : q .start ≤ r .start → r .start < end → ⊥ =
+    λ x y. h (r .start) (omega arith) (omega arith) (inr (inl (x, y))) in
+    let above : r .start ≤ q .start → q .start < r .start + r .size → ⊥ =
+    λ x y. h (q .start) x y (inr (inl (omega arith, omega arith))) in (
+      apart-of r a lo (q .start) (w .0) filled (λ u x y i. h u x y (inl i)),
+      (λ x. let n = below x in omega arith),
+      (λ x. let n = above x in omega arith),
+      apart-of r b end hi (w .2) filled (λ u x y i. h u x y (inr (inr i))),
+    )
+
+-- ---- words of the free runs
+
+-- runs of which no word has changed still lie
+kept : {m m′ : Words} {root : ℕ} {rs : List Run} → Lies m root rs → length m′ ≡ length m
+    → ((i : ℕ) → covered rs (i / 2) ≡ true → getD m′ i 0 ≡ getD m i 0)
+    → Lies m′ root rs
+unfolding formOne
+kept {m} {m′} {root} {rs} p long same =
+    let t = treeOf rs in
+    let here = p .tree in
+    let place : Within 0 (length m′ / 2) t = rw long (here .within) in
+    record {
+      tree = record {
+        at = here .at;
+        holds = stored-holds formOne links readable-one m′ t 0 (length m′ / 2) place (omega arith)
+            (λ i x. same i (tree-covered rs (i / 2) x)
+            ∙ holds-stored formOne links readable-one m t 0 (length m / 2) (here .within) (here .holds) i x);
+        within = place;
+        small = rw long (here .small);
+      };
+      gapped = rw long (p .gapped);
+    }
+
+abbrev readsBack : Words → Run → Bool
+readsBack m q = eqb (lengthAt formOne m (q .start)) (q .size)
+
+module _ {m : Words} where
+  all-read-back : {l : ℕ} (t : Tree) → At formOne links m l t → all (readsBack m) (inorder t) ≡ true
+  all-read-back leaf p = refl
+  all-read-back (node a q b) p =
+      all-append (readsBack m) (inorder a) (q ∷ inorder b) (all-read-back a (at-left readable-one p refl))
+      (and-i (readsBack m q) (all (readsBack m) (inorder b)) (rw (at-length readable-one p) (eqb-same (q .size)))
+      (all-read-back b (at-right readable-one p refl)))
+
+  -- the length of a run is its node's
+  run-length : {root : ℕ} (xs : List Run) (c n : ℕ) (ys : List Run) → Lies m root (xs ++ run c n ∷ ys)
+      → lengthAt formOne m c ≡ n
+  run-length xs c n ys p =
+      let rs = xs ++ run c n ∷ ys in
+      let f = readsBack m in
+      let each : all f rs ≡ true = rw (inorder-treeOf rs) at (all-read-back (treeOf rs) (p .tree)) in
+      eqb-eq (lengthAt formOne m c) n (and-l (f (run c n)) (all f ys) (all-append-r f xs (run c n ∷ ys) each))
+
+  module _ {root : ℕ} {rs : List Run} (p : Lies m root rs) where
+    -- a free cell lies in the arena
+    cell-inside : (u : ℕ) → covered rs u ≡ true → u < cells formOne m
+    cell-inside u h = in-range (treeOf rs) 0 (cells formOne m) u (p .tree .within) (covered-tree rs u h) .1
+
+    cell-no-node : (u : ℕ) → covered rs u ≡ false → NotFirst u (treeOf rs)
+    cell-no-node u h = no-node (treeOf rs) 0 (cells formOne m) u (p .tree .within) (uncovered rs u h)
+
+    -- a word of a run beyond its first cell
+    inner-zero : (i : ℕ) → covered rs (i / 2) ≡ true → NotFirst (i / 2) (treeOf rs) → getD m i 0 ≡ 0
+    unfolding formOne
+    inner-zero i h n =
+        let t = treeOf rs in
+        let place = p .tree in
+        holds-stored formOne links readable-one m t 0 (cells formOne m) (place .within) (place .holds) i
+        (covered-tree rs (i / 2) h)
+        ∙ nodeWord-zero formOne links readable-one t i n
+
+-- ---- a run taken out of the arena
+
+module _ {m m₁ m′ : Words} {root c k : ℕ} (deleted : Deleted formOne links m m₁ root c k)
+    (cleared : NodeCleared formOne m₁ m′ c) (xs : List Run) (n : ℕ) (ys : List Run)
+    (p : Lies m root (xs ++ run c n ∷ ys)) where
+  abbrev old : List Run
+  old = xs ++ run c n ∷ ys
+
+  abbrev rest : List Run
+  rest = xs ++ ys
+
+  gone : Without 0 (cells formOne m) xs c n ys
+  gone = without 0 (cells formOne m) xs c n ys (p .gapped)
+
+  cut : Became formOne links m m₁ (NoNode (treeOf old)) k (treeOf rest)
+  cut =
+      rw (delete-tree c old 0 (cells formOne m) (p .tree .within), gone .dropped) at (deleted (treeOf old) (p .tree))
+
+  in-run : (d : ℕ) → c ≤ d → d < c + n → covered old d ≡ true
+  in-run d x y = gone .cover d ∙ rw (within-in c (c + n) d x y) (or-true (covered rest d))
+
+  out-changed : Changed m m′ old rest k
+  unfolding formOne
+  out-changed =
+      let w = gone in
+      let filled = w .filled in
+      let lies : Lies m₁ k rest = record { tree = cut .tree; gapped = rw (cut .long) (w .gapped) } in
+      record {
+        lies = kept lies (cleared .long)
+            (λ i h. cleared .frame (i / 2)
+            (λ z. true≢false (sym h ∙ w .clear (i / 2) (omega arith) (omega arith))) i refl);
+        frame = λ i h h′.
+            cleared .frame (i / 2) (λ z. true≢false (sym (in-run (i / 2) (omega arith) (omega arith)) ∙ h)) i refl
+            ∙ cut .frame (i / 2) (cell-no-node p (i / 2) h) i refl;
+        long = cleared .long ∙ cut .long;
+      }
+
+  out-zeros : Zeros m′ (2 * c) (2 * (c + n))
+  unfolding formOne
+  out-zeros i x y = go (ℕ-discrete (i / 2) c)
+    where
+      go : Dec (i / 2 ≡ c) → getD m′ i 0 ≡ 0
+      go (yes z) = cleared .zero i z
+      go (no z) =
+          let inner = begins-elsewhere (i / 2) (treeOf old)
+          (rw (inorder-treeOf old) (gone .inner (i / 2) (omega arith) (omega arith))) in
+          cleared .frame (i / 2) z i refl ∙ cut .frame (i / 2) inner i refl
+          ∙ inner-zero p i (in-run (i / 2) (omega arith) (omega arith)) inner
+
+  pub take-out : Removed m m′ old rest c (c + n) k
+  take-out = record {
+    change = out-changed;
+    order = omega arith;
+    cover = gone .cover;
+    clear = gone .clear;
+    zeros = out-zeros;
+  }
+
+-- where a block that lies in the tree begins and ends
+pub block-end : {m : Words} {root c : ℕ}
+    → ((xs : List Run) × (n : ℕ) × (ys : List Run) × Lies m root (xs ++ run c n ∷ ys))
+    → (c < cells formOne m) × (c + lengthAt formOne m c < links)
+block-end {m} {root} {c} (xs, n, ys, p) =
+    let w = without 0 (cells formOne m) xs c n ys (p .gapped) in
+    let filled = w .filled in
+    let high = w .high in
+    let small = p .tree .small in
+    (omega arith, rw (run-length xs c n ys p) (omega arith))
+
+-- ---- what a search found
+
+-- what holds of the list with the run that was found, in the code's own number of its cell, holds of the list
+found : (P : List Run → Type 0) (p : Run → Bool) {k : ℕ} (rs : List Run) → k ≢ 0 → k ≡ linkTo (firstThat p rs)
+    → ((xs : List Run) (n : ℕ) (ys : List Run) → p (run (k - 1) n) ≡ true → P (xs ++ run (k - 1) n ∷ ys))
+    → P rs
+found P p [] z e f = absurd (z e)
+found P p {k} (r ∷ rs) z e f = go (p r) refl e (λ e. found (λ l. P (r ∷ l)) p rs z e (λ xs. f (r ∷ xs)))
+  where
+    go : (b : Bool) → p r ≡ b → k ≡ linkTo (cond b (some r) (firstThat p rs))
+        → (k ≡ linkTo (firstThat p rs) → P (r ∷ rs))
+        → P (r ∷ rs)
+    go true h e i =
+        let c : k - 1 ≡ r .start = omega arith in
+        subst (λ s. p (run s (r .size)) ≡ true → P (run s (r .size) ∷ rs)) c (f [] (r .size) rs) h
+    go false h e i = i e
+
+-- No run passes. Then cell u is as little free as cell v, if every run that does not pass has v where it has u.
+none-found : (p : Run → Bool) (u v : ℕ)
+    → ((r : Run) → p r ≡ false → (r .start ≤ u) × (u < r .start + r .size) → (r .start ≤ v) × (v < r .start + r .size))
+    → (rs : List Run) → 0 ≡ linkTo (firstThat p rs) → covered rs v ≡ false → covered rs u ≡ false
+none-found p u v f [] e h = refl
+none-found p u v f (r ∷ rs) e h =
+    go (p r) refl e (λ e. none-found p u v f rs e (or-r (has r v) (covered rs v) h))
+  where
+    go : (b : Bool) → p r ≡ b → 0 ≡ linkTo (cond b (some r) (firstThat p rs))
+        → (0 ≡ linkTo (firstThat p rs) → covered rs u ≡ false)
+        → covered (r ∷ rs) u ≡ false
+    go true q e i = absurd (omega arith)
+    go false q e i =
+        let end = r .start + r .size in
+        let out : has r u ≡ false = false-of (has r u) (λ w.
+        let (a, b) = f r q (within-of (r .start) end u w) in
+        true≢false (sym (within-in (r .start) end v a b) ∙ or-l (has r v) (covered rs v) h)) in
+        rw out (i e)
+
+module _ {m : Words} {root k : ℕ} {p : Run → Bool} (seek : RunFound formOne links m root p k) where
+  list-found : {rs : List Run} → Lies m root rs → k ≡ linkTo (firstThat p rs)
+  list-found {rs} l = rw (inorder-treeOf rs) at (seek (treeOf rs) (l .tree))
+
+  -- no run touches cell x, beside the cell v
+  nothing : {rs : List Run} (v x : ℕ) → k ≡ 0 → HeldCell m root v rs
+      → ((u : ℕ) → x ≤ suc u → u ≤ x → u ≢ v → (r : Run) → p r ≡ false
+      → (r .start ≤ u) × (u < r .start + r .size) → (r .start ≤ v) × (v < r .start + r .size))
+      → Removed m m rs rs x x root
+  nothing {rs} v x z b f = record {
+    change = record { lies = b .lies; frame = λ i h h′. refl; long = refl };
+    order = omega arith;
+    cover = λ u. sym (rw (empty u (decLe x u)) (or-false (covered rs u)));
+    clear = λ u h l. clear u h l (ℕ-discrete u v);
+    zeros = λ i h l. absurd (omega arith);
+  }
+    where
+      empty : (u : ℕ) → Dec (x ≤ u) → within x x u ≡ false
+      empty u (yes h) = within-high x x u h
+      empty u (no h) = within-low x x u (omega arith)
+
+      clear : (u : ℕ) → x ≤ suc u → u ≤ x → Dec (u ≡ v) → covered rs u ≡ false
+      clear u h l (yes e) = ap (covered rs) e ∙ b .held
+      clear u h l (no e) = none-found p u v (f u h l e) rs (sym z ∙ list-found (b .lies)) (b .held)
+
+  -- the run that was found lies in the tree
+  pub block-lies : k ≢ 0 → ((rs : List Run) × Lies m root rs)
+      → (xs : List Run) × (n : ℕ) × (ys : List Run) × Lies m root (xs ++ run (k - 1) n ∷ ys)
+  block-lies z (rs, l) =
+      found (λ l. Lies m root l → (xs : List Run) × (n : ℕ) × (ys : List Run) × Lies m root (xs ++ run (k - 1) n ∷ ys))
+      p rs z (list-found l) (λ xs n ys h q. (xs, n, ys, q)) l
+
+  -- it is taken out: the cells from x up to y
+  taken : {m′ : Words} {root′ : ℕ} (x y : ℕ) → k ≢ 0 → TakenOut m m′ root (k - 1) root′
+      → ((xs : List Run) (n : ℕ) (ys : List Run) → p (run (k - 1) n) ≡ true → Lies m root (xs ++ run (k - 1) n ∷ ys)
+      → (k - 1 ≡ x) × (k - 1 + n ≡ y))
+      → (rs : List Run) → Lies m root rs → (rest : List Run) × Removed m m′ rs rest x y root′
+  taken {m′} {root′} x y z out place rs l =
+      found (λ l. Lies m root l → (rest : List Run) × Removed m m′ l rest x y root′) p rs z (list-found l)
+      (λ xs n ys h q.
+      let (e, f) = place xs n ys h q in
+      let rest = xs ++ ys in (
+        rest,
+        subst (λ a. Removed m m′ (xs ++ run (k - 1) n ∷ ys) rest a y root′) e
+            (subst (λ b. Removed m m′ (xs ++ run (k - 1) n ∷ ys) rest (k - 1) b root′) f (out xs n ys q)),
+      )) l
+
+-- ---- the ways through the two that merge
+
+module _ {m : Words} {root k lo : ℕ} (seek : RunFound formOne links m root (endsAt lo) k) where
+  pub below-none : k ≡ 0 → MergedBelow m m root lo root lo
+  below-none z rs b = (
+    rs,
+    nothing seek lo lo z b (λ u h l d r q w.
+        let n = eqb-false (r .start + r .size) lo q in (omega arith, omega arith)),
+  )
+
+  pub below-found : {m′ : Words} {root′ : ℕ} → k ≢ 0 → TakenOut m m′ root (k - 1) root′
+      → MergedBelow m m′ root lo root′ (k - 1)
+  below-found z out rs b =
+      taken seek (k - 1) lo z out (λ xs n ys h q. (refl, eqb-eq (k - 1 + n) lo h)) rs (b .lies)
+
+module _ {m : Words} {root k hi : ℕ} (seek : RunFound formOne links m root (beginsAt hi) k) where
+  pub above-none : k ≡ 0 → MergedAbove m m root hi root hi
+  above-none z rs b = (
+    rs,
+    nothing seek (hi - 1) hi z b (λ u h l d r q w.
+        let n = eqb-false (r .start) hi q in (omega arith, omega arith)),
+  )
+
+  pub above-found : {m′ : Words} {root′ n : ℕ} → k ≢ 0 → n ≡ lengthAt formOne m (k - 1)
+      → TakenOut m m′ root (k - 1) root′ → MergedAbove m m′ root hi root′ (k - 1 + n)
+  above-found {n = n} z len out rs b =
+      taken seek hi (k - 1 + n) z out
+      (λ xs j ys h q. (eqb-eq (k - 1) hi h, ap (λ i. k - 1 + i) (sym (len ∙ run-length xs (k - 1) j ys q)))) rs
+      (b .lies)
+
+-- ---- the whole
+
+-- what is left, what touched from below, the cells given back, and what touched from above
+or-parts : (c a b d : Bool) → (c || (a || (b || d))) ≡ (((c || d) || a) || b)
+or-parts true a b d = refl
+or-parts false true b true = refl
+or-parts false true b false = refl
+or-parts false false true true = refl
+or-parts false false true false = refl
+or-parts false false false true = refl
+or-parts false false false false = refl
+
+module _ {m m₁ : Words} {root lo hi : ℕ} {rs : List Run} (wipe : m₁ ≡ wiped 0 (2 * lo) (2 * hi) m)
+    (g : Gives m root lo hi rs) where
+  wiped-long : length m₁ ≡ length m
+  wiped-long = ap length wipe ∙ length-wiped 0 (2 * lo) (2 * hi) m
+
+  not-wiped : (i : ℕ) → (lo ≤ i / 2 → i / 2 < hi → ⊥) → getD m₁ i 0 ≡ getD m i 0
+  not-wiped i h =
+      ap (λ w. getD w i 0) wipe
+      ∙ wiped-out 0 (2 * lo) (2 * hi) m i 0
+      (false-of (within (2 * lo) (2 * hi) i)
+      (λ e. let w = within-of (2 * lo) (2 * hi) i e in h (omega arith) (omega arith)))
+
+  -- the free runs still lie, and cell lo is not free
+  pub touch-below : HeldCell m₁ root lo rs
+  touch-below = record {
+    lies = kept (g .lies) wiped-long (λ i h. not-wiped i (λ a b. true≢false (sym h ∙ g .held (i / 2) a b)));
+    held = g .held lo (omega arith) (omega arith);
+  }
+
+  module _ {m₂ : Words} {root₁ x : ℕ} (low : MergedBelow m₁ m₂ root lo root₁ x) where
+    abbrev rest₁ : List Run
+    rest₁ = low rs touch-below .0
+
+    abbrev out₁ : Removed m₁ m₂ rs rest₁ x lo root₁
+    out₁ = low rs touch-below .1
+
+    held₁ : (u : ℕ) → covered rs u ≡ false → covered rest₁ u ≡ false
+    held₁ u h = or-l (covered rest₁ u) (within x lo u) (sym (out₁ .cover u) ∙ h)
+
+    -- the last of the cells is not free
+    pub touch-above : HeldCell m₂ root₁ (hi - 1) rest₁
+    touch-above = record {
+      lies = out₁ .change .lies;
+      held = held₁ (hi - 1) (g .held (hi - 1) (omega arith) (omega arith));
+    }
+
+    module _ {m₃ : Words} {root₂ y : ℕ} (high : MergedAbove m₂ m₃ root₁ hi root₂ y) where
+      abbrev rest₂ : List Run
+      rest₂ = high rest₁ touch-above .0
+
+      abbrev out₂ : Removed m₂ m₃ rest₁ rest₂ hi y root₂
+      out₂ = high rest₁ touch-above .1
+
+      abbrev sum : Run
+      sum = run x (y - x)
+
+      held₂ : (u : ℕ) → covered rest₁ u ≡ false → covered rest₂ u ≡ false
+      held₂ u h = or-l (covered rest₂ u) (within hi y u) (sym (out₂ .cover u) ∙ h)
+
+      long₃ : length m₃ ≡ length m
+      long₃ = out₂ .change .long ∙ out₁ .change .long ∙ wiped-long
+
+      order : (x ≤ lo) × (hi ≤ y)
+      order = (out₁ .order, out₂ .order)
+
+      -- none of the blocks left overlaps or touches the sum
+      clear₃ : (u : ℕ) → x ≤ suc u → u ≤ y → covered rest₂ u ≡ false
+      clear₃ u h l = go (decLe u lo) (decLe hi (suc u))
+        where
+          go : Dec (u ≤ lo) → Dec (hi ≤ suc u) → covered rest₂ u ≡ false
+          go (yes a) b = held₂ u (out₁ .clear u h a)
+          go (no a) (yes b) = out₂ .clear u b l
+          go (no a) (no b) = held₂ u (held₁ u (g .held u (omega arith) (omega arith)))
+
+      -- the sum's words are zero
+      zeros₃ : Zeros m₃ (2 * x) (2 * y)
+      unfolding formOne
+      zeros₃ i h l = go (decLe lo (i / 2)) (decLe hi (i / 2))
+        where
+          same : covered rest₁ (i / 2) ≡ false → getD m₃ i 0 ≡ getD m₂ i 0
+          same f = out₂ .change .frame i f (held₂ (i / 2) f)
+
+          go : Dec (lo ≤ i / 2) → Dec (hi ≤ i / 2) → getD m₃ i 0 ≡ 0
+          go a (yes b) = out₂ .zeros i (omega arith) l
+          go (no a) (no b) =
+              same (out₁ .clear (i / 2) (omega arith) (omega arith)) ∙ out₁ .zeros i h (omega arith)
+          go (yes a) (no b) =
+              let f = g .held (i / 2) a (omega arith) in
+              same (held₁ (i / 2) f) ∙ out₁ .change .frame i f (held₁ (i / 2) f)
+              ∙ ap (λ w. getD w i 0) wipe
+              ∙ wiped-in 0 (2 * lo) (2 * hi) m i 0 (omega arith) (omega arith) (omega arith)
+
+      inside₃ : y ≤ cells formOne m₃
+      inside₃ = go (decLe y hi)
+        where
+          go : Dec (y ≤ hi) → y ≤ cells formOne m₃
+          go (yes a) = rw long₃ (omega arith)
+          go (no a) =
+              let u = y - 1 in
+              let on : covered rest₁ u ≡ true =
+              out₂ .cover u ∙ rw (within-in hi y u (omega arith) (omega arith)) (or-true (covered rest₂ u)) in
+              rw (out₂ .change .long) (omega (arith, cell-inside (out₁ .change .lies) u on))
+
+      pub sum-fits : (x ≤ y) × (y < links)
+      sum-fits =
+          let small = out₂ .change .lies .tree .small in
+          (omega (arith, order), omega (arith, inside₃))
+
+      pub room : Room formOne links m₃ root₂ sum (treeOf rest₂)
+      unfolding formOne
+      room =
+          let (a, b) = order in
+          let place = out₂ .change .lies .tree in
+          record {
+            tree = place;
+            apart = apart-of sum (treeOf rest₂) 0 (cells formOne m₃) (place .within) (omega arith)
+                (λ u h l. uncovered rest₂ u (clear₃ u (omega arith) (omega arith)));
+            filled = omega arith;
+            inside = omega (arith, inside₃);
+            zeros = λ i h l. zeros₃ i (omega arith) (omega arith);
+          }
+
+      -- the sum put in is what `addRun` makes
+      put-gapped : Gapped 0 (cells formOne m) (putRun sum rest₂)
+      put-gapped =
+          let (a, b) = order in
+          let inside : y ≤ cells formOne m = rw long₃ at inside₃ in
+          let gapped : Gapped 0 (cells formOne m) rest₂ = rw long₃ at (out₂ .change .lies .gapped) in
+          gapped-put sum rest₂ 0 (cells formOne m) gapped (omega arith) (omega arith) (omega arith)
+          (λ u h l. clear₃ u h (omega arith))
+
+      put-covered : (u : ℕ) → covered (putRun sum rest₂) u ≡ (covered rs u || within lo (lo + (hi - lo)) u)
+      put-covered u =
+          let (a, b) = order in
+          let top : x + (y - x) ≡ y = omega arith in
+          let mid : lo + (hi - lo) ≡ hi = omega arith in
+          covered-put sum rest₂ u
+          ∙ rw (top, mid, within-parts x lo y u a (omega arith), within-parts lo hi y u (omega arith) b)
+          (or-parts (covered rest₂ u) (within x lo u) (within lo hi u) (within hi y u)
+          ∙ ap (λ b. (b || within x lo u) || within lo hi u) (sym (out₂ .cover u))
+          ∙ ap (λ b. b || within lo hi u) (sym (out₁ .cover u)))
+
+      sum-put : addRun lo (hi - lo) rs ≡ putRun sum rest₂
+      sum-put =
+          added (cells formOne m) lo (hi - lo) rs (putRun sum rest₂) (g .lies .gapped) put-gapped (omega arith)
+          (omega arith) (λ u h l. g .held u h (omega arith)) put-covered
+
+      module _ {m′ : Words} {k : ℕ} (put : Inserted formOne links m₃ m′ root₂ sum k) where
+        made : Became formOne links m₃ m′ (NoNodeNor (treeOf rest₂) x) k (treeOf (addRun lo (hi - lo) rs))
+        made =
+            let lies = out₂ .change .lies in
+            let other = cell-no-node lies x (clear₃ x (omega arith) (sum-fits .0)) in
+            rw (sum-put, ← insert-tree sum rest₂ 0 (cells formOne m₃) (lies .tree .within) other)
+            (put (treeOf rest₂) room)
+
+        pub give : Changed m m′ rs (addRun lo (hi - lo) rs) k
+        unfolding formOne
+        give = record {
+          lies = record { tree = made .tree; gapped = rw (sum-put, made .long, long₃) put-gapped };
+          frame = λ i h h′.
+              let u = i / 2 in
+              let (a, b) = order in
+              let f₁ = held₁ u h in
+              let f₂ = held₂ u f₁ in
+              let away : x ≤ u → u < y → ⊥ = λ v w.
+              true≢false (sym (within-in x (x + (y - x)) u v (omega arith))
+              ∙ or-r (covered rest₂ u) (has sum u)
+              (sym (covered-put sum rest₂ u) ∙ ap (λ l. covered l u) (sym sum-put) ∙ h′)) in
+              made .frame u (cell-no-node (out₂ .change .lies) u f₂, λ z. away (omega arith) (omega arith)) i refl
+              ∙ out₂ .change .frame i f₁ f₂ ∙ out₁ .change .frame i h f₁
+              ∙ not-wiped i (λ v w. away (omega arith) (omega arith));
+          long = made .long ∙ long₃;
+        }

@@ -1,0 +1,3 @@
+-- Laws of the free blocks.
+pub mod TakeLaws
+pub mod GiveLaws

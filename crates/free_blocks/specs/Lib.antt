@@ -1,0 +1,3 @@
+-- Blocks taken from the free tree and given back to it.
+pub mod Blocks
+pub mod Giving

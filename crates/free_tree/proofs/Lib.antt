@@ -1,0 +1,13 @@
+-- Laws of the free tree's steps.
+pub mod RunOrder
+pub mod JoinLaws
+pub mod PartLaws
+pub mod ChangeLaws
+pub mod CellLaws
+pub mod StepLaws
+pub mod JoinSteps
+pub mod PartSteps
+pub mod ChangeSteps
+pub mod FormOne
+pub mod Numbers
+pub mod SeekSteps

@@ -1,0 +1,26 @@
+-- `free_tree::length_of` meets its contract: word 0 of the cell. Assumes nothing.
+use borrow.Author.Needs.{needs}
+use mathlib.Core.Path.{sym}
+use denote.Ref.{now}
+use Rattle.stored_forms.specs.Tree.{formOne}
+use Rattle.free_tree.proofs.FormOne.{one-length}
+use Rattle.free_tree.proofs.length_of.Statement.{statement}
+use Rattle.free_tree.proofs.length_of.Tie as tie
+
+mul-result : tie.Need-mul-result
+unfolding formOne
+mul-result c = search needs
+
+mul-result-2 : tie.Need-mul-result-2
+unfolding formOne
+mul-result-2 c = search needs
+
+shared-slice-read-result : tie.Need-shared-slice-read-result
+unfolding formOne
+shared-slice-read-result c = search needs
+
+returns : tie.Need-returns
+returns c = let s = c .before in sym (one-length (now (s .args .arena)) (s .args .c))
+
+pub length-of-spec : {M : Type 1} → statement M
+length-of-spec = tie.close (tie.spec mul-result mul-result-2 shared-slice-read-result returns)

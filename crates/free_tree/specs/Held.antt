@@ -1,0 +1,151 @@
+-- The free tree in an arena, over the form: what a step asks of the arena, and what it leaves. Assumes nothing.
+use Prim.Native.Nat.{ℕ, zero, suc, _+_, _*_, _/_, _≤_, _<_}
+use mathlib.Core.Path.{_≡_}
+use mathlib.Core.Logic.{_≢_}
+use mathlib.Core.Bool.{Bool}
+use lib.ListN.{length, getD}
+use Rattle.words.specs.Lists.{Words, firstThat}
+use Rattle.ledger.specs.Runs.{Run}
+use Rattle.stored_forms.specs.Tree.{Tree, leaf, node, inorder, Form, cellWords, lengthAt, leftAt, rightAt, link}
+use Rattle.stored_forms.proofs.TreeLaws.{leftmost}
+use Rattle.stored_forms.proofs.NodeLaws.{Within, NotFirst, Holds, Zeros}
+use Rattle.free_tree.specs.Shapes.{top, join, below, above, insert, delete, linkTo}
+
+-- a link of the first form is half a word
+abbrev pub links : ℕ
+links = 65536
+
+-- how many cells the arena has
+abbrev pub cells : Form → Words → ℕ
+cells F m = length m / F .cell
+
+-- cell c has the same words in both
+abbrev pub Same : Form → Words → Words → ℕ → Type 0
+Same F m m′ c = (k : ℕ) → k / F .cell ≡ c → getD m′ k 0 ≡ getD m k 0
+
+-- ---- one node
+
+-- the node of length n with the links l and r lies at cell c, and no other cell has changed
+pub record NodePut (F : Form) (m m′ : Words) (c n l r : ℕ) : Type 0 where
+  pub node : cellWords F m′ c ≡ F .node n l r
+  pub frame : (d : ℕ) → d ≢ c → Same F m m′ d
+  pub long : length m′ ≡ length m
+
+abbrev pub LeftSet : Form → Words → Words → ℕ → ℕ → Type 0
+LeftSet F m m′ c l = NodePut F m m′ c (lengthAt F m c) l (rightAt F m c)
+
+abbrev pub RightSet : Form → Words → Words → ℕ → ℕ → Type 0
+RightSet F m m′ c r = NodePut F m m′ c (lengthAt F m c) (leftAt F m c) r
+
+-- cell c is zero, and no other has changed
+pub record NodeCleared (F : Form) (m m′ : Words) (c : ℕ) : Type 0 where
+  pub zero : (k : ℕ) → k / F .cell ≡ c → getD m′ k 0 ≡ 0
+  pub frame : (d : ℕ) → d ≢ c → Same F m m′ d
+  pub long : length m′ ≡ length m
+
+-- ---- a tree
+
+-- The tree t lies in the arena at the link l, and every link is below the bound.
+pub record At (F : Form) (bound : ℕ) (m : Words) (l : ℕ) (t : Tree) : Type 0 where
+  pub at : link t ≡ l
+  pub holds : Holds F m t
+  pub within : Within 0 (cells F m) t
+  pub small : cells F m < bound
+
+-- From m to m′ a step left the tree t at the link l, and every cell that is `untouched` as it was.
+pub record Became (F : Form) (bound : ℕ) (m m′ : Words) (untouched : ℕ → Type 0) (l : ℕ) (t : Tree) : Type 0 where
+  pub tree : At F bound m′ l t
+  pub frame : (c : ℕ) → untouched c → Same F m m′ c
+  pub long : length m′ ≡ length m
+
+-- cell c is no node of the tree; of the two trees; of the tree with a new node at cell x
+abbrev pub NoNode : Tree → ℕ → Type 0
+NoNode t c = NotFirst c t
+
+abbrev pub NoNodeOf : Tree → Tree → ℕ → Type 0
+NoNodeOf t u c = NotFirst c t × NotFirst c u
+
+abbrev pub NoNodeNor : Tree → ℕ → ℕ → Type 0
+NoNodeNor t x c = NotFirst c t × (c ≢ x)
+
+-- ---- join
+
+-- Two trees lie in the arena, the second above the first.
+pub record Beside (F : Form) (bound : ℕ) (m : Words) (a b : ℕ) (ta tb : Tree) : Type 0 where
+  pub left : At F bound m a ta
+  pub right : At F bound m b tb
+  pub middle : ℕ
+  pub under : Within 0 middle ta
+  pub over : Within middle (cells F m) tb
+
+-- neither is empty, and the first root stays on top
+pub record LeftWins (F : Form) (bound : ℕ) (m : Words) (a b : ℕ) (ta tb : Tree) : Type 0 where
+  pub sides : Beside F bound m a b ta tb
+  pub left-root : a ≢ 0
+  pub right-root : b ≢ 0
+  pub heavier : top tb ≤ top ta
+
+-- neither is empty, and the second root stays on top
+pub record RightWins (F : Form) (bound : ℕ) (m : Words) (a b : ℕ) (ta tb : Tree) : Type 0 where
+  pub sides : Beside F bound m a b ta tb
+  pub left-root : a ≢ 0
+  pub right-root : b ≢ 0
+  pub heavier : top ta < top tb
+
+abbrev pub Joined : Form → ℕ → Words → Words → Tree → Tree → ℕ → Type 0
+Joined F bound m m′ ta tb l = Became F bound m m′ (NoNodeOf ta tb) l (join ta tb)
+
+-- what the two that join ensure: the root that stays on top keeps its link
+abbrev pub LeftJoined : Form → ℕ → Words → Words → ℕ → ℕ → Type 0
+LeftJoined F bound m m′ a b = (ta tb : Tree) → LeftWins F bound m a b ta tb → Joined F bound m m′ ta tb a
+
+abbrev pub RightJoined : Form → ℕ → Words → Words → ℕ → ℕ → Type 0
+RightJoined F bound m m′ a b = (ta tb : Tree) → RightWins F bound m a b ta tb → Joined F bound m m′ ta tb b
+
+-- the join of the trees at the links a and b, of which either may be empty; k is the link to the whole
+abbrev pub BothJoined : Form → ℕ → Words → Words → ℕ → ℕ → ℕ → Type 0
+BothJoined F bound m m′ a b k = (ta tb : Tree) → Beside F bound m a b ta tb → Joined F bound m m′ ta tb k
+
+-- ---- split, insert, delete
+
+-- the tree t split at cell x: its parts lie at the links lo and hi
+pub record Parted (F : Form) (bound : ℕ) (m m′ : Words) (x : ℕ) (t : Tree) (lo hi : ℕ) : Type 0 where
+  pub low : Became F bound m m′ (NoNode t) lo (below x t)
+  pub high : Became F bound m m′ (NoNode t) hi (above x t)
+
+-- what the split of the tree at the link l ensures
+abbrev pub Parts : Form → ℕ → Words → Words → ℕ → ℕ → ℕ → ℕ → Type 0
+Parts F bound m m′ l x lo hi = (t : Tree) → At F bound m l t → Parted F bound m m′ x t lo hi
+
+-- no block of the tree overlaps the run
+abbrev pub Apart : Run → Tree → Type 0
+Apart r leaf = Unit {0}
+Apart r (node a q b) =
+    Apart r a × (q .start ≤ r .start → q .start + q .size ≤ r .start)
+    × (r .start ≤ q .start → r .start + r .size ≤ q .start) × Apart r b
+
+-- The tree lies at the link l, with room for the run: its words beyond the first cell are zero.
+pub record Room (F : Form) (bound : ℕ) (m : Words) (l : ℕ) (r : Run) (t : Tree) : Type 0 where
+  pub tree : At F bound m l t
+  pub apart : Apart r t
+  pub filled : 1 ≤ r .size
+  pub inside : r .start + r .size ≤ cells F m
+  pub zeros : Zeros m (F .cell * suc (r .start)) (F .cell * (r .start + r .size))
+
+-- what the insertion of the run r into the tree at the link l ensures, k the link to the whole
+abbrev pub Inserted : Form → ℕ → Words → Words → ℕ → Run → ℕ → Type 0
+Inserted F bound m m′ l r k =
+    (t : Tree) → Room F bound m l r t → Became F bound m m′ (NoNodeNor t (r .start)) k (insert r t)
+
+-- what the deletion of the run at cell x from the tree at the link l ensures, k the link to the rest
+abbrev pub Deleted : Form → ℕ → Words → Words → ℕ → ℕ → ℕ → Type 0
+Deleted F bound m m′ l x k = (t : Tree) → At F bound m l t → Became F bound m m′ (NoNode t) k (delete x t)
+
+-- ---- searches
+
+-- the search of the tree at the link `root` gave k: the leftmost fit for n cells, or the run that passes
+abbrev pub LeftmostFound : Form → ℕ → Words → ℕ → ℕ → ℕ → Type 0
+LeftmostFound F bound m root n k = (t : Tree) → At F bound m root t → k ≡ linkTo (leftmost n t)
+
+abbrev pub RunFound : Form → ℕ → Words → ℕ → (Run → Bool) → ℕ → Type 0
+RunFound F bound m root p k = (t : Tree) → At F bound m root t → k ≡ linkTo (firstThat p (inorder t))

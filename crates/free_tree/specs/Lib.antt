@@ -1,0 +1,3 @@
+-- The free tree's steps, as trees and in an arena.
+pub mod Shapes
+pub mod Held

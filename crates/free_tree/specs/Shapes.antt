@@ -1,0 +1,87 @@
+-- Stephenson's steps on the tree of the free runs, with 01's tie rule, and what each does to the list of the runs.
+-- 01, "Steps, from 000 with this tie rule". Assumes nothing.
+use Prim.Native.Nat.{ℕ, suc, _+_}
+use mathlib.Core.Bool.{Bool, cond, _&&_, _||_}
+use mathlib.Core.List.{List, [], _∷_}
+use mathlib.Core.Option.{Option, none, some}
+use lib.Dec.{eqb, leb, ltb}
+use Rattle.ledger.specs.Runs.{Run}
+use Rattle.stored_forms.specs.Tree.{Tree, leaf, node}
+
+-- ---- trees
+
+-- the root's length, 0 for none
+abbrev pub top : Tree → ℕ
+top leaf = 0
+top (node a q b) = q .size
+
+-- The number of nodes, which falls with each call of the join.
+abbrev pub nodes : Tree → ℕ
+nodes leaf = 0
+nodes (node a q b) = suc (nodes a + nodes b)
+
+-- the join of the node a q b with a tree that lies above it; f joins b with a tree
+abbrev pub joinOver : Tree → Run → Tree → (Tree → Tree) → Tree → Tree
+joinOver a q b f leaf = node a q b
+joinOver a q b f (node c p d) =
+    cond (leb (p .size) (q .size)) (node a q (f (node c p d))) (node (joinOver a q b f c) p d)
+
+-- 01: "the heavier root stays on top and the join goes on down its inner side". Of equal lengths the lower stays on
+-- top.
+abbrev pub join : Tree → Tree → Tree
+join leaf t = t
+join (node a q b) t = joinOver a q b (join b) t
+
+-- the split of a tree by address: the runs that begin below cell x, and those from it on
+abbrev pub below : ℕ → Tree → Tree
+below x leaf = leaf
+below x (node a q b) = cond (ltb (q .start) x) (node a q (below x b)) (below x a)
+
+abbrev pub above : ℕ → Tree → Tree
+above x leaf = leaf
+above x (node a q b) = cond (ltb (q .start) x) (above x b) (node (above x a) q b)
+
+-- 01: the longer stands above, and "of equal lengths the lower address stands above"
+abbrev pub standsAbove : Run → Run → Bool
+standsAbove r q = ltb (q .size) (r .size) || (eqb (q .size) (r .size) && ltb (r .start) (q .start))
+
+-- 01: "search by address down to the first node that must stand below the new one, put the new node there, and split
+-- that subtree by address into its two sons"
+abbrev pub insert : Run → Tree → Tree
+insert r leaf = node leaf r leaf
+insert r (node a q b) =
+    cond (standsAbove r q) (node (below (r .start) (node a q b)) r (above (r .start) (node a q b)))
+    (cond (ltb (q .start) (r .start)) (node a q (insert r b)) (node (insert r a) q b))
+
+-- 01: "the two sons' trees are joined". A tree with no run at cell x stays.
+abbrev pub delete : ℕ → Tree → Tree
+delete x leaf = leaf
+delete x (node a q b) =
+    cond (ltb x (q .start)) (node (delete x a) q b) (cond (ltb (q .start) x) (node a q (delete x b)) (join a b))
+
+-- ---- lists of runs, in address order
+
+-- with a run put in by its address
+abbrev pub putRun : Run → List Run → List Run
+putRun r [] = r ∷ []
+putRun r (q ∷ qs) = cond (ltb (q .start) (r .start)) (q ∷ putRun r qs) (r ∷ q ∷ qs)
+
+-- without the run that begins at cell x
+abbrev pub dropRun : ℕ → List Run → List Run
+dropRun x [] = []
+dropRun x (q ∷ qs) = cond (eqb (q .start) x) qs (q ∷ dropRun x qs)
+
+-- ---- what a search finds
+
+-- the run ends at cell x, so that it touches what begins there
+abbrev pub endsAt : ℕ → Run → Bool
+endsAt x r = eqb (r .start + r .size) x
+
+-- the run begins at cell x
+abbrev pub beginsAt : ℕ → Run → Bool
+beginsAt x r = eqb (r .start) x
+
+-- a run as its node's link, 0 for none
+abbrev pub linkTo : Option Run → ℕ
+linkTo none = 0
+linkTo (some r) = suc (r .start)

@@ -1,0 +1,302 @@
+// The free tree of a tree pool: the free blocks in a lent arena, each with its node in its first cell (01, "Stored
+// form of the tree pool"). The functions on one node alone know how it lies in words; every other goes through them.
+ghost use mathlib.Core.Path.{_≡_};
+ghost use mathlib.Core.Logic.{_≢_};
+ghost use mathlib.Core.Bool.{Bool};
+ghost use Prim.Native.Nat.{ℕ, _+_, _<_};
+ghost use Rattle.words.specs.Lists.{firstThat};
+ghost use Rattle.ledger.specs.Runs.{Run, run};
+ghost use Rattle.stored_forms.specs.Tree.{Tree, inorder, formOne, lengthAt, leftAt, rightAt};
+ghost use Rattle.stored_forms.proofs.TreeLaws.{leftmost};
+ghost use Rattle.free_tree.specs.Shapes.{standsAbove, endsAt, beginsAt, linkTo};
+ghost use Rattle.free_tree.specs.Held.{links, cells, NodePut, LeftSet, RightSet, NodeCleared, At, Beside};
+ghost use Rattle.free_tree.specs.Held.{LeftWins, RightWins, LeftJoined, RightJoined, BothJoined, Parts, Room};
+ghost use Rattle.free_tree.specs.Held.{Inserted, Deleted, LeftmostFound, RunFound};
+
+// ---- one node
+
+// The length of the node at cell `c`.
+pub fn length_of(arena: &[u32], c: usize) -> u32
+    requires { ⌜ c < cells formOne (now arena) ⌝ }
+    ensures { λ r. ⌜ r ≡ lengthAt formOne (now (arena .entry)) c ⌝ }
+{
+    arena[2 * c]
+}
+
+// The left link of the node at cell `c`.
+pub fn left_of(arena: &[u32], c: usize) -> usize
+    requires { ⌜ c < cells formOne (now arena) ⌝ }
+    ensures { λ r. ⌜ r ≡ leftAt formOne (now (arena .entry)) c ⌝ }
+{
+    (arena[2 * c + 1] % 65536) as usize
+}
+
+// The right link of the node at cell `c`.
+pub fn right_of(arena: &[u32], c: usize) -> usize
+    requires { ⌜ c < cells formOne (now arena) ⌝ }
+    ensures { λ r. ⌜ r ≡ rightAt formOne (now (arena .entry)) c ⌝ }
+{
+    (arena[2 * c + 1] / 65536) as usize
+}
+
+// Sets the left link of the node at cell `c`.
+pub fn set_left(arena: &mut [u32], c: usize, l: usize)
+    requires { ⌜ c < cells formOne (now arena) ⌝ }
+    requires { ⌜ l < links ⌝ }
+    ensures { λ _. ⌜ LeftSet formOne (now (arena .entry)) (now (arena .exit)) c l ⌝ }
+{
+    let i = 2 * c + 1;
+    let r = arena[i] / 65536;
+    arena[i] = l as u32 + 65536 * r;
+}
+
+// Sets the right link of the node at cell `c`.
+pub fn set_right(arena: &mut [u32], c: usize, r: usize)
+    requires { ⌜ c < cells formOne (now arena) ⌝ }
+    requires { ⌜ r < links ⌝ }
+    ensures { λ _. ⌜ RightSet formOne (now (arena .entry)) (now (arena .exit)) c r ⌝ }
+{
+    let i = 2 * c + 1;
+    let l = arena[i] % 65536;
+    arena[i] = l + 65536 * r as u32;
+}
+
+// Writes the node of a block of `n` cells at cell `c`.
+pub fn put_node(arena: &mut [u32], c: usize, n: u32, l: usize, r: usize)
+    requires { ⌜ c < cells formOne (now arena) ⌝ }
+    requires { ⌜ l < links ⌝ }
+    requires { ⌜ r < links ⌝ }
+    ensures { λ _. ⌜ NodePut formOne (now (arena .entry)) (now (arena .exit)) c n l r ⌝ }
+{
+    arena[2 * c] = n;
+    arena[2 * c + 1] = l as u32 + 65536 * r as u32;
+}
+
+// Clears the node at cell `c`.
+pub fn clear_node(arena: &mut [u32], c: usize)
+    requires { ⌜ c < cells formOne (now arena) ⌝ }
+    ensures { λ _. ⌜ NodeCleared formOne (now (arena .entry)) (now (arena .exit)) c ⌝ }
+{
+    arena[2 * c] = 0;
+    arena[2 * c + 1] = 0;
+}
+
+// ---- join
+
+// Joins the trees at the links `a` and `b`, where the root of `a` stays on top.
+fn over_left(arena: &mut [u32], a: usize, b: usize)
+    requires { ⌜ ((ta : Tree) × (tb : Tree) × LeftWins formOne links (now arena) a b ta tb) ⌝ }
+    ensures { λ _. ⌜ LeftJoined formOne links (now (arena .entry)) (now (arena .exit)) a b ⌝ }
+{
+    let c = a - 1;
+    let s = right_of(arena, c);
+    if s == 0 {
+        set_right(arena, c, b);
+        return;
+    }
+    if length_of(arena, b - 1) <= length_of(arena, s - 1) {
+        over_left(arena, s, b);
+    } else {
+        over_right(arena, s, b);
+        set_right(arena, c, b);
+    }
+}
+
+// Joins the trees at the links `a` and `b`, where the root of `b` stays on top.
+fn over_right(arena: &mut [u32], a: usize, b: usize)
+    requires { ⌜ ((ta : Tree) × (tb : Tree) × RightWins formOne links (now arena) a b ta tb) ⌝ }
+    ensures { λ _. ⌜ RightJoined formOne links (now (arena .entry)) (now (arena .exit)) a b ⌝ }
+{
+    let c = b - 1;
+    let s = left_of(arena, c);
+    if s == 0 {
+        set_left(arena, c, a);
+        return;
+    }
+    if length_of(arena, s - 1) <= length_of(arena, a - 1) {
+        over_left(arena, a, s);
+        set_left(arena, c, a);
+    } else {
+        over_right(arena, a, s);
+    }
+}
+
+// Joins the trees at the links `a` and `b`, of which either may be 0, and returns the link to the whole.
+pub fn join_trees(arena: &mut [u32], a: usize, b: usize) -> usize
+    requires { ⌜ ((ta : Tree) × (tb : Tree) × Beside formOne links (now arena) a b ta tb) ⌝ }
+    ensures { λ r. ⌜ BothJoined formOne links (now (arena .entry)) (now (arena .exit)) a b r ⌝ }
+{
+    if a == 0 {
+        return b;
+    }
+    if b == 0 {
+        return a;
+    }
+    if length_of(arena, b - 1) <= length_of(arena, a - 1) {
+        over_left(arena, a, b);
+        a
+    } else {
+        over_right(arena, a, b);
+        b
+    }
+}
+
+// ---- split, insert, delete
+
+// The links to the two parts of a tree.
+pub struct Sides {
+    pub lo: usize,
+    pub hi: usize,
+}
+
+// Splits the tree at the link `l` into its blocks below cell `x` and those from it on.
+pub fn split(arena: &mut [u32], l: usize, x: usize) -> Sides
+    requires { ⌜ ((t : Tree) × At formOne links (now arena) l t) ⌝ }
+    ensures { λ r. ⌜ Parts formOne links (now (arena .entry)) (now (arena .exit)) l x (r .lo) (r .hi) ⌝ }
+{
+    if l == 0 {
+        return Sides { lo: 0, hi: 0 };
+    }
+    let c = l - 1;
+    if c < x {
+        let s = right_of(arena, c);
+        let p = split(arena, s, x);
+        let lo = p.lo;
+        let hi = p.hi;
+        set_right(arena, c, lo);
+        Sides { lo: l, hi }
+    } else {
+        let s = left_of(arena, c);
+        let p = split(arena, s, x);
+        let lo = p.lo;
+        let hi = p.hi;
+        set_left(arena, c, hi);
+        Sides { lo, hi: l }
+    }
+}
+
+// Whether a block of `n` cells at cell `x` stands above one of `k` cells at cell `c`.
+fn stands_above(x: usize, n: u32, c: usize, k: u32) -> bool
+    ensures { λ r. ⌜ r ≡ standsAbove (run x n) (run c k) ⌝ }
+{
+    (k < n) | ((k == n) & (x < c))
+}
+
+// Inserts the block of `n` cells at cell `x` into the tree at the link `l`, and returns the link to the whole. The
+// block's words beyond its first cell are zero already.
+pub fn insert(arena: &mut [u32], l: usize, x: usize, n: u32) -> usize
+    requires { ⌜ ((t : Tree) × Room formOne links (now arena) l (run x n) t) ⌝ }
+    ensures { λ r. ⌜ Inserted formOne links (now (arena .entry)) (now (arena .exit)) l (run x n) r ⌝ }
+{
+    if l == 0 {
+        put_node(arena, x, n, 0, 0);
+        return x + 1;
+    }
+    let c = l - 1;
+    let k = length_of(arena, c);
+    if stands_above(x, n, c, k) {
+        let p = split(arena, l, x);
+        let lo = p.lo;
+        let hi = p.hi;
+        put_node(arena, x, n, lo, hi);
+        return x + 1;
+    }
+    if c < x {
+        let s = right_of(arena, c);
+        let q = insert(arena, s, x, n);
+        set_right(arena, c, q);
+    } else {
+        let s = left_of(arena, c);
+        let q = insert(arena, s, x, n);
+        set_left(arena, c, q);
+    }
+    l
+}
+
+// Takes the block at cell `x` out of the tree at the link `l`, and returns the link to the rest. The block's words
+// stay as they are.
+pub fn delete(arena: &mut [u32], l: usize, x: usize) -> usize
+    requires { ⌜ ((t : Tree) × At formOne links (now arena) l t) ⌝ }
+    ensures { λ r. ⌜ Deleted formOne links (now (arena .entry)) (now (arena .exit)) l x r ⌝ }
+{
+    if l == 0 {
+        return 0;
+    }
+    let c = l - 1;
+    if x < c {
+        let s = left_of(arena, c);
+        let q = delete(arena, s, x);
+        set_left(arena, c, q);
+        return l;
+    }
+    if c < x {
+        let s = right_of(arena, c);
+        let q = delete(arena, s, x);
+        set_right(arena, c, q);
+        return l;
+    }
+    let a = left_of(arena, c);
+    let b = right_of(arena, c);
+    join_trees(arena, a, b)
+}
+
+// ---- searches: each returns a link, 0 for none
+
+// The first block of at least `cells` cells: as long as the root is long enough, go left.
+pub fn leftmost_fit(arena: &[u32], root: usize, cells: u32) -> usize
+    requires { ⌜ ((t : Tree) × At formOne links (now arena) root t) ⌝ }
+    ensures { λ r. ⌜ LeftmostFound formOne links (now (arena .entry)) root cells r ⌝ }
+{
+    let mut found: usize = 0;
+    let mut l = root;
+    while l != 0 {
+        let c = l - 1;
+        if length_of(arena, c) < cells {
+            return found;
+        }
+        found = l;
+        l = left_of(arena, c);
+    }
+    found
+}
+
+// The block that ends at cell `x`: it touches a block that begins there from below.
+pub fn ending_at(arena: &[u32], root: usize, x: usize) -> usize
+    requires { ⌜ ((t : Tree) × At formOne links (now arena) root t) ⌝ }
+    ensures { λ r. ⌜ RunFound formOne links (now (arena .entry)) root (endsAt x) r ⌝ }
+{
+    let mut l = root;
+    while l != 0 {
+        let c = l - 1;
+        let end = c + length_of(arena, c) as usize;
+        if end == x {
+            return l;
+        }
+        if x < end {
+            l = left_of(arena, c);
+        } else {
+            l = right_of(arena, c);
+        }
+    }
+    0
+}
+
+// The block that begins at cell `x`: it touches a block that ends there from above.
+pub fn beginning_at(arena: &[u32], root: usize, x: usize) -> usize
+    requires { ⌜ ((t : Tree) × At formOne links (now arena) root t) ⌝ }
+    ensures { λ r. ⌜ RunFound formOne links (now (arena .entry)) root (beginsAt x) r ⌝ }
+{
+    let mut l = root;
+    while l != 0 {
+        let c = l - 1;
+        if c == x {
+            return l;
+        }
+        if x < c {
+            l = left_of(arena, c);
+        } else {
+            l = right_of(arena, c);
+        }
+    }
+    0
+}

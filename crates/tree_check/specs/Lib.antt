@@ -1,0 +1,3 @@
+-- What the tree pool's soundness check decides.
+pub mod Walk
+pub mod Gate

@@ -1,0 +1,29 @@
+-- `control_words::size_at` meets its contract. Assumes nothing.
+use mathlib.Core.Path.{_∙_, ap}
+use borrow.Author.Needs.{needs}
+use lib.IntN.{pos, natAbs}
+use lib.ListN.{getD}
+use Rattle.control_words.proofs.SignLaws.{reads-back}
+use Rattle.control_words.proofs.size_at.Statement.{statement}
+use Rattle.control_words.proofs.size_at.Tie as tie
+
+mul-z : tie.Need-mul-z
+mul-z c = search needs
+
+shared-slice-copy-out-z : tie.Need-shared-slice-copy-out-z
+shared-slice-copy-out-z c = search needs
+
+size-of-requires : tie.Need-size-of-requires
+size-of-requires c κs = search needs
+
+cast-result : tie.Need-cast-result
+cast-result c = search needs
+
+returns : tie.Need-returns
+returns c =
+    let a = c .before .before .args in
+    c .size-of .ensures ∙ ap natAbs (reads-back (getD (a .v .now) (a .at) (pos 0)) (c .before .z .given))
+
+pub size-at-spec : {M : Type 1} → statement M
+size-at-spec =
+    tie.close (tie.spec mul-z shared-slice-copy-out-z size-of-requires cast-result returns)

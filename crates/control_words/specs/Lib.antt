@@ -1,0 +1,2 @@
+-- What code reads off a control word.
+pub mod Control

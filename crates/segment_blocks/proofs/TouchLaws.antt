@@ -1,0 +1,223 @@
+-- The index follows a change of three control words: its segments are brought up to date one after another.
+-- Assumes nothing.
+use Prim.Native.Nat.{ℕ, _+_, _*_, _/_, _<_, _≤_}
+use native.Mathlib.Decide.{decLt, ℕ-discrete}
+use native.Mathlib.Omega.{arith}
+use mathlib.Core.Bool.{Bool, true, false, not, _&&_, true≢false}
+use mathlib.Core.List.{List}
+use mathlib.Core.Logic.{_≢_, _⊎_, inl, inr}
+use mathlib.Core.Path.{_≡_, refl, sym, ap, subst, _∙_}
+use lib.Dec.{eqb, ltb}
+use lib.IntN.{ℤ, natAbs}
+use lib.ListN.{length, getD}
+use Rattle.words.specs.Lists.{Words}
+use Rattle.words.proofs.Tests.{and-l, and-r, not-true, not-false, eqb-eq, eqb-ne, eqb-false, lt-of, of-lt}
+use Rattle.stored_forms.specs.Segments.{firstBlock, segmentSize}
+use Rattle.segment_index.specs.Index.{indexOf, Agree}
+use Rattle.segment_index.specs.Tree.{Heap}
+use Rattle.segment_index.proofs.IndexLaws.{length-indexOf, index-zero, index-heap, index-agrees, index-is, agree-moves}
+use Rattle.segment_index.proofs.RangeLaws.{FirstIn, first-found}
+use Rattle.segment_index.proofs.SizeLaws.{segment-low, segment-high, segment-is, segment-in, segment-below}
+use Rattle.segment_blocks.specs.Upkeep.{Ready, Refreshed, RefreshedIf, Touched}
+use Rattle.segment_blocks.proofs.UpkeepLaws.{sizes-some, sizes-each}
+
+-- t is the index of c but for the segments in D
+pub record Pending (c : ℕ → ℤ) (W s : ℕ) (t : Words) (D : ℕ → Type 0) : Type 0 where
+  pub heap : Heap s t
+  pub long : length t ≡ 3 * s
+  pub first : getD t 0 0 ≡ 0
+  pub agree : (k : ℕ) → k < s → (D k → ⊥) → Agree c W s t k
+
+abbrev pub But : ℕ → (ℕ → Type 0) → ℕ → Type 0
+But j D k = (k ≢ j) × D k
+
+-- another segment is refreshed
+agree-stays : (c : ℕ → ℤ) (W s : ℕ) (t u : Words) (k j : ℕ) → Refreshed c W s k t u → k < s → j < s → j ≢ k
+    → Agree c W s t j → Agree c W s u j
+agree-stays c W s t u k j r h i n a = record {
+  leaf = r .rest (s + j) (omega arith) (omega arith) (omega arith) ∙ a .leaf;
+  first = r .rest (2 * s + j) (omega arith) (omega arith) (omega arith) ∙ a .first;
+}
+
+pub step : (c : ℕ → ℤ) (W s : ℕ) (t u : Words) (D : ℕ → Type 0) (on : Bool) (j : ℕ) → (on ≡ true → j < s)
+    → Pending c W s t D → RefreshedIf on c W s j t u → (on ≡ false → D j → ⊥) → Pending c W s u (But j D)
+step c W s t u D true j h P R f =
+    let r = R .done refl in
+    record {
+      heap = r .heap;
+      long = r .same ∙ P .long;
+      first = r .zero ∙ P .first;
+      agree = λ k i n. go k i n (ℕ-discrete k j);
+    }
+  where
+    go : (k : ℕ) → k < s → (But j D k → ⊥) → Dec (k ≡ j) → Agree c W s u k
+    go k i n (yes e) = rw e (R .done refl .here)
+    go k i n (no e) = agree-stays c W s t u j k (R .done refl) (h refl) i e (P .agree k i (λ d. n (e, d)))
+step c W s t u D false j h P R f =
+    rw (R .kept refl)
+    (record { heap = P .heap; long = P .long; first = P .first; agree = λ k i n. go k i n (ℕ-discrete k j) })
+  where
+    go : (k : ℕ) → k < s → (But j D k → ⊥) → Dec (k ≡ j) → Agree c W s t k
+    go k i n (yes e) = P .agree k i (λ d. f refl (subst D e d))
+    go k i n (no e) = P .agree k i (λ d. n (e, d))
+
+module _ (b c : ℕ → ℤ) (v : List ℤ) (t : Words) (s g a p e end y : ℕ) (X : Touched b c v t s g a p e end y) where
+  abbrev W : ℕ
+  W = length v
+
+  some : 0 < s
+  some = sizes-some W s g (X .sizes)
+
+  pub each-pos : 0 < g
+  each-pos = sizes-each W s g (X .sizes)
+
+  a-in : a < W
+  a-in = omega (arith, X .low, X .mid, X .high, X .top)
+
+  segment : (u : ℕ) → u < W → u / g < s
+  segment u h = rw (X .sizes .each) (segment-in W s u some h)
+
+  pub a-segment : a / g < s
+  a-segment = segment a a-in
+
+  p-segment : p / g < s
+  p-segment = segment p (omega (arith, X .mid, X .high, X .top))
+
+  e-segment : 0 < y → e / g < s
+  e-segment h = segment e (X .last h)
+
+  -- the segments whose control words changed
+  abbrev D : ℕ → Type 0
+  D k = (k ≡ a / g) ⊎ ((k ≡ p / g) ⊎ ((k ≡ e / g) × (0 < y)))
+
+  untouched : (k : ℕ) → (D k → ⊥) → (u : ℕ) → k * segmentSize W s ≤ u → u < k * segmentSize W s + segmentSize W s
+      → b u ≡ c u
+  untouched k n u h i =
+      sym (X .same u (λ j. n (inl (at j))) (λ j. n (inr (inl (at j)))) (λ j. none j (decLt 0 y)))
+    where
+      at : {j : ℕ} → u ≡ j → k ≡ j / g
+      at {j} l = sym (rw (X .sizes .each) (segment-is u (segmentSize W s) k h i)) ∙ ap (λ (x : ℕ). x / g) l
+
+      none : u ≡ e → Dec (0 < y) → y ≡ 0
+      none j (yes q) = absurd (n (inr (inr (at j, q))))
+      none j (no q) = omega arith
+
+  pub pending : Pending c W s t D
+  pending = rw (X .was) (record {
+    heap = index-heap b W s (X .sizes .power);
+    long = length-indexOf b W s;
+    first = index-zero b W s some;
+    agree = λ k h n. agree-moves b c W s (indexOf b W s) k (untouched k n) (index-agrees b W s k h);
+  })
+
+  -- ---- the segment of a is scanned from its first block, which is the same before and after
+
+  from : ℕ
+  from = getD t (2 * s + a / g) 0
+
+  found : (from ≤ a) × FirstIn b (a / g * g) g from
+  unfolding from
+  found =
+      let f : getD t (2 * s + a / g) 0 ≡ firstBlock b W (a / g * g) g =
+      ap (λ (t : Words). getD t (2 * s + a / g) 0) (X .was) ∙ index-agrees b W s (a / g) a-segment .first
+      ∙ rw (X .sizes .each) in
+      rw f (first-found b W (a / g * g) g a (segment-low a g) (segment-high a g each-pos) (X .before))
+
+  below : (u : ℕ) → u < a → c u ≡ b u
+  below u h = X .same u (omega arith) (omega (arith, X .low)) (λ i. absurd (omega (arith, X .low, X .mid)))
+
+  pub ready-a : Ready v c t s g (a / g) (getD t (2 * s + a / g) 0)
+  unfolding from
+  ready-a = record {
+    facing = record {
+      sizes = X .sizes;
+      is = a-segment;
+      low = omega (arith, found .1 .low);
+      scan = record {
+        blocks = X .blocks;
+        inside = omega (arith, found .0, a-in);
+        begins = λ h. go (ℕ-discrete from a);
+      };
+      quiet = λ u h i. below u (omega (arith, found .0)) ∙ found .1 .quiet u h i;
+    };
+    heap = pending .heap;
+    long = pending .long;
+  }
+    where
+      go : Dec (from ≡ a) → 0 < natAbs (c from)
+      go (yes i) = rw i (X .after)
+      go (no i) = rw (below from (omega (arith, found .0))) (found .1 .begins)
+
+  -- ---- any other changed segment begins past a, and has no block before `end`
+
+  ready-end : (u : Words) (D : ℕ → Type 0) → Pending c W s u D → (q : ℕ) → a ≤ q → q ≤ end → q / g < s → q / g ≢ a / g
+      → Ready v c u s g (q / g) end
+  ready-end u D P q h i k n = record {
+    facing = record {
+      sizes = X .sizes;
+      is = k;
+      low = omega (arith, segment-low q g);
+      scan = record { blocks = X .blocks; inside = X .top; begins = X .begins };
+      quiet = λ r x z. X .quiet r (omega (arith, segment-below a q g each-pos h n)) z;
+    };
+    heap = P .heap;
+    long = P .long;
+  }
+
+  -- what the tests say
+  abbrev onP : Bool
+  onP = not (eqb (p / g) (a / g))
+
+  abbrev onE : Bool
+  onE = ltb 0 y && (not (eqb (e / g) (a / g)) && not (eqb (e / g) (p / g)))
+
+  off-p : onP ≡ false → But (a / g) D (p / g) → ⊥
+  off-p f d = d .0 (eqb-eq (p / g) (a / g) (not-false (eqb (p / g) (a / g)) f))
+
+  e-facts : onE ≡ true → (0 < y) × (e / g ≢ a / g)
+  e-facts h =
+      let apart = not (eqb (e / g) (a / g)) && not (eqb (e / g) (p / g)) in
+      let other = and-l (not (eqb (e / g) (a / g))) (not (eqb (e / g) (p / g))) (and-r (ltb 0 y) apart h) in
+      (lt-of 0 y (and-l (ltb 0 y) apart h), eqb-false (e / g) (a / g) (not-true (eqb (e / g) (a / g)) other))
+
+  off-e : onE ≡ false → But (p / g) (But (a / g) D) (e / g) → ⊥
+  off-e f (x, (z, inl d)) = z d
+  off-e f (x, (z, inr (inl d))) = x d
+  off-e f (x, (z, inr (inr d))) = true≢false (sym on ∙ f)
+    where
+      on : onE ≡ true
+      on = rw (of-lt 0 y (d .1), eqb-ne (e / g) (a / g) z, eqb-ne (e / g) (p / g) x)
+
+  -- ---- the three calls
+
+  module _ (t₁ : Words) (r : Refreshed c W s (a / g) t t₁) where
+    after-a : Pending c W s t₁ (But (a / g) D)
+    after-a =
+        step c W s t t₁ D true (a / g) (λ i. a-segment) pending
+        (record { done = λ i. r; kept = λ i. absurd (true≢false i) }) (λ i. absurd (true≢false i))
+
+    pub ready-p : onP ≡ true → Ready v c t₁ s g (p / g) end
+    ready-p i =
+        ready-end t₁ (But (a / g) D) after-a p (X .low) (omega (arith, X .mid, X .high)) p-segment
+        (eqb-false (p / g) (a / g) (not-true (eqb (p / g) (a / g)) i))
+
+    module _ (t₂ : Words) (q : RefreshedIf onP c W s (p / g) t₁ t₂) where
+      after-p : Pending c W s t₂ (But (p / g) (But (a / g) D))
+      after-p = step c W s t₁ t₂ (But (a / g) D) onP (p / g) (λ i. p-segment) after-a q off-p
+
+      pub ready-e : onE ≡ true → Ready v c t₂ s g (e / g) end
+      ready-e i =
+          let (l, n) = e-facts i in
+          ready-end t₂ (But (p / g) (But (a / g) D)) after-p e (omega (arith, X .low, X .mid)) (X .high) (e-segment l)
+          n
+
+      pub reindexed : (t₃ : Words) → RefreshedIf onE c W s (e / g) t₂ t₃ → t₃ ≡ indexOf c W s
+      reindexed t₃ z =
+          let in-range : onE ≡ true → e / g < s = λ i. e-segment (e-facts i .0) in
+          let P = step c W s t₂ t₃ (But (p / g) (But (a / g) D)) onE (e / g) in-range after-p z off-e in
+          index-is c W s (X .sizes .power) t₃ (P .long) (P .first) (P .heap) (λ k h. P .agree k h (λ d. none k d))
+        where
+          none : (k : ℕ) → But (e / g) (But (p / g) (But (a / g) D)) k → ⊥
+          none k (x, (y, (z, inl d))) = z d
+          none k (x, (y, (z, inr (inl d)))) = y d
+          none k (x, (y, (z, inr (inr d)))) = x (d .0)

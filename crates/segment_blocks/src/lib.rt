@@ -1,0 +1,156 @@
+// Scans of the segment pool from block to block, and the upkeep of the index after a change of the blocks: only the
+// segments whose control words changed are scanned again, each from its first block.
+ghost use mathlib.Core.Path.{_≡_};
+ghost use mathlib.Core.Bool.{true};
+ghost use Prim.Native.Nat.{ℕ, _+_, _-_, _*_, _≤_, _<_, _^_};
+ghost use lib.IntN.{ℤ};
+ghost use lib.ListN.{length};
+ghost use Rattle.stored_forms.specs.Segments.{largest};
+ghost use Rattle.segment_index.specs.Index.{indexOf};
+ghost use Rattle.segment_blocks.specs.Blocks.{Scan, Seeking, FirstFit, Chain, EndsAt, Reaches};
+ghost use Rattle.segment_blocks.specs.Upkeep.{Ground, Ready, Refreshed, RefreshedIf, Touched, firstFrom};
+use control_words::size_at;
+use control_words::weight_at;
+use segment_index::index_word;
+use segment_index::larger;
+use segment_index::lesser;
+use segment_index::raise;
+use words::wipe;
+
+// The first free block of n words or more from `from` on. There is one: the leaf of the segment says so.
+pub fn first_fit(v: &[i32], from: usize, n: u32) -> usize
+    requires { ⌜ ((c : ℕ → ℤ) × Seeking (now v) c from n) ⌝ }
+    ensures { λ r. ⌜ ((c : ℕ → ℤ) → Seeking (now (v .entry)) c from n → FirstFit c from n r) ⌝ }
+{
+    let mut at = from;
+    while weight_at(v, at) < n {
+        at += size_at(v, at);
+    }
+    at
+}
+
+// The block that ends where p begins, from an earlier block on.
+pub fn block_before(v: &[i32], from: usize, p: usize) -> usize
+    requires { ⌜ ((c : ℕ → ℤ) × Chain (now v) c from p) ⌝ }
+    ensures { λ r. ⌜ ((c : ℕ → ℤ) → Chain (now (v .entry)) c from p → EndsAt c p r) ⌝ }
+{
+    let mut at = from;
+    let mut next = from + size_at(v, from);
+    while next < p {
+        at = next;
+        next = at + size_at(v, at);
+    }
+    at
+}
+
+// The leaf of a segment: the largest weight of the blocks that begin from `from` up to hi.
+pub fn leaf_from(v: &[i32], from: usize, hi: usize) -> u32
+    requires { ⌜ ((c : ℕ → ℤ) × Scan (now v) c from × (hi ≤ length (now v))) ⌝ }
+    ensures { λ r. ⌜ ((c : ℕ → ℤ) → Scan (now (v .entry)) c from → r ≡ largest c from (hi - from)) ⌝ }
+{
+    let mut most: u32 = 0;
+    let mut at = from;
+    while at < hi {
+        most = larger(most, weight_at(v, at));
+        at += size_at(v, at);
+    }
+    most
+}
+
+// The first-block word of a segment that ends at hi: w where no block begins before that.
+pub fn first_from(from: usize, hi: usize, w: usize) -> u32
+    requires { ⌜ (from < 2 ^ 32) × (w < 2 ^ 32) ⌝ }
+    ensures { λ r. ⌜ r ≡ firstFrom from hi w ⌝ }
+{
+    if from < hi { from as u32 } else { w as u32 }
+}
+
+// Segment k is brought up to date, with the words above its leaf.
+pub fn refresh_segment(v: &[i32], t: &mut [u32], s: usize, g: usize, k: usize, from: usize)
+    requires { ⌜ ((c : ℕ → ℤ) × Ready (now v) c (now t) s g k from) ⌝ }
+    ensures { λ _. ⌜
+        ((c : ℕ → ℤ) → Ready (now (v .entry)) c (now (t .entry)) s g k from
+        → Refreshed c (length (now (v .entry))) s k (now (t .entry)) (now (t .exit)))
+        ⌝ }
+{
+    let w = v.len();
+    let hi = lesser((k + 1) * g, w);
+    let leaf = leaf_from(v, from, hi);
+    let first = first_from(from, hi, w);
+    raise(t, s, s + k, leaf);
+    t[2 * s + k] = first;
+}
+
+// The same where `on` says so.
+fn refresh_if(on: bool, v: &[i32], t: &mut [u32], s: usize, g: usize, k: usize, from: usize)
+    requires { ⌜ (on ≡ true → (c : ℕ → ℤ) × Ready (now v) c (now t) s g k from) ⌝ }
+    ensures { λ _. ⌜
+        ((c : ℕ → ℤ) → (on ≡ true → Ready (now (v .entry)) c (now (t .entry)) s g k from)
+        → RefreshedIf on c (length (now (v .entry))) s k (now (t .entry)) (now (t .exit)))
+        ⌝ }
+{
+    if !on {
+        return;
+    }
+    refresh_segment(v, t, s, g, k, from);
+}
+
+// The index follows a change of at most three control words: at a, p and e. A segment that holds two of them is
+// scanned once.
+pub fn reindex(
+    v: &[i32],
+    t: &mut [u32],
+    s: usize,
+    g: usize,
+    a: usize,
+    p: usize,
+    e: usize,
+    end: usize,
+    y: usize,
+)
+    requires { ⌜ ((b : ℕ → ℤ) × (c : ℕ → ℤ) × Touched b c (now v) (now t) s g a p e end y) ⌝ }
+    ensures { λ _. ⌜
+        ((b : ℕ → ℤ) → (c : ℕ → ℤ) → Touched b c (now (v .entry)) (now (t .entry)) s g a p e end y
+        → now (t .exit) ≡ indexOf c (length (now (v .entry))) s)
+        ⌝ }
+{
+    let ka = a / g;
+    let kp = p / g;
+    let ke = e / g;
+    let from = index_word(t, 2 * s + ka);
+    refresh_segment(v, t, s, g, ka, from);
+    refresh_if(kp != ka, v, t, s, g, kp, end);
+    refresh_if((0 < y) & ((ke != ka) & (ke != kp)), v, t, s, g, ke, end);
+}
+
+// The first block at or past hi, from a block at `from` on; the arena's end where there is none.
+pub fn block_from(v: &[i32], from: usize, hi: usize) -> usize
+    requires { ⌜ ((c : ℕ → ℤ) × Scan (now v) c from) ⌝ }
+    requires { ⌜ hi ≤ length (now v) ⌝ }
+    ensures { λ r. ⌜ ((c : ℕ → ℤ) → Scan (now (v .entry)) c from → Reaches (now (v .entry)) c from hi r) ⌝ }
+{
+    let mut at = from;
+    while at < hi {
+        at += size_at(v, at);
+    }
+    at
+}
+
+// The whole index, from blocks alone: what format does once.
+pub fn build_index(v: &[i32], t: &mut [u32], s: usize, g: usize)
+    requires { ⌜ ((c : ℕ → ℤ) × Ground (now v) c s g) ⌝ }
+    requires { ⌜ length (now t) ≡ 3 * s ⌝ }
+    ensures { λ _. ⌜
+        ((c : ℕ → ℤ) → Ground (now (v .entry)) c s g → now (t .exit) ≡ indexOf c (length (now (v .entry))) s)
+        ⌝ }
+{
+    wipe(t);
+    let w = v.len();
+    let mut from: usize = 0;
+    let mut k: usize = 0;
+    while k < s {
+        refresh_segment(v, t, s, g, k, from);
+        from = block_from(v, from, lesser((k + 1) * g, w));
+        k += 1;
+    }
+}

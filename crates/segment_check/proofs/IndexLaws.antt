@@ -1,0 +1,84 @@
+-- The index by its parts: word 0, the inner words, and the segments. Assumes nothing.
+use Prim.Native.Nat.{ℕ, _+_, _-_, _*_, _<_, max}
+use native.Mathlib.Omega.{arith}
+use mathlib.Core.Bool.{Bool, true, _&&_}
+use mathlib.Core.List.{List}
+use mathlib.Core.Path.{_≡_, sym}
+use lib.Dec.{eqb}
+use lib.IntN.{ℤ}
+use lib.ListN.{length, getD}
+use Rattle.words.specs.Counted.{every}
+use Rattle.words.specs.Lists.{Words}
+use Rattle.words.proofs.CountedLaws.{every-at, every-of}
+use Rattle.words.proofs.Tests.{and-l, and-r, and-i, eqb-eq, eqb-same}
+use Rattle.stored_forms.specs.Segments.{largest, firstBlock, segmentSize}
+use Rattle.segment_index.specs.Index.{indexOf, Agree}
+use Rattle.segment_index.specs.Tree.{Heap}
+use Rattle.segment_index.proofs.IndexLaws.{index-is, index-zero, index-heap, index-agrees}
+use Rattle.segment_blocks.specs.Upkeep.{Ground}
+use Rattle.segment_blocks.proofs.UpkeepLaws.{sizes-some}
+use Rattle.segment_check.specs.Right.{Says, nodeRight, segmentRight}
+
+-- a segment's test
+segment-from : (c : ℕ → ℤ) (W s : ℕ) (t : Words) (k : ℕ) → segmentRight c W s t k ≡ true → Agree c W s t k
+unfolding segmentRight
+segment-from c W s t k h =
+    let x = largest c (k * segmentSize W s) (segmentSize W s) in
+    let y = firstBlock c W (k * segmentSize W s) (segmentSize W s) in
+    let a = eqb x (getD t (s + k) 0) in
+    let b = eqb y (getD t (2 * s + k) 0) in
+    record {
+      leaf = sym (eqb-eq x (getD t (s + k) 0) (and-l a b h));
+      first = sym (eqb-eq y (getD t (2 * s + k) 0) (and-r a b h));
+    }
+
+segment-to : (c : ℕ → ℤ) (W s : ℕ) (t : Words) (k : ℕ) → Agree c W s t k → segmentRight c W s t k ≡ true
+unfolding segmentRight
+segment-to c W s t k A =
+    rw (
+      A .leaf,
+      A .first,
+      eqb-same (largest c (k * segmentSize W s) (segmentSize W s)),
+      eqb-same (firstBlock c W (k * segmentSize W s) (segmentSize W s)),
+    )
+
+module _ (v : List ℤ) (c : ℕ → ℤ) (s g : ℕ) (t : Words) (G : Ground v c s g) (long : length t ≡ 3 * s) where
+  abbrev W : ℕ
+  W = length v
+
+  some : 0 < s
+  some = sizes-some W s g (G .sizes)
+
+  pub index-says : (x y z : Bool) → x ≡ eqb (getD t 0 0) 0 → y ≡ every (nodeRight t) 1 (s - 1)
+      → z ≡ every (segmentRight c W s t) 0 s → Says ((x && y) && z) (t ≡ indexOf c W s)
+  index-says x y z p q r = rw (p, q, r) (from, to)
+    where
+      from : ((eqb (getD t 0 0) 0 && every (nodeRight t) 1 (s - 1)) && every (segmentRight c W s t) 0 s) ≡ true
+          → t ≡ indexOf c W s
+      from h =
+          let a = eqb (getD t 0 0) 0 in
+          let b = every (nodeRight t) 1 (s - 1) in
+          let d = every (segmentRight c W s t) 0 s in
+          let front = and-l (a && b) d h in
+          let at = every-at (nodeRight t) 1 (s - 1) (and-r a b front) in
+          let seg = every-at (segmentRight c W s t) 0 s (and-r (a && b) d h) in
+          index-is c W s (G .sizes .power) t long (eqb-eq (getD t 0 0) 0 (and-l a b front))
+          (record {
+            long = omega arith;
+            node = λ i l m. eqb-eq (getD t i 0) (max (getD t (2 * i) 0) (getD t (2 * i + 1) 0)) (at i l (omega arith));
+          })
+          (λ k l. segment-from c W s t k (seg k (omega arith) (omega arith)))
+
+      to : t ≡ indexOf c W s → ((eqb (getD t 0 0) 0 && every (nodeRight t) 1 (s - 1)) && every (segmentRight c W s t)
+          0 s) ≡ true
+      to e =
+          let heap : Heap s t = rw e (index-heap c W s (G .sizes .power)) in
+          let first : getD t 0 0 ≡ 0 = rw e (index-zero c W s some) in
+          and-i (eqb (getD t 0 0) 0 && every (nodeRight t) 1 (s - 1)) (every (segmentRight c W s t) 0 s)
+          (and-i (eqb (getD t 0 0) 0) (every (nodeRight t) 1 (s - 1)) (rw first)
+          (every-of (nodeRight t) 1 (s - 1)
+          (λ i a b. rw (heap .node i a (omega arith)) (eqb-same (max (getD t (2 * i) 0) (getD t (2 * i + 1) 0))))))
+          (every-of (segmentRight c W s t) 0 s (λ k a b. segment-to c W s t k (agrees e k (omega arith))))
+        where
+          agrees : t ≡ indexOf c W s → (k : ℕ) → k < s → Agree c W s t k
+          agrees e k l = rw e (index-agrees c W s k l)

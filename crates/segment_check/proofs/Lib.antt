@@ -1,0 +1,4 @@
+-- Laws of the check.
+pub mod ArenaLaws
+pub mod IndexLaws
+pub mod PoolLaws

@@ -1,0 +1,2 @@
+-- What the check of the segment pool compares.
+pub mod Right

@@ -1,0 +1,73 @@
+-- What the check of the segment pool compares: control words of records and of free runs, and the words of the index.
+-- Assumes nothing.
+use Prim.Native.Nat.{ℕ, _+_, _-_, _*_, _≤_, _<_, max}
+use mathlib.Core.Bool.{Bool, true, cond, not, _&&_, _||_}
+use mathlib.Core.List.{List}
+use mathlib.Core.Path.{_≡_}
+use lib.Dec.{eqb, leb}
+use lib.IntN.{ℤ, pos, natAbs}
+use lib.ListN.{length, getD}
+use Rattle.words.specs.Counted.{every}
+use Rattle.words.specs.Lists.{Words, zeroAt}
+use Rattle.words.specs.Signed.{zeroAtZ}
+use Rattle.ledger.specs.Records.{isEmpty, recordsOf}
+use Rattle.ledger.specs.Units.{valid, free}
+use Rattle.ledger.specs.declared.Row.{Row}
+use Rattle.stored_forms.specs.Segments.{segmentRule, segmentSize, largest, firstBlock, opens, freeFrom}
+use Rattle.control_words.specs.Control.{freeSize}
+use Rattle.segment_blocks.specs.Upkeep.{Sizes}
+
+-- a flag that says a fact, both ways
+abbrev pub Says : Bool → Type 0 → Type 0
+Says b P = (b ≡ true → P) × (P → b ≡ true)
+
+-- ---- the arena
+
+-- a live record's control word is its size with the control word, negated
+abbrev pub heldRight : List ℤ → Row → Bool
+heldRight v r =
+    isEmpty r
+    || (eqb (natAbs (getD v (r .address - 1) (pos 0))) (r .words + 1)
+    && eqb (freeSize (getD v (r .address - 1) (pos 0))) 0)
+
+-- word u, where the map says that it is free: the size of the run that it opens, or 0
+unfoldable pub freeRight : List ℤ → Words → ℕ → Bool
+freeRight v m u =
+    not (zeroAt m u)
+    || cond (opens (zeroAt m) u) (eqb (freeSize (getD v u (pos 0))) (freeFrom (zeroAt m) u (length v - u)))
+    (zeroAtZ v u)
+
+-- the words of a free run from lo up to hi
+abbrev pub runRight : List ℤ → ℕ → ℕ → Bool
+runRight v lo hi =
+    leb hi lo
+    || (eqb (freeSize (getD v lo (pos 0))) (hi - lo) && every (zeroAtZ v) (lo + 1) (hi - (lo + 1)))
+
+-- r is the first unit from `at` on, of w, that is not marked as b says
+pub record Skips (m : Words) (b : Bool) (at w r : ℕ) : Type 0 where
+  pub above : at ≤ r
+  pub below : r ≤ w
+  pub same : (u : ℕ) → at ≤ u → u < r → zeroAt m u ≡ b
+  pub stop : r < w → zeroAt m r ≡ not b
+
+-- the table holds a valid ledger, and exactly its free units read 0 in the map
+pub record Mapped (v : List ℤ) (m table : Words) : Type 0 where
+  pub next : ℕ
+  pub good : valid segmentRule (length v) next (recordsOf table) ≡ true
+  pub long : length v ≤ length m
+  pub marks : (u : ℕ) → zeroAt m u ≡ free segmentRule (recordsOf table) u
+
+-- ---- the index
+
+abbrev pub nodeRight : Words → ℕ → Bool
+nodeRight t i = eqb (getD t i 0) (max (getD t (2 * i) 0) (getD t (2 * i + 1) 0))
+
+unfoldable pub segmentRight : (ℕ → ℤ) → ℕ → ℕ → Words → ℕ → Bool
+segmentRight c W s t k =
+    eqb (largest c (k * segmentSize W s) (segmentSize W s)) (getD t (s + k) 0)
+    && eqb (firstBlock c W (k * segmentSize W s) (segmentSize W s)) (getD t (2 * s + k) 0)
+
+-- the lengths under which the pool is checked
+pub record Measured (v : List ℤ) (t : Words) (s g : ℕ) : Type 0 where
+  pub sizes : Sizes (length v) s g
+  pub long : length t ≡ 3 * s

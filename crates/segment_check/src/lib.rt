@@ -1,0 +1,190 @@
+// The check of the segment pool's arena and index against the table: the control word of each record, the words of
+// each free run, and each word of the index. The map has a byte for each unit, 0 where it is free.
+use control_words::free_at;
+use control_words::size_at;
+use ledger::Row;
+use record_table::is_empty;
+use record_table::read_row;
+use segment_blocks::block_from;
+use segment_blocks::first_from;
+use segment_blocks::leaf_from;
+use segment_index::larger;
+use segment_index::lesser;
+use words::zero_part_signed;
+ghost use mathlib.Core.Path.{_≡_};
+ghost use mathlib.Core.Bool.{true, false};
+ghost use Prim.Native.Nat.{ℕ, _+_, _-_, _*_, _≤_, _<_};
+ghost use lib.IntN.{ℤ};
+ghost use lib.ListN.{length};
+ghost use Rattle.words.specs.Lists.{all};
+ghost use Rattle.words.specs.Counted.{every};
+ghost use Rattle.ledger.specs.Records.{recordsOf, isEmpty};
+ghost use Rattle.ledger.specs.Units.{valid};
+ghost use Rattle.stored_forms.specs.Segments.{segmentRule, segmentIndex};
+ghost use Rattle.segment_index.specs.Index.{indexOf};
+ghost use Rattle.segment_blocks.specs.Upkeep.{Ground, Facing};
+ghost use Rattle.segment_places.specs.Stores.{arenaOf};
+ghost use Rattle.segment_check.specs.Right.{Says, heldRight, freeRight, runRight, Skips, Mapped, nodeRight};
+ghost use Rattle.segment_check.specs.Right.{segmentRight, Measured};
+
+// ---- the arena
+
+// A record's control word, which lies before its address.
+fn row_right(v: &[i32], r: Row) -> bool
+    requires { ⌜ (isEmpty r ≡ false → (1 ≤ r .address) × (r .address ≤ length (now v))) ⌝ }
+    ensures { λ b. ⌜ b ≡ heldRight (now (v .entry)) r ⌝ }
+{
+    if is_empty(r) {
+        return true;
+    }
+    let at = r.address as usize - 1;
+    (size_at(v, at) == r.words as usize + 1) & (free_at(v, at) == 0)
+}
+
+fn rows_right(v: &[i32], table: &[u32]) -> bool
+    requires { ⌜ ((next : ℕ) × (valid segmentRule (length (now v)) next (recordsOf (now table)) ≡ true)) ⌝ }
+    ensures { λ b. ⌜ b ≡ all (heldRight (now (v .entry))) (recordsOf (now (table .entry))) ⌝ }
+{
+    let mut ok = true;
+    let mut i = 0;
+    while i < table.len() / 3 {
+        ok = ok & row_right(v, read_row(table, i));
+        i += 1;
+    }
+    ok
+}
+
+// The first unit from `at` on, of w, that is not free where `free` is true, and not held where it is false.
+fn skip(used: &[u8], free: bool, at: usize, w: usize) -> usize
+    requires { ⌜ (at ≤ w) × (w ≤ length (now used)) ⌝ }
+    ensures { λ r. ⌜ Skips (now (used .entry)) free at w r ⌝ }
+{
+    let mut i = at;
+    while i < w {
+        if (used[i] == 0) != free {
+            return i;
+        }
+        i += 1;
+    }
+    i
+}
+
+// The words of a free run, none where it is empty.
+fn run_right(v: &[i32], lo: usize, hi: usize) -> bool
+    requires { ⌜ hi ≤ length (now v) ⌝ }
+    ensures { λ r. ⌜ r ≡ runRight (now (v .entry)) lo hi ⌝ }
+{
+    if hi <= lo {
+        return true;
+    }
+    (free_at(v, lo) == hi - lo) & zero_part_signed(v, lo + 1, hi)
+}
+
+// Every free run, from held block to held block.
+fn runs_right(v: &[i32], used: &[u8]) -> bool
+    requires { ⌜ length (now v) ≤ length (now used) ⌝ }
+    ensures { λ r. ⌜ r ≡ every (freeRight (now (v .entry)) (now (used .entry))) 0 (length (now (v .entry))) ⌝ }
+{
+    let w = v.len();
+    let mut at: usize = 0;
+    while at < w {
+        let lo = skip(used, false, at, w);
+        let hi = skip(used, true, lo, w);
+        if !run_right(v, lo, hi) {
+            return false;
+        }
+        at = hi;
+    }
+    true
+}
+
+// Whether the arena is the stored form of the table's ledger.
+pub fn arena_right(v: &[i32], used: &[u8], table: &[u32]) -> bool
+    requires { ⌜ Mapped (now v) (now used) (now table) ⌝ }
+    ensures { λ r. ⌜ Says r (now (v .entry) ≡ arenaOf (recordsOf (now (table .entry))) (now (v .entry))) ⌝ }
+{
+    rows_right(v, table) & runs_right(v, used)
+}
+
+// ---- the index
+
+fn node_right(t: &[u32], i: usize) -> bool
+    requires { ⌜ (0 < i) × (2 * i + 1 < length (now t)) ⌝ }
+    ensures { λ r. ⌜ r ≡ nodeRight (now (t .entry)) i ⌝ }
+{
+    t[i] == larger(t[2 * i], t[2 * i + 1])
+}
+
+fn nodes_right(t: &[u32], s: usize) -> bool
+    requires { ⌜ (0 < s) × (2 * s ≤ length (now t)) ⌝ }
+    ensures { λ r. ⌜ r ≡ every (nodeRight (now (t .entry))) 1 (s - 1) ⌝ }
+{
+    let mut ok = true;
+    let mut i: usize = 1;
+    while i < s {
+        ok = ok & node_right(t, i);
+        i += 1;
+    }
+    ok
+}
+
+fn segment_right(v: &[i32], t: &[u32], s: usize, g: usize, k: usize, from: usize) -> bool
+    requires { ⌜ ((c : ℕ → ℤ) × Facing (now v) c s g k from) ⌝ }
+    requires { ⌜ length (now t) ≡ 3 * s ⌝ }
+    ensures { λ r. ⌜
+        ((c : ℕ → ℤ) → Facing (now (v .entry)) c s g k from
+        → r ≡ segmentRight c (length (now (v .entry))) s (now (t .entry)) k)
+        ⌝ }
+{
+    let w = v.len();
+    let hi = lesser((k + 1) * g, w);
+    (leaf_from(v, from, hi) == t[s + k]) & (first_from(from, hi, w) == t[2 * s + k])
+}
+
+// Every segment, in one pass over the blocks.
+fn segments_right(v: &[i32], t: &[u32], s: usize, g: usize) -> bool
+    requires { ⌜ ((c : ℕ → ℤ) × Ground (now v) c s g) ⌝ }
+    requires { ⌜ length (now t) ≡ 3 * s ⌝ }
+    ensures { λ r. ⌜
+        ((c : ℕ → ℤ) → Ground (now (v .entry)) c s g
+        → r ≡ every (segmentRight c (length (now (v .entry))) s (now (t .entry))) 0 s)
+        ⌝ }
+{
+    let w = v.len();
+    let mut ok = true;
+    let mut from: usize = 0;
+    let mut k: usize = 0;
+    while k < s {
+        ok = ok & segment_right(v, t, s, g, k, from);
+        from = block_from(v, from, lesser((k + 1) * g, w));
+        k += 1;
+    }
+    ok
+}
+
+// Whether the index is that of the arena's blocks.
+fn index_right(v: &[i32], t: &[u32], s: usize, g: usize) -> bool
+    requires { ⌜ ((c : ℕ → ℤ) × Ground (now v) c s g) ⌝ }
+    requires { ⌜ length (now t) ≡ 3 * s ⌝ }
+    ensures { λ r. ⌜
+        ((c : ℕ → ℤ) → Ground (now (v .entry)) c s g
+        → Says r (now (t .entry) ≡ indexOf c (length (now (v .entry))) s))
+        ⌝ }
+{
+    (t[0] == 0) & nodes_right(t, s) & segments_right(v, t, s, g)
+}
+
+// Whether arena and index are the stored form of the table's ledger.
+pub fn pool_right(v: &[i32], t: &[u32], used: &[u8], table: &[u32], s: usize, g: usize) -> bool
+    requires { ⌜ Mapped (now v) (now used) (now table) ⌝ }
+    requires { ⌜ Measured (now v) (now t) s g ⌝ }
+    ensures { λ r. ⌜
+        Says r ((now (v .entry) ≡ arenaOf (recordsOf (now (table .entry))) (now (v .entry)))
+        × (now (t .entry) ≡ segmentIndex s (length (now (v .entry))) (recordsOf (now (table .entry)))))
+        ⌝ }
+{
+    if !arena_right(v, used, table) {
+        return false;
+    }
+    index_right(v, t, s, g)
+}

@@ -1,0 +1,65 @@
+-- `segment_cores::search` meets its contract. Assumes nothing.
+use native.Mathlib.Omega.{arith}
+use lib.ListN.{length}
+use Rattle.segment_places.proofs.ChangeLaws.{controls}
+use Rattle.segment_cores.proofs.SearchLaws.{few-segments, index-long, root-inside, heap, search-none, leaf-low}
+use Rattle.segment_cores.proofs.SearchLaws.{leaf-inside, search-scan, search-found}
+use Rattle.segment_cores.proofs.search.Statement.{statement}
+use Rattle.segment_cores.proofs.search.Tie as tie
+
+shared-slice-read-if1 : tie.Need-shared-slice-read-if1
+shared-slice-read-if1 c = let (L, k) = c .before .before .pre in root-inside L _ _ _ _ _ k
+
+returns : tie.Need-returns
+returns c = λ L k. search-none L _ _ _ _ _ k (c .if1 .taken)
+
+descend-requires : tie.Need-descend-requires
+descend-requires c κs =
+    let (L, k) = c .before .before .before .pre in
+    (k .few, heap L _ _ _ _ _ k, c .if1 .left)
+
+sub-k : tie.Need-sub-k
+sub-k c = let (L, k) = c .before .before .before .before .pre in leaf-low L _ _ _ _ _ k _ (c .descend .ensures)
+
+mul-index-word : tie.Need-mul-index-word
+mul-index-word c = let (L, k) = c .before .before .before .before .pre in omega (arith, few-segments L _ _ _ _ _ k)
+
+add-index-word : tie.Need-add-index-word
+add-index-word c =
+    let (L, k) = c .before .before .before .before .pre in
+    omega (arith, few-segments L _ _ _ _ _ k, leaf-inside L _ _ _ _ _ k _ (c .descend .ensures))
+
+index-word-requires : tie.Need-index-word-requires
+index-word-requires c κs =
+    let (L, k) = c .before .before .before .before .pre in
+    omega (arith, index-long L _ _ _ _ _ k, leaf-inside L _ _ _ _ _ k _ (c .descend .ensures))
+
+first-fit-requires : tie.Need-first-fit-requires
+first-fit-requires c κs =
+    let s = c .before .before .before .before .before in
+    let (L, k) = s .pre in
+    let scan = search-scan L _ _ _ _ _ k _ (c .before .descend .ensures) in
+    (controls L (length (s .args .v .now)), rw (c .index-word .ensures) scan)
+
+returns-2 : tie.Need-returns-2
+returns-2 c =
+    let v = c .before .before .before .before .before .before .args .v .now in
+    let leaf = c .before .before .descend .ensures in
+    let from = c .before .index-word .ensures in
+    λ L k.
+    let fit = c .first-fit .ensures (controls L (length v)) (rw from (search-scan L _ _ _ _ _ k _ leaf)) in
+    search-found L _ _ _ _ _ k _ leaf _ (rw from at fit)
+
+pub search-spec : {M : Type 1} → statement M
+search-spec =
+    tie.close
+    (tie.spec
+    shared-slice-read-if1
+    returns
+    descend-requires
+    sub-k
+    mul-index-word
+    add-index-word
+    index-word-requires
+    first-fit-requires
+    returns-2)

@@ -1,0 +1,2 @@
+-- What the search and the release look at.
+pub mod Cores

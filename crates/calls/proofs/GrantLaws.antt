@@ -34,7 +34,7 @@ abbrev pub over : Pool → Words → Pool
 over p a = record { head = p .head; shape = p .shape; arena = a; table = p .table; index = p .index }
 
 -- the next ticket after n is 0 or above n
-next-above : (n : ℕ) → (eqb (nextAfter n) 0 || ltb n (nextAfter n)) ≡ true
+pub next-above : (n : ℕ) → (eqb (nextAfter n) 0 || ltb n (nextAfter n)) ≡ true
 next-above n = go (eqb n 4294967295)
   where
     go : (b : Bool) → (eqb (cond b 0 (suc n)) 0 || ltb n (cond b 0 (suc n))) ≡ true

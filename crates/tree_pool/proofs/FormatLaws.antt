@@ -1,0 +1,110 @@
+-- A formatted tree pool: one free block of all cells, no record. Assumes nothing.
+use Prim.Native.Nat.{ℕ, zero, suc, _+_, _-_, _*_, _/_, _%_, _≤_, _<_}
+use native.Mathlib.Nat.{sub-zero}
+use native.Mathlib.Omega.{arith}
+use mathlib.Core.Path.{_≡_, refl, sym, ap, _∙_, subst}
+use mathlib.Core.Bool.{true, false, false≢true}
+use mathlib.Core.List.{[], _∷_}
+use lib.ListN.{length, replicate, length-replicate, getD-replicate}
+use Rattle.words.specs.Lists.{Words}
+use Rattle.ledger.specs.Records.{emptyRow, tableOf, recordWords, slots}
+use Rattle.ledger.specs.Units.{free, owned, covers, owns}
+use Rattle.ledger.specs.Runs.{run, runsFrom, freeRuns}
+use Rattle.ledger.proofs.UnitLaws.{valid-blank}
+use Rattle.ledger.proofs.RunLaws.{runs-meet}
+use Rattle.stored_forms.specs.Tree.{formOne, formRule, freeTree, treeOf, node, leaf, link}
+use Rattle.stored_forms.proofs.TreeLaws.{freeTree-one}
+use Rattle.stored_forms.proofs.NodeLaws.{Holds, Zeros}
+use Rattle.free_tree.specs.Held.{NodePut}
+use Rattle.calls.specs.declared.Answer.{Answer}
+use Rattle.calls.specs.Pool.{Pool, firstTicket, lengths}
+use Rattle.calls.specs.Step.{refusal, done, format, formatted, step}
+use Rattle.calls.specs.Engines.{treeEngineOf, treeEngine}
+use Rattle.tree_check.specs.Gate.{treePool}
+use Rattle.tree_check.proofs.GateLaws.{InRange, in-range}
+use Rattle.tree_pool.specs.Promises.{Left, handed, left}
+use Rattle.tree_pool.proofs.StoredLaws.{Shows, stored-pool}
+
+blank-free : (k u : ℕ) → free (formRule formOne) (replicate k emptyRow) u ≡ true
+unfolding free covers
+blank-free zero u = refl
+blank-free (suc k) u = blank-free k u
+
+blank-owned : (k i : ℕ) → owned (formRule formOne) (replicate k emptyRow) i ≡ false
+unfolding owned owns
+blank-owned zero i = refl
+blank-owned (suc k) i = blank-owned k i
+
+-- the table of no records is all zeros
+blank-table : (k : ℕ) → replicate (recordWords * k) 0 ≡ tableOf (replicate k emptyRow)
+blank-table zero = refl
+blank-table (suc k) =
+    let e : recordWords * suc k ≡ suc (suc (suc (recordWords * k))) = omega arith in
+    rw e (ap (λ (l : Words). 0 ∷ 0 ∷ 0 ∷ l) (blank-table k))
+
+-- one block of all cells
+blank-tree : (W k : ℕ) → 2 ≤ W → freeTree formOne W (replicate k emptyRow) ≡ node leaf (run 0 (W / 2)) leaf
+unfolding freeRuns formOne
+blank-tree W k h =
+    let L = replicate k emptyRow in
+    let N = W / 2 in
+    let some : 0 < N = omega arith in
+    let all-free = runs-meet (free (formRule formOne) L) N 0 N some (omega arith) (λ u a b. blank-free k u)
+    (λ l. absurd (omega arith)) in
+    let end : N - N ≡ 0 = omega arith in
+    let one : run 0 (N - 0) ∷ runsFrom (free (formRule formOne) L) N (N - N) ≡ run 0 N ∷ [] = rw (sub-zero N, end) in
+    freeTree-one W L ∙ ap treeOf (ap (runsFrom (free (formRule formOne) L) 0) (sym (sub-zero N)) ∙ all-free ∙ one)
+
+pub blank-shows : (a b : Words) (k : ℕ) → 2 ≤ length a → length a % 2 ≡ 0
+    → NodePut formOne (replicate (length a) 0) b 0 (length a / 2) 0 0 → Shows a b 1 (replicate k emptyRow)
+unfolding formOne
+blank-shows a b k h even put =
+    let W = length a in
+    let tree = blank-tree W k h in
+    record {
+      long = put .long ∙ length-replicate W 0;
+      kept = λ i l o. absurd (false≢true (sym (blank-owned k i) ∙ o));
+      holds = subst (Holds formOne b) (sym tree) (put .node, zeros, tt, tt);
+      root = ap link tree;
+    }
+  where
+    zeros : Zeros b (2 * 1) (2 * (0 + length a / 2))
+    zeros i l m =
+        put .frame (i / 2) (λ z. omega arith) i refl ∙ getD-replicate (length a) i 0 0 (omega arith)
+
+-- ---- the call
+
+abbrev pub blankPool : Words → Words → Pool
+blankPool a t = treePool 0 0 a t
+
+pub format-refused : (a t : Words) (x : Answer) → false ≡ lengths treeEngine (blankPool a t) → x ≡ refusal 8
+    → handed (record { head = record { root = 0; next = 0 }; answer = x }) a t []
+    ≡ left (step treeEngine format (blankPool a t))
+unfolding step formatted treeEngine treeEngineOf
+format-refused a t x e h = rw (← e, h)
+
+module _ (a t : Words) (right : true ≡ lengths treeEngine (blankPool a t)) where
+  pub fit : InRange a t
+  fit = in-range 0 0 a t (sym right)
+
+  zero-table : replicate (length t) 0 ≡ tableOf (replicate (slots t) emptyRow)
+  zero-table =
+      let threes : length t % 3 ≡ 0 = fit .threes in
+      let e : length t ≡ recordWords * slots t = omega arith in
+      ap (λ (n : ℕ). replicate n 0) e ∙ blank-table (slots t)
+
+  pub format-done : (b z : Words) (x : Answer) → NodePut formOne (replicate (length a) 0) b 0 (length a / 2) 0 0
+      → z ≡ replicate (length t) 0 → x ≡ done
+      → handed (record { head = record { root = 1; next = 1 }; answer = x }) b z []
+      ≡ left (step treeEngine format (blankPool a t))
+  unfolding step formatted
+  format-done b z x put e h =
+      let L = replicate (slots t) emptyRow in
+      let pool = stored-pool (blankPool a t) L firstTicket firstTicket 1 b z refl (fit .even)
+      (valid-blank (formRule formOne) (length a) firstTicket (slots t))
+      (blank-shows a b (slots t) (fit .some) (fit .even) put)
+      (e ∙ zero-table) in
+      rw (← right, h) (ap (λ (p : Pool). leftOf p) pool)
+    where
+      leftOf : Pool → Left
+      leftOf p = record { answer = done; head = p .head; arena = p .arena; table = p .table; buffers = [] }

@@ -1,0 +1,9 @@
+-- The laws behind the tree pool's promises.
+pub mod StoredLaws
+pub mod SoundLaws
+pub mod FormatLaws
+pub mod LookLaws
+pub mod ActedLaws
+pub mod GrantLaws
+pub mod ReleaseLaws
+pub mod RequestLaws

@@ -1,0 +1,106 @@
+-- `tree_pool::format` meets its contract: a wiped arena with one node, and a wiped table, are the stored form of the
+-- ledger with no record. Assumes nothing.
+use native.Mathlib.Omega.{arith}
+use mathlib.Core.Path.{_≡_, _∙_, sym, ap, subst}
+use Prim.Native.Nat.{_/_}
+use borrow.Author.Needs.{needs}
+use borrow.Author.Tests.{not-true, not-false}
+use denote.Ref.{now}
+use mathlib.Core.Bool.{true}
+use lib.ListN.{length, length-replicate}
+use Rattle.words.specs.Lists.{Words}
+use Rattle.stored_forms.specs.Tree.{formOne}
+use Rattle.free_tree.specs.Held.{NodePut}
+use Rattle.calls.specs.Pool.{lengths}
+use Rattle.calls.specs.Engines.{treeEngine}
+use Rattle.tree_check.specs.Gate.{treePool}
+use Rattle.tree_check.proofs.GateLaws.{InRange}
+use Rattle.tree_pool.proofs.FormatLaws.{format-refused, format-done, fit}
+use Rattle.tree_pool.proofs.format.Statement.{statement}
+use Rattle.tree_pool.proofs.format.Tie as tie
+
+-- past the test the lengths are right
+abbrev entry : tie.Else1 → tie.Start
+entry c = c .before .before .before .before .before .before
+
+right : (c : tie.Else1) → true ≡ lengths treeEngine
+    (treePool 0 0 (now (entry c .args .arena)) (now (entry c .args .table)))
+right c = sym (not-false _ (c .if1 .left)) ∙ c .before .right-lengths .ensures 0 0
+
+fits : (c : tie.Else1) → InRange (now (entry c .args .arena)) (now (entry c .args .table))
+fits c = fit (now (entry c .args .arena)) (now (entry c .args .table)) (right c)
+
+right-lengths-requires : tie.Need-right-lengths-requires
+right-lengths-requires c κs = search needs
+
+refused-requires : tie.Need-refused-requires
+refused-requires c κs = search needs
+
+same-length : tie.Need-same-length
+same-length c = search needs
+
+same-length-2 : tie.Need-same-length-2
+same-length-2 c = search needs
+
+returns : tie.Need-returns
+returns c =
+    let r = c .before .before in
+    let s = r .before .before .before .before .before in
+    format-refused (now (s .args .arena)) (now (s .args .table)) (c .refused .result)
+    (sym (not-true _ (c .before .if1 .taken)) ∙ r .right-lengths .ensures 0 0) (c .refused .ensures)
+
+cast-cells : tie.Need-cast-cells
+cast-cells c = omega (arith, fits c .most)
+
+wipe-requires : tie.Need-wipe-requires
+wipe-requires c κs = search needs
+
+wipe-requires-2 : tie.Need-wipe-requires-2
+wipe-requires-2 c κs = search needs
+
+put-node-requires : tie.Need-put-node-requires
+unfolding formOne
+put-node-requires c κs =
+    let w = c .before .before .before .before .before .before .before in
+    let i = w .before .before in
+    (omega (arith, simp length-replicate at (ap length (w .wipe .ensures)), fits i .some), (search needs, search needs))
+
+succeeded-requires : tie.Need-succeeded-requires
+succeeded-requires c κs = search needs
+
+same-length-3 : tie.Need-same-length-3
+same-length-3 c = search needs
+
+same-length-4 : tie.Need-same-length-4
+same-length-4 c = search needs
+
+returns-2 : tie.Need-returns-2
+returns-2 c =
+    let n = c .before .before .before in
+    let z = n .before .before .before .before in
+    let w = z .before .before .before .before in
+    let i = w .before .before in
+    let s = i .before .before .before .before .before .before in
+    format-done (now (s .args .arena)) (now (s .args .table)) (right i)
+    (n .put-node .last .0) (z .wipe2 .last .0) (c .succeeded .result)
+    (subst (λ (m : Words). NodePut formOne m (n .put-node .last .0) 0 (length (now (s .args .arena)) / 2) 0 0)
+    (w .wipe .ensures) (n .put-node .ensures))
+    (z .wipe2 .ensures) (c .succeeded .ensures)
+
+pub format-spec : {M : Type 1} → statement M
+format-spec =
+    tie.close
+    (tie.spec
+    right-lengths-requires
+    refused-requires
+    same-length
+    same-length-2
+    returns
+    cast-cells
+    wipe-requires
+    wipe-requires-2
+    put-node-requires
+    succeeded-requires
+    same-length-3
+    same-length-4
+    returns-2)

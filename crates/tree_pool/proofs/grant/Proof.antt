@@ -1,0 +1,193 @@
+-- `tree_pool::grant` meets its contract: the rows 2, 3, 4, 5 in turn, then the grant. Assumes nothing.
+use native.Mathlib.Omega.{arith}
+use mathlib.Core.Path.{_∙_, sym}
+use borrow.Author.Needs.{needs}
+use borrow.Author.Tests.{eq-eqb, ne-eqb}
+use denote.Ref.{now}
+use lib.Dec.{eqb, ltb}
+use lib.ListN.{length}
+use Rattle.words.proofs.Tests.{or-r, not-lt}
+use Rattle.ledger.specs.Records.{recordsOf}
+use Rattle.ledger.specs.Units.{span}
+use Rattle.ledger.specs.Runs.{freeRuns}
+use Rattle.stored_forms.specs.Tree.{formOne, formRule, treeOf}
+use Rattle.calls.specs.Step.{ask}
+use Rattle.calls.specs.Engines.{treeEngineOf, treeEngine}
+use Rattle.record_table.proofs.SlotLaws.{empty-found, empty-missing}
+use Rattle.call_parts.proofs.AskLaws.{ask-two, ask-three, ask-four, ask-five}
+use Rattle.tree_pool.specs.Promises.{poolOf}
+use Rattle.tree_pool.proofs.ActedLaws.{refused-left}
+use Rattle.tree_pool.proofs.SoundLaws.{sound-lies}
+use Rattle.tree_pool.proofs.GrantLaws.{none-fits, some-units, fitted}
+use Rattle.tree_pool.proofs.grant.Statement.{statement}
+use Rattle.tree_pool.proofs.grant.Tie as tie
+
+refused-with-requires : tie.Need-refused-with-requires
+refused-with-requires c κs = search needs
+
+returns : tie.Need-returns
+unfolding treeEngine treeEngineOf formOne
+returns c =
+    let s = c .before .before .before .before in
+    let p = poolOf (s .args .head) (now (s .args .arena)) (now (s .args .table)) in
+    refused-left (ask (s .args .words)) (s .args .head) (now (s .args .arena)) (now (s .args .table))
+    (c .refused-with .result) 2
+    (c .refused-with .ensures) (ask-two treeEngine p (s .args .words) (c .before .if1 .taken))
+
+empty-slot-requires : tie.Need-empty-slot-requires
+empty-slot-requires c κs = search needs
+
+enum-known-slot : tie.Need-enum-known-slot
+enum-known-slot c = search needs
+
+enum-told : tie.Need-enum-told
+enum-told c = search needs
+
+refused-with-requires-2 : tie.Need-refused-with-requires-2
+refused-with-requires-2 c κs = search needs
+
+same-length : tie.Need-same-length
+same-length c = search needs
+
+returns-2 : tie.Need-returns-2
+unfolding treeEngine treeEngineOf formOne
+returns-2 c =
+    let m = c .before .before .before in
+    let i = m .before .before in
+    let s = i .before .before .before in
+    let p = poolOf (s .args .head) (now (s .args .arena)) (now (s .args .table)) in
+    refused-left (ask (s .args .words)) (s .args .head) (now (s .args .arena)) (now (s .args .table))
+    (c .refused-with2 .result) 3
+    (c .refused-with2 .ensures) (ask-three treeEngine p (s .args .words) (i .if1 .left)
+    (empty-missing (now (s .args .table)) (sym (m .empty-slot .ensures) ∙ c .before .enum-told .given .1)))
+
+refused-with-requires-3 : tie.Need-refused-with-requires-3
+refused-with-requires-3 c κs = search needs
+
+same-length-2 : tie.Need-same-length-2
+same-length-2 c = search needs
+
+returns-3 : tie.Need-returns-3
+unfolding treeEngine treeEngineOf formOne
+returns-3 c =
+    let m = c .before .before .before .before .before in
+    let i = m .before .before in
+    let s = i .before .before .before in
+    let p = poolOf (s .args .head) (now (s .args .arena)) (now (s .args .table)) in
+    let found = sym (m .empty-slot .ensures) ∙ c .before .before .before .slot .given .1 in
+    refused-left (ask (s .args .words)) (s .args .head) (now (s .args .arena)) (now (s .args .table))
+    (c .refused-with3 .result) 4
+    (c .refused-with3 .ensures) (ask-four treeEngine p (s .args .words) (i .if1 .left)
+    (empty-found (now (s .args .table)) (c .before .before .before .slot .given .0 .0) found .1)
+    (eq-eqb _ _ (c .before .if2 .taken)))
+
+span-of-requires : tie.Need-span-of-requires
+span-of-requires c κs = search needs
+
+cast-leftmost-fit : tie.Need-cast-leftmost-fit
+cast-leftmost-fit c = search needs
+
+cast-leftmost-fit-2 : tie.Need-cast-leftmost-fit-2
+unfolding span
+cast-leftmost-fit-2 c =
+    let k = c .before .before in
+    let i = k .before .before .before .before .before .before .before in
+    let s = i .before .before .before in
+    let few = not-lt 16384 (s .args .words)
+    (or-r (eqb (s .args .words) 0) (ltb 16384 (s .args .words)) (i .if1 .left)) in
+    omega (arith, k .span-of .ensures)
+
+leftmost-fit-requires : tie.Need-leftmost-fit-requires
+leftmost-fit-requires c κs =
+    let s = c .before .before .before .before .before .before .before .before .before .before .before .before in
+    let h = s .args .head in
+    let a = now (s .args .arena) in
+    let t = now (s .args .table) in
+    (treeOf (freeRuns (formRule formOne) (length a) (recordsOf t)), sound-lies (h .root) (h .next) a t (s .pre) .tree)
+
+refused-with-requires-4 : tie.Need-refused-with-requires-4
+refused-with-requires-4 c κs = search needs
+
+same-length-3 : tie.Need-same-length-3
+same-length-3 c = search needs
+
+same-length-4 : tie.Need-same-length-4
+same-length-4 c = search needs
+
+returns-4 : tie.Need-returns-4
+unfolding treeEngine treeEngineOf formOne
+returns-4 c =
+    let l = c .before .before in
+    let k = l .before .before .before in
+    let m = k .before .before .before .before .before in
+    let i = m .before .before in
+    let s = i .before .before .before in
+    let h = s .args .head in
+    let p = poolOf h (now (s .args .arena)) (now (s .args .table)) in
+    let v = k .before .before .before in
+    let found = sym (m .empty-slot .ensures) ∙ v .slot .given .1 in
+    refused-left (ask (s .args .words)) h (now (s .args .arena)) (now (s .args .table)) (c .refused-with4 .result) 5
+    (c .refused-with4 .ensures) (ask-five treeEngine p (s .args .words) (i .if1 .left)
+    (empty-found (now (s .args .table)) (v .slot .given .0 .0) found .1) (ne-eqb _ _ (k .before .if2 .left))
+    (none-fits (h .root) (h .next) (now (s .args .arena)) (now (s .args .table)) (s .pre) (s .args .words)
+    (l .leftmost-fit .result)
+    (some-units (s .args .words) (i .if1 .left))
+    (fitted (now (s .args .arena)) (h .root) (s .args .words) (k .span-of .result) (l .leftmost-fit .result)
+    (k .span-of .ensures) (l .leftmost-fit .ensures))
+    (c .before .if3 .taken)))
+
+place-requires : tie.Need-place-requires
+place-requires c κs =
+    let l = c .before .before .before in
+    let k = l .before .before .before in
+    let v = k .before .before .before in
+    let m = v .before .before in
+    let i = m .before .before in
+    let s = i .before .before .before in
+    record {
+      ok = s .pre;
+      size = i .if1 .left;
+      empty = sym (m .empty-slot .ensures) ∙ v .slot .given .1;
+      ticket = k .before .if2 .left;
+      fit = fitted (now (s .args .arena)) (s .args .head .root) (s .args .words) (k .span-of .result)
+          (l .leftmost-fit .result)
+          (k .span-of .ensures) (l .leftmost-fit .ensures);
+      some = c .before .before .if3 .left;
+    }
+
+same-length-5 : tie.Need-same-length-5
+same-length-5 c = search needs
+
+same-length-6 : tie.Need-same-length-6
+same-length-6 c = search needs
+
+returns-5 : tie.Need-returns-5
+returns-5 c = c .before .before .before .before .place .ensures
+
+pub grant-spec : {M : Type 1} → statement M
+grant-spec =
+    tie.close
+    (tie.spec
+    refused-with-requires
+    returns
+    empty-slot-requires
+    enum-known-slot
+    enum-told
+    refused-with-requires-2
+    same-length
+    returns-2
+    refused-with-requires-3
+    same-length-2
+    returns-3
+    span-of-requires
+    cast-leftmost-fit
+    cast-leftmost-fit-2
+    leftmost-fit-requires
+    refused-with-requires-4
+    same-length-3
+    same-length-4
+    returns-4
+    place-requires
+    same-length-5
+    same-length-6
+    returns-5)

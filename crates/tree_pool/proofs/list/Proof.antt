@@ -1,0 +1,135 @@
+-- `tree_pool::list` meets its contract: row 8 of the list, the gate, then all requests. Assumes nothing.
+use mathlib.Core.Path.{_∙_, sym, refl}
+use borrow.Author.Needs.{needs}
+use borrow.Author.Tests.{not-true, not-false}
+use denote.Ref.{now}
+use Rattle.calls.specs.Step.{list}
+use Rattle.calls.specs.Engines.{treeEngine}
+use Rattle.call_parts.proofs.GateLaws.{gate-sound}
+use Rattle.tree_pool.specs.Promises.{poolOf}
+use Rattle.tree_pool.proofs.ActedLaws.{gate-left}
+use Rattle.tree_pool.proofs.RequestLaws.{suited-lengths, list-unsuited, list-left}
+use Rattle.tree_pool.proofs.list.Statement.{statement}
+use Rattle.tree_pool.proofs.list.Tie as tie
+
+list-suits-requires : tie.Need-list-suits-requires
+list-suits-requires c κs = search needs
+
+refused-with-requires : tie.Need-refused-with-requires
+refused-with-requires c κs = search needs
+
+same-length : tie.Need-same-length
+same-length c = search needs
+
+returns : tie.Need-returns
+returns c =
+    let u = c .before .before in
+    let s = u .before .before .before .before .before .before in
+    let h = s .args .head in
+    let a = now (s .args .arena) in
+    let t = now (s .args .table) in
+    let rs = now (s .args .asked) in
+    let bs = now (s .args .answers) in
+    list-unsuited h a t rs bs (sym (u .list-suits .ensures) ∙ not-true (u .list-suits .result) (c .before .if1 .taken))
+    (c .refused-with .result) (c .refused-with .ensures)
+
+gate-number-requires : tie.Need-gate-number-requires
+gate-number-requires c κs = search needs
+
+refused-with-requires-2 : tie.Need-refused-with-requires-2
+refused-with-requires-2 c κs = search needs
+
+same-length-2 : tie.Need-same-length-2
+same-length-2 c = search needs
+
+same-length-3 : tie.Need-same-length-3
+same-length-3 c = search needs
+
+same-length-4 : tie.Need-same-length-4
+same-length-4 c = search needs
+
+returns-2 : tie.Need-returns-2
+returns-2 c =
+    let g = c .before .before in
+    let f = g .before .before .before in
+    let u = f .before in
+    let s = u .before .before .before .before .before .before in
+    let h = s .args .head in
+    let a = now (s .args .arena) in
+    let t = now (s .args .table) in
+    let rs = now (s .args .asked) in
+    let bs = now (s .args .answers) in
+    let suits = sym (u .list-suits .ensures) ∙ not-false (u .list-suits .result) (f .if1 .left) in
+    gate-left h a t (c .refused-with2 .result) (g .gate-number .result) (g .gate-number .ensures)
+    (c .before .if2 .taken)
+    (list rs bs) refl suits (c .refused-with2 .ensures)
+
+serve-all-requires : tie.Need-serve-all-requires
+serve-all-requires c κs =
+    let e = c .before .before .before in
+    let g = e .before in
+    let f = g .before .before .before in
+    let u = f .before in
+    let s = u .before .before .before .before .before .before in
+    let h = s .args .head in
+    let a = now (s .args .arena) in
+    let t = now (s .args .table) in
+    let rs = now (s .args .asked) in
+    let bs = now (s .args .answers) in
+    let suits = sym (u .list-suits .ensures) ∙ not-false (u .list-suits .result) (f .if1 .left) in (
+      gate-sound treeEngine (poolOf h a t) (g .gate-number .result) (g .gate-number .ensures)
+          (e .if2 .left),
+      suited-lengths rs bs suits,
+    )
+
+succeeded-requires : tie.Need-succeeded-requires
+succeeded-requires c κs = search needs
+
+same-length-5 : tie.Need-same-length-5
+same-length-5 c = search needs
+
+same-length-6 : tie.Need-same-length-6
+same-length-6 c = search needs
+
+same-length-7 : tie.Need-same-length-7
+same-length-7 c = search needs
+
+returns-3 : tie.Need-returns-3
+returns-3 c =
+    let d = c .before .before .before .before .before .before .before in
+    let e = d .before .before .before .before in
+    let g = e .before in
+    let f = g .before .before .before in
+    let u = f .before in
+    let s = u .before .before .before .before .before .before in
+    let h = s .args .head in
+    let a = now (s .args .arena) in
+    let t = now (s .args .table) in
+    let rs = now (s .args .asked) in
+    let bs = now (s .args .answers) in
+    let suits = sym (u .list-suits .ensures) ∙ not-false (u .list-suits .result) (f .if1 .left) in
+    let ok = gate-sound treeEngine (poolOf h a t) (g .gate-number .result) (g .gate-number .ensures) (e .if2 .left) in
+    list-left h a t rs bs suits ok (record { head = d .serve-all .result; answer = c .succeeded .result })
+    (d .serve-all .last .1 .0) (d .serve-all .last .1 .1 .0) (d .serve-all .last .1 .1 .1 .1 .0)
+    (c .succeeded .ensures) (d .serve-all .ensures)
+
+pub list-spec : {M : Type 1} → statement M
+list-spec =
+    tie.close
+    (tie.spec
+    list-suits-requires
+    refused-with-requires
+    same-length
+    returns
+    gate-number-requires
+    refused-with-requires-2
+    same-length-2
+    same-length-3
+    same-length-4
+    returns-2
+    serve-all-requires
+    succeeded-requires
+    same-length-5
+    same-length-6
+    same-length-7
+    returns-3)

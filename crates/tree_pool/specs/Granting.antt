@@ -1,0 +1,27 @@
+-- What an allocation has found out before it takes the cells. Assumes nothing.
+use Prim.Native.Nat.{ℕ}
+use mathlib.Core.Path.{_≡_}
+use mathlib.Core.Logic.{_≢_}
+use mathlib.Core.Bool.{true, false, _||_}
+use lib.Dec.{eqb, ltb}
+use Rattle.words.specs.Lists.{Words}
+use Rattle.ledger.specs.Records.{recordsOf}
+use Rattle.ledger.specs.Units.{span}
+use Rattle.stored_forms.specs.Tree.{formOne, formRule}
+use Rattle.free_tree.specs.Held.{links, LeftmostFound}
+use Rattle.calls.specs.Pool.{sound}
+use Rattle.calls.specs.Engines.{treeEngine}
+use Rattle.record_table.specs.declared.Found.the-variants.{At}
+use Rattle.record_table.specs.Slots.{emptySlot}
+use Rattle.tree_pool.specs.declared.Head.{Head}
+use Rattle.tree_pool.specs.Promises.{poolOf}
+
+-- The pool is sound, n is a good size, slot `slot` is the lowest empty one, a ticket is left, and the leftmost fit
+-- for n words is the block at the link `block`.
+pub record Found (h : Head) (a t : Words) (n slot block : ℕ) : Type 0 where
+  pub ok : sound treeEngine (poolOf h a t) ≡ true
+  pub size : (eqb n 0 || ltb 16384 n) ≡ false
+  pub empty : emptySlot (recordsOf t) ≡ At slot
+  pub ticket : h .next ≢ 0
+  pub fit : LeftmostFound formOne links a (h .root) (span (formRule formOne) n) block
+  pub some : block ≢ 0

@@ -1,0 +1,62 @@
+-- One act on a sound pool, as the code hands it back: the answer, and the pool that it left. Assumes nothing.
+use mathlib.Core.Path.{_≡_, refl, sym, ap, _∙_}
+use mathlib.Core.Logic.{_≢_}
+use mathlib.Core.Bool.{true, false}
+use mathlib.Core.List.{List, []}
+use lib.IntN.{ℤ}
+use Prim.Native.Nat.{ℕ}
+use Rattle.words.specs.Lists.{Words}
+use Rattle.ledger.specs.declared.Row.{Row}
+use Rattle.calls.specs.Pool.{Pool, sound}
+use Rattle.calls.specs.Step.{Call, allocate, release, Act, ask, give, isFormat}
+use Rattle.calls.specs.Step.{answerTo, poolAfter, suits, buffersOf, perform, step}
+use Rattle.calls.proofs.ActLaws.{step-sound}
+use Rattle.calls.specs.Engines.{segmentEngine}
+use Rattle.call_parts.proofs.AskLaws.{RefusedBy}
+use Rattle.call_parts.proofs.GateLaws.{gate, gate-refuses}
+use Rattle.segment_pool.specs.declared.Head.{Head}
+use Rattle.segment_pool.specs.declared.Outcome.{Outcome}
+use Rattle.segment_pool.specs.Promises.{segmentPool, Left, handed, left, acted, refusedWith}
+
+pub acted-left : (act : Act) (p : Pool) (S : ℕ) (o : Outcome) (b : List ℤ) (u x : Words)
+    → o .answer ≡ answerTo segmentEngine p act → segmentPool S (o .head .next) b u x ≡ poolAfter segmentEngine p act
+    → handed o b u x [] ≡ acted act p
+acted-left act p S o b u x w e =
+    λ i. record {
+      answer = w i;
+      head = e i .head;
+      arena = e i .arena;
+      table = e i .table;
+      index = e i .index;
+      buffers = [];
+    }
+
+module _ (h : Head) (S : ℕ) (v : List ℤ) (t x : Words) where
+  abbrev p : Pool
+  p = segmentPool S (h .next) v t x
+
+  pub refused-left : (act : Act) (o : Outcome) (n : ℕ) → o ≡ refusedWith h n → RefusedBy segmentEngine p act n
+      → handed o v t x [] ≡ acted act p
+  refused-left act o n e r =
+      ap (λ (y : Outcome). handed y v t x []) e
+      ∙ acted-left act p S (refusedWith h n) v t x (sym (r .0)) (sym (r .1))
+
+  -- ---- whole calls
+
+  -- refused by the gate: nothing changes
+  pub gate-left : (o : Outcome) (n : ℕ) → n ≡ gate segmentEngine p → n ≢ 0
+      → (c : Call Words) → isFormat c ≡ false → suits c ≡ true → o ≡ refusedWith h n
+      → handed o v t x (buffersOf c) ≡ left (step segmentEngine c p)
+  gate-left o n is z c f s e =
+      ap (λ (y : Outcome). handed y v t x (buffersOf c)) e
+      ∙ ap left (sym (gate-refuses segmentEngine p n is z c f s))
+
+-- a call of one act
+pub one-left : (p : Pool) → sound segmentEngine p ≡ true → (l : Left)
+    → ((n : ℕ) → l ≡ acted (ask n) p → l ≡ left (step segmentEngine (allocate n) p))
+    × ((r : Row) → l ≡ acted (give r) p → l ≡ left (step segmentEngine (release r) p))
+unfolding perform
+one-left p ok l = (
+  (λ n e. e ∙ ap left (sym (step-sound segmentEngine (allocate n) p refl refl ok))),
+  (λ r e. e ∙ ap left (sym (step-sound segmentEngine (release r) p refl refl ok))),
+)

@@ -1,0 +1,110 @@
+-- `segment_pool::format` meets its contract: one free block, its index and a wiped table hold nothing. Assumes nothing.
+use Prim.Native.Nat.{ℕ}
+use native.Mathlib.Omega.{arith}
+use mathlib.Core.Path.{_≡_, _∙_, sym, subst}
+use mathlib.Core.Bool.{true}
+use borrow.Author.Needs.{needs}
+use denote.Ref.{now}
+use lib.ListN.{length}
+use Rattle.words.proofs.Tests.{not-true, not-false}
+use Rattle.segment_blocks.specs.Upkeep.{Sizes}
+use Rattle.calls.specs.Pool.{lengths}
+use Rattle.calls.specs.Engines.{segmentEngine}
+use Rattle.segment_pool.specs.Promises.{segmentPool}
+use Rattle.segment_pool.proofs.GateLaws.{InRange, power-pos}
+use Rattle.segment_pool.proofs.FormatLaws.{format-refused, format-done, format-sizes, fit}
+use Rattle.segment_pool.proofs.format.Statement.{statement}
+use Rattle.segment_pool.proofs.format.Tie as tie
+
+-- past the test the lengths are right
+abbrev entry : tie.Else1 → tie.Start
+entry c = c .before .before .before .before .before .before .before
+
+right : (c : tie.Else1) → let s = entry c in true ≡ lengths segmentEngine
+    (segmentPool (s .args .s) 0 (now (s .args .arena)) (now (s .args .table)) (now (s .args .index)))
+right c = sym (not-false _ (c .if1 .left)) ∙ c .before .right-lengths .ensures 0
+
+fits : (c : tie.Else1) → let s = entry c in
+    InRange (s .args .s) (now (s .args .arena)) (now (s .args .table)) (now (s .args .index))
+fits c =
+    let s = entry c in
+    fit (s .args .s) (now (s .args .arena)) (now (s .args .table)) (now (s .args .index)) (right c)
+
+right-lengths-requires : tie.Need-right-lengths-requires
+right-lengths-requires c κs = search needs
+
+refused-requires : tie.Need-refused-requires
+refused-requires c κs = search needs
+
+same-length : tie.Need-same-length
+same-length c = search needs
+
+same-length-2 : tie.Need-same-length-2
+same-length-2 c = search needs
+
+same-length-3 : tie.Need-same-length-3
+same-length-3 c = search needs
+
+returns : tie.Need-returns
+returns c =
+    let r = c .before .before in
+    let s = r .before .before .before .before .before .before in
+    format-refused (s .args .s) (now (s .args .arena)) (now (s .args .table)) (now (s .args .index))
+    (c .refused .result) (sym (not-true _ (c .before .if1 .taken)) ∙ r .right-lengths .ensures 0) (c .refused .ensures)
+
+segment-size-requires : tie.Need-segment-size-requires
+segment-size-requires c κs = (power-pos (entry c .args .s) (fits c .power), omega (arith, fits c .most))
+
+lay-out-requires : tie.Need-lay-out-requires
+lay-out-requires c κs =
+    let i = c .before .before .before in
+    let s = entry i in (
+      subst (λ (g : ℕ). Sizes (length (now (s .args .arena))) (s .args .s) g)
+          (sym (c .before .before .segment-size .ensures))
+          (format-sizes (s .args .s) (now (s .args .arena)) (now (s .args .table)) (now (s .args .index)) (right i)),
+      fits i .indexed,
+    )
+
+wipe-requires : tie.Need-wipe-requires
+wipe-requires c κs = search needs
+
+succeeded-requires : tie.Need-succeeded-requires
+succeeded-requires c κs = search needs
+
+same-length-4 : tie.Need-same-length-4
+same-length-4 c = search needs
+
+same-length-5 : tie.Need-same-length-5
+same-length-5 c = search needs
+
+same-length-6 : tie.Need-same-length-6
+same-length-6 c = search needs
+
+returns-2 : tie.Need-returns-2
+returns-2 c =
+    let w = c .before .before .before in
+    let l = w .before .before .before .before .before in
+    let i = l .before .before .before .before in
+    let s = entry i in
+    format-done (s .args .s) (now (s .args .arena)) (now (s .args .table)) (now (s .args .index)) (right i)
+    (l .lay-out .last .0) (w .wipe .last .0) (l .lay-out .last .1 .0) (c .succeeded .result)
+    (l .lay-out .ensures) (w .wipe .ensures) (c .succeeded .ensures)
+
+pub format-spec : {M : Type 1} → statement M
+format-spec =
+    tie.close
+    (tie.spec
+    right-lengths-requires
+    refused-requires
+    same-length
+    same-length-2
+    same-length-3
+    returns
+    segment-size-requires
+    lay-out-requires
+    wipe-requires
+    succeeded-requires
+    same-length-4
+    same-length-5
+    same-length-6
+    returns-2)

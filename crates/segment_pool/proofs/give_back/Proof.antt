@@ -1,0 +1,131 @@
+-- `segment_pool::give_back` meets its contract: the words that go back make the act a release. Assumes nothing.
+use Prim.Native.Nat.{ℕ}
+use native.Mathlib.Omega.{arith}
+use mathlib.Core.Path.{_∙_, sym, subst₃}
+use mathlib.Core.List.{[], _∷_}
+use borrow.Author.Needs.{needs}
+use denote.Ref.{now}
+use Rattle.ledger.specs.Records.{Ledger, recordsOf, vacate, member, settle}
+use Rattle.segment_places.specs.Stores.{Releasing}
+use Rattle.calls.specs.Pool.{Pool}
+use Rattle.segment_pool.specs.Promises.{segmentPool}
+use Rattle.calls.specs.Step.{give}
+use Rattle.segment_pool.proofs.GateLaws.{InRange, power-pos}
+use Rattle.segment_pool.proofs.ActedLaws.{acted-left}
+use Rattle.segment_pool.proofs.ReleaseLaws.{release-range, release-slot, release-releasing}
+use Rattle.segment_pool.proofs.ReleaseLaws.{release-answer, release-pool}
+use Rattle.segment_pool.proofs.give_back.Statement.{statement}
+use Rattle.segment_pool.proofs.give_back.Tie as tie
+
+abbrev pool : tie.Start → Pool
+pool s =
+    segmentPool (s .args .s) (s .args .head .next) (now (s .args .arena)) (now (s .args .table)) (now (s .args .index))
+
+abbrev old : tie.Start → Ledger
+old s = recordsOf (now (s .args .table))
+
+-- the ledger without the record
+abbrev rest : tie.Start → Ledger
+rest s = settle (member (s .args .named .ticket) vacate ∷ []) (old s)
+
+range : (s : tie.Start) → InRange (s .args .s) (now (s .args .arena)) (now (s .args .table)) (now (s .args .index))
+range s =
+    release-range (s .args .head) (s .args .s) (now (s .args .arena)) (now (s .args .table))
+    (now (s .args .index)) (s .args .named) (s .args .slot) (s .pre .0) (s .pre .1)
+
+-- what is released, in the code's own numbers
+released-at : (c : tie.After-segment-size)
+    → let s = c .before .before .before .before .before .before .before .before in
+    Releasing (old s) (rest s) (now (s .args .arena)) (now (s .args .index)) (s .args .s) (c .before .depth-of .result)
+    (c .segment-size .result) (c .before .before .before .first-unit .result) (c .before .before .span-of .result)
+released-at c =
+    let d = c .before in
+    let n = d .before in
+    let u = n .before in
+    let s = u .before .before .before .before .before in
+    subst₃
+    (λ (g p m : ℕ). Releasing (old s) (rest s) (now (s .args .arena)) (now (s .args .index)) (s .args .s)
+    (d .depth-of .result) g p m)
+    (sym (c .segment-size .ensures)) (sym (u .first-unit .ensures)) (sym (n .span-of .ensures))
+    (release-releasing (s .args .head) (s .args .s) (now (s .args .arena)) (now (s .args .table))
+    (now (s .args .index)) (s .args .named) (s .args .slot) (s .pre .0) (s .pre .1)
+    (u .before .ranged .ensures) (d .depth-of .result) (d .depth-of .ensures .0) (d .depth-of .ensures .1))
+
+ranged-requires : tie.Need-ranged-requires
+ranged-requires c κs = search needs
+
+first-unit-requires : tie.Need-first-unit-requires
+first-unit-requires c κs = search needs
+
+span-of-requires : tie.Need-span-of-requires
+span-of-requires c κs = search needs
+
+depth-of-requires : tie.Need-depth-of-requires
+depth-of-requires c κs = range (c .before .before .before .before .before .before) .power
+
+segment-size-requires : tie.Need-segment-size-requires
+segment-size-requires c κs =
+    let s = c .before .before .before .before .before .before .before in
+    (power-pos (s .args .s) (range s .power), omega (arith, range s .most))
+
+release-requires : tie.Need-release-requires
+release-requires c κs =
+    let g = c .before .before in
+    let s = g .before .before .before .before .before .before .before .before in
+    (old s, rest s, released-at g)
+
+write-row-requires : tie.Need-write-row-requires
+write-row-requires c κs =
+    let l = c .before .before .before .before in
+    let s = l .before .before .before .before .before .before .before .before .before .before .before in (
+      release-slot (s .args .head) (s .args .s) (now (s .args .arena)) (now (s .args .table))
+          (now (s .args .index)) (s .args .named) (s .args .slot) (s .pre .0) (s .pre .1),
+      range s .threes,
+    )
+
+succeeded-requires : tie.Need-succeeded-requires
+succeeded-requires c κs = search needs
+
+same-length : tie.Need-same-length
+same-length c = search needs
+
+same-length-2 : tie.Need-same-length-2
+same-length-2 c = search needs
+
+same-length-3 : tie.Need-same-length-3
+same-length-3 c = search needs
+
+returns : tie.Need-returns
+returns c =
+    let w = c .before .before .before in
+    let l = w .before .before .before .before .before in
+    let g = l .before .before .before in
+    let s = g .before .before .before .before .before .before .before .before in
+    let after = release-pool (s .args .head) (s .args .s) (now (s .args .arena)) (now (s .args .table))
+    (now (s .args .index)) (s .args .named) (s .args .slot) (s .pre .0) (s .pre .1)
+    (l .release .last .0) (w .write-row .last .0) (l .release .last .1 .0)
+    (l .release .ensures (old s) (rest s) (released-at g)) (w .write-row .ensures) in
+    acted-left (give (s .args .named)) (pool s) (s .args .s)
+    (record { head = s .args .head; answer = c .succeeded .result })
+    (l .release .last .0) (w .write-row .last .0) (l .release .last .1 .0)
+    (c .succeeded .ensures
+    ∙ release-answer (s .args .head) (s .args .s) (now (s .args .arena)) (now (s .args .table))
+    (now (s .args .index)) (s .args .named) (s .args .slot) (s .pre .0) (s .pre .1))
+    after
+
+pub give-back-spec : {M : Type 1} → statement M
+give-back-spec =
+    tie.close
+    (tie.spec
+    ranged-requires
+    first-unit-requires
+    span-of-requires
+    depth-of-requires
+    segment-size-requires
+    release-requires
+    write-row-requires
+    succeeded-requires
+    same-length
+    same-length-2
+    same-length-3
+    returns)

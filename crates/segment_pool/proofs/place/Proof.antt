@@ -1,0 +1,150 @@
+-- `segment_pool::place` meets its contract: what was found makes the act a grant. Assumes nothing.
+use Prim.Native.Nat.{ℕ, _+_, _<_}
+use native.Mathlib.Omega.{arith}
+use mathlib.Core.Path.{_∙_, sym, ap, subst, subst₂}
+use borrow.Author.Needs.{needs}
+use denote.Ref.{now}
+use lib.IntN.{pos}
+use lib.ListN.{length}
+use Rattle.words.specs.Places.{wiped}
+use Rattle.ledger.specs.Records.{Ledger, row, recordsOf, enter}
+use Rattle.ledger.specs.Units.{span, addressAt}
+use Rattle.stored_forms.specs.Segments.{segmentRule}
+use Rattle.segment_places.specs.Stores.{Granting, Becomes}
+use Rattle.calls.specs.Pool.{Pool}
+use Rattle.segment_pool.specs.Promises.{segmentPool}
+use Rattle.calls.specs.Step.{ask}
+use Rattle.segment_pool.proofs.GateLaws.{InRange, power-pos}
+use Rattle.segment_pool.proofs.ActedLaws.{acted-left}
+use Rattle.segment_pool.proofs.GrantLaws.{place-range, place-slot, place-inside}
+use Rattle.segment_pool.proofs.GrantLaws.{place-granting, place-answer, place-pool}
+use Rattle.segment_pool.proofs.place.Statement.{statement}
+use Rattle.segment_pool.proofs.place.Tie as tie
+
+abbrev pool : tie.Start → Pool
+pool s =
+    segmentPool (s .args .s) (s .args .head .next) (now (s .args .arena)) (now (s .args .table)) (now (s .args .index))
+
+abbrev old : tie.Start → Ledger
+old s = recordsOf (now (s .args .table))
+
+-- the ledger with the new record
+abbrev entered : tie.Start → Ledger
+entered s = enter (row (s .args .head .next) (addressAt segmentRule (s .args .at)) (s .args .words)) (old s)
+
+range : (s : tie.Start) → InRange (s .args .s) (now (s .args .arena)) (now (s .args .table)) (now (s .args .index))
+range s =
+    place-range (s .args .head) (s .args .s) (now (s .args .arena)) (now (s .args .table))
+    (now (s .args .index)) (s .args .words) (s .args .slot) (s .args .at) (s .pre)
+
+inside : (s : tie.Start) → s .args .at < length (now (s .args .arena))
+inside s =
+    place-inside (s .args .head) (s .args .s) (now (s .args .arena)) (now (s .args .table))
+    (now (s .args .index)) (s .args .words) (s .args .slot) (s .args .at) (s .pre)
+
+-- what is granted, in the code's own numbers
+granted-at : (c : tie.After-segment-size) → let s = c .before .before .before .before in
+    Granting (old s) (entered s) (now (s .args .arena)) (now (s .args .index)) (s .args .s) (c .segment-size .result)
+    (s .args .at) (c .before .span-of .result)
+granted-at c =
+    let s = c .before .before .before .before in
+    subst₂
+    (λ (g n : ℕ). Granting (old s) (entered s) (now (s .args .arena)) (now (s .args .index)) (s .args .s) g
+    (s .args .at) n)
+    (sym (c .segment-size .ensures)) (sym (c .before .span-of .ensures))
+    (place-granting (s .args .head) (s .args .s) (now (s .args .arena)) (now (s .args .table))
+    (now (s .args .index)) (s .args .words) (s .args .slot) (s .args .at) (s .pre))
+
+-- what the grant leaves, in the ledger's units
+becomes : (c : tie.After-allot) → let s = c .before .before .before .before .before .before .before in
+    Becomes (entered s)
+    (wiped (pos 0) (s .args .at + 1) (s .args .at + span segmentRule (s .args .words)) (now (s .args .arena)))
+    (s .args .s) (c .allot .last .0) (c .allot .last .1 .0)
+becomes c =
+    let g = c .before .before .before in
+    let s = g .before .before .before .before in
+    subst
+    (λ (n : ℕ). Becomes (entered s) (wiped (pos 0) (s .args .at + 1) (s .args .at + n) (now (s .args .arena)))
+    (s .args .s) (c .allot .last .0) (c .allot .last .1 .0))
+    (g .before .span-of .ensures) (c .allot .ensures (old s) (entered s) (granted-at g))
+
+span-of-requires : tie.Need-span-of-requires
+span-of-requires c κs = search needs
+
+segment-size-requires : tie.Need-segment-size-requires
+segment-size-requires c κs =
+    let s = c .before .before .before in
+    (power-pos (s .args .s) (range s .power), omega (arith, range s .most))
+
+allot-requires : tie.Need-allot-requires
+allot-requires c κs =
+    let g = c .before .before in
+    let s = g .before .before .before .before in
+    (old s, entered s, granted-at g)
+
+add-t14 : tie.Need-add-t14
+add-t14 c =
+    let s = c .before .before .before .before .before .before .before .before .before .before in
+    omega (arith, inside s, range s .most)
+
+cast-t20 : tie.Need-cast-t20
+cast-t20 c =
+    let s = c .before .before .before .before .before .before .before .before .before .before in
+    omega (arith, inside s, range s .most)
+
+write-row-requires : tie.Need-write-row-requires
+write-row-requires c κs =
+    let s = c .before .before .before .before .before .before .before .before .before .before .before in (
+      place-slot (s .args .head) (s .args .s) (now (s .args .arena)) (now (s .args .table))
+          (now (s .args .index)) (s .args .words) (s .args .slot) (s .args .at) (s .pre),
+      range s .threes,
+    )
+
+next-after-requires : tie.Need-next-after-requires
+next-after-requires c κs = search needs
+
+succeeded-requires : tie.Need-succeeded-requires
+succeeded-requires c κs = search needs
+
+same-length : tie.Need-same-length
+same-length c = search needs
+
+same-length-2 : tie.Need-same-length-2
+same-length-2 c = search needs
+
+same-length-3 : tie.Need-same-length-3
+same-length-3 c = search needs
+
+returns : tie.Need-returns
+returns c =
+    let w = c .before .before .before .before in
+    let l = w .before .before .before .before .before in
+    let s = l .before .before .before .before .before .before .before in
+    let after = place-pool (s .args .head) (s .args .s) (now (s .args .arena)) (now (s .args .table))
+    (now (s .args .index)) (s .args .words) (s .args .slot) (s .args .at) (s .pre)
+    (l .allot .last .0) (w .write-row .last .0) (l .allot .last .1 .0) (becomes l) (w .write-row .ensures) in
+    acted-left (ask (s .args .words)) (pool s) (s .args .s)
+    (record { head = record { next = c .before .next-after .result }; answer = c .succeeded .result })
+    (l .allot .last .0) (w .write-row .last .0) (l .allot .last .1 .0)
+    (c .succeeded .ensures
+    ∙ place-answer (s .args .head) (s .args .s) (now (s .args .arena)) (now (s .args .table))
+    (now (s .args .index)) (s .args .words) (s .args .slot) (s .args .at) (s .pre))
+    (ap (λ (n : ℕ). segmentPool (s .args .s) n (l .allot .last .0) (w .write-row .last .0) (l .allot .last .1 .0))
+    (c .before .next-after .ensures) ∙ after)
+
+pub place-spec : {M : Type 1} → statement M
+place-spec =
+    tie.close
+    (tie.spec
+    span-of-requires
+    segment-size-requires
+    allot-requires
+    add-t14
+    cast-t20
+    write-row-requires
+    next-after-requires
+    succeeded-requires
+    same-length
+    same-length-2
+    same-length-3
+    returns)

@@ -1,0 +1,85 @@
+-- `segment_pool::release` meets its contract: the gate, then one act. Assumes nothing.
+use mathlib.Core.Path.{refl}
+use mathlib.Core.List.{[]}
+use borrow.Author.Needs.{needs}
+use denote.Ref.{now}
+use Rattle.ledger.specs.Records.{vacate}
+use Rattle.calls.specs.Pool.{Pool}
+use Rattle.calls.specs.Engines.{segmentEngine}
+use Rattle.segment_pool.specs.Promises.{segmentPool, handed}
+use Rattle.calls.specs.Step.{release}
+use Rattle.call_parts.proofs.GateLaws.{gate-sound}
+use Rattle.segment_pool.proofs.ActedLaws.{gate-left, one-left}
+use Rattle.segment_pool.proofs.release.Statement.{statement}
+use Rattle.segment_pool.proofs.release.Tie as tie
+
+abbrev pool : tie.Start → Pool
+pool s =
+    segmentPool (s .args .s) (s .args .head .next) (now (s .args .arena)) (now (s .args .table)) (now (s .args .index))
+
+gate-number-requires : tie.Need-gate-number-requires
+gate-number-requires c κs = search needs
+
+refused-with-requires : tie.Need-refused-with-requires
+refused-with-requires c κs = search needs
+
+same-length : tie.Need-same-length
+same-length c = search needs
+
+same-length-2 : tie.Need-same-length-2
+same-length-2 c = search needs
+
+same-length-3 : tie.Need-same-length-3
+same-length-3 c = search needs
+
+returns : tie.Need-returns
+returns c =
+    let g = c .before .before in
+    let s = g .before .before .before .before .before .before in
+    gate-left (s .args .head) (s .args .s) (now (s .args .arena)) (now (s .args .table)) (now (s .args .index))
+    (c .refused-with .result) (g .gate-number .result) (g .gate-number .ensures) (c .before .if1 .taken)
+    (release (s .args .named)) refl refl (c .refused-with .ensures)
+
+vacate-requires : tie.Need-vacate-requires
+vacate-requires c κs =
+    let g = c .before .before .before .before in
+    let s = g .before .before .before .before .before .before in
+    gate-sound segmentEngine (pool s) (g .gate-number .result) (g .gate-number .ensures)
+    (c .before .before .before .if1 .left)
+
+same-length-4 : tie.Need-same-length-4
+same-length-4 c = search needs
+
+same-length-5 : tie.Need-same-length-5
+same-length-5 c = search needs
+
+same-length-6 : tie.Need-same-length-6
+same-length-6 c = search needs
+
+returns-2 : tie.Need-returns-2
+returns-2 c =
+    let q = c .before .before .before .before .before in
+    let g = q .before .before .before .before .before in
+    let s = g .before .before .before .before .before .before in
+    let ok = gate-sound segmentEngine (pool s) (g .gate-number .result) (g .gate-number .ensures)
+    (q .before .before .before .before .if1 .left) in
+    one-left (pool s) ok
+    (handed (q .vacate .result) (q .vacate .last .1 .1 .0) (q .vacate .last .1 .1 .1 .0)
+    (q .vacate .last .1 .1 .1 .1 .0) [])
+    .1 (s .args .named) (q .vacate .ensures)
+
+pub release-spec : {M : Type 1} → statement M
+release-spec =
+    tie.close
+    (tie.spec
+    gate-number-requires
+    refused-with-requires
+    same-length
+    same-length-2
+    same-length-3
+    returns
+    vacate-requires
+    same-length-4
+    same-length-5
+    same-length-6
+    returns-2)

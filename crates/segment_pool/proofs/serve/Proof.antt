@@ -1,0 +1,95 @@
+-- `segment_pool::serve` meets its contract: each kind of request is its act. Assumes nothing.
+use mathlib.Core.Path.{_∙_, sym, ap}
+use borrow.Author.Needs.{needs}
+use denote.Ref.{now}
+use Rattle.ledger.specs.Records.{vacate}
+use Rattle.calls.specs.Pool.{Pool}
+use Rattle.segment_pool.specs.Promises.{segmentPool, acted}
+use Rattle.calls.specs.Step.{bad}
+use Rattle.call_parts.specs.declared.Request.{Request}
+use Rattle.call_parts.specs.Parts.{actOf}
+use Rattle.segment_pool.proofs.ActedLaws.{refused-left}
+use Rattle.segment_pool.proofs.RequestLaws.{bad-refused}
+use Rattle.segment_pool.proofs.serve.Statement.{statement}
+use Rattle.segment_pool.proofs.serve.Tie as tie
+
+abbrev pool : tie.Start → Pool
+pool s =
+    segmentPool (s .args .s) (s .args .head .next) (now (s .args .arena)) (now (s .args .table)) (now (s .args .index))
+
+enum-known-request : tie.Need-enum-known-request
+enum-known-request c = search needs
+
+grant-requires : tie.Need-grant-requires
+grant-requires c κs = c .before .before .before .before .before .before .before .before .pre
+
+enum-known-request-2 : tie.Need-enum-known-request-2
+enum-known-request-2 c = search needs
+
+vacate-requires : tie.Need-vacate-requires
+vacate-requires c κs = c .before .before .before .before .before .before .before .before .pre
+
+enum-told : tie.Need-enum-told
+enum-told c = search needs
+
+refused-with-requires : tie.Need-refused-with-requires
+refused-with-requires c κs = search needs
+
+same-length : tie.Need-same-length
+same-length c = search needs
+
+same-length-2 : tie.Need-same-length-2
+same-length-2 c = search needs
+
+same-length-3 : tie.Need-same-length-3
+same-length-3 c = search needs
+
+returns : tie.Need-returns
+returns c =
+    let g = c .before .before .before .before .before in
+    let m = g .before .before .before .before .before in
+    let s = m .before .before .before .before in
+    g .grant .ensures ∙ ap (λ (x : Request). acted (actOf x) (pool s)) (sym (m .request .given .1))
+
+same-length-4 : tie.Need-same-length-4
+same-length-4 c = search needs
+
+same-length-5 : tie.Need-same-length-5
+same-length-5 c = search needs
+
+same-length-6 : tie.Need-same-length-6
+same-length-6 c = search needs
+
+returns-2 : tie.Need-returns-2
+returns-2 c =
+    let g = c .before .before .before .before .before in
+    let m = g .before .before .before .before .before in
+    let s = m .before .before .before .before in
+    g .vacate .ensures ∙ ap (λ (x : Request). acted (actOf x) (pool s)) (sym (m .request2 .given .1))
+
+returns-3 : tie.Need-returns-3
+returns-3 c =
+    let s = c .before .before .before .before .before in
+    refused-left (s .args .head) (s .args .s) (now (s .args .arena)) (now (s .args .table)) (now (s .args .index))
+    bad (c .refused-with .result) 9 (c .refused-with .ensures) (bad-refused (pool s))
+    ∙ ap (λ (x : Request). acted (actOf x) (pool s)) (sym (c .before .enum-told .given .1))
+
+pub serve-spec : {M : Type 1} → statement M
+serve-spec =
+    tie.close
+    (tie.spec
+    enum-known-request
+    grant-requires
+    enum-known-request-2
+    vacate-requires
+    enum-told
+    refused-with-requires
+    same-length
+    same-length-2
+    same-length-3
+    returns
+    same-length-4
+    same-length-5
+    same-length-6
+    returns-2
+    returns-3)

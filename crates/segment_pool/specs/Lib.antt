@@ -1,0 +1,3 @@
+-- What the segment pool's calls promise.
+pub mod Promises
+pub mod Granting

@@ -1,0 +1,43 @@
+// Who is measured: the proved library, and its C twins as several compilers build them. The list is written by the
+// script `run`, one line for each: CONTESTANT(prefix, group, "name").
+#ifndef CONTESTANTS_H
+#define CONTESTANTS_H
+
+#include <stddef.h>
+#include <stdint.h>
+
+#include "lingfurrow.h"
+
+// ONE(P, call) for each call. Every contestant has them under its own prefix, with the types of the header.
+#define CALLS(ONE, P)                                                                                                \
+    ONE(P, tree_format)                                                                                              \
+    ONE(P, tree_allocate)                                                                                            \
+    ONE(P, tree_release)                                                                                             \
+    ONE(P, tree_find)                                                                                                \
+    ONE(P, tree_list)                                                                                                \
+    ONE(P, segment_format)                                                                                           \
+    ONE(P, segment_allocate)                                                                                         \
+    ONE(P, segment_release)                                                                                          \
+    ONE(P, segment_find)                                                                                             \
+    ONE(P, segment_list)
+
+enum group {
+    PROVED,
+    SAME_IDEAS,
+    FURTHER_IDEAS,
+    LIMIT,
+};
+
+typedef struct {
+    const char *name;
+    enum group group;
+#define FIELD(P, call) __typeof__(P##call) *call;
+    CALLS(FIELD, lf_)
+#undef FIELD
+} contestant;
+
+// The proved library is the first of them.
+extern const contestant contestants[];
+extern const size_t contestant_count;
+
+#endif

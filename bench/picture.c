@@ -1,0 +1,179 @@
+// The picture: two curves of growth, and the ratio of every row, as SVG.
+#include <math.h>
+
+#include "report.h"
+
+static const char *const colour[] = {"#1f6fb2", "#c4512d"};
+static const char *const grey = "#777777";
+
+enum { WIDTH = 860, HEIGHT = 640, PLOT_WIDTH = 340, PLOT_HEIGHT = 230, PLOT_TOP = 48, STRIPS_TOP = 400, STRIP = 24 };
+
+// A plot with logarithmic axes.
+typedef struct {
+    double left, top, width, height;
+    double x_from, x_to, y_from, y_to;
+} axes;
+
+static double place_x(const axes *a, double x)
+{
+    return a->left + a->width * log(x / a->x_from) / log(a->x_to / a->x_from);
+}
+
+static double place_y(const axes *a, double y)
+{
+    return a->top + a->height * (1 - log(y / a->y_from) / log(a->y_to / a->y_from));
+}
+
+static void text(FILE *to, double x, double y, const char *anchor, const char *words)
+{
+    fprintf(to, "<text x=\"%.1f\" y=\"%.1f\" text-anchor=\"%s\">%s</text>\n", x, y, anchor, words);
+}
+
+static void line(FILE *to, double x1, double y1, double x2, double y2, const char *stroke, const char *more)
+{
+    fprintf(to, "<line x1=\"%.1f\" y1=\"%.1f\" x2=\"%.1f\" y2=\"%.1f\" stroke=\"%s\" %s/>\n", x1, y1, x2, y2, stroke,
+            more);
+}
+
+// ---- growth
+
+static double least_of(const timings *t, enum group first, enum group last)
+{
+    const timed *best = quickest(t, first, last);
+    return best == NULL ? 0 : best->least;
+}
+
+static void curve(FILE *to, const axes *a, const growth *g, int engine, enum group first, enum group last,
+                  const char *stroke, const char *dashes)
+{
+    fprintf(to, "<polyline fill=\"none\" stroke=\"%s\" stroke-width=\"2\" stroke-dasharray=\"%s\" points=\"", stroke,
+            dashes);
+    for (size_t i = 0; i < g->count; i++)
+        fprintf(to, "%.1f,%.1f ", place_x(a, (double)g->x[i]),
+                place_y(a, least_of(&g->points[engine][i].t, first, last)));
+    fprintf(to, "\"/>\n");
+}
+
+static void time_axis(FILE *to, const axes *a)
+{
+    static const struct {
+        double at;
+        const char *name;
+    } ticks[] = {{10, "10 ns"}, {100, "100 ns"}, {1000, "1 µs"}, {10000, "10 µs"}, {100000, "100 µs"}};
+    for (size_t i = 0; i < sizeof ticks / sizeof ticks[0]; i++) {
+        double y = place_y(a, ticks[i].at);
+        line(to, a->left, y, a->left + a->width, y, "#dddddd", "");
+        text(to, a->left - 6, y + 4, "end", ticks[i].name);
+    }
+}
+
+static void grouped(char *out, size_t room, size_t n)
+{
+    if (n >= 1000)
+        snprintf(out, room, "%zu,%03zu", n / 1000, n % 1000);
+    else
+        snprintf(out, room, "%zu", n);
+}
+
+static void growth_plot(FILE *to, const growth *g, double left)
+{
+    axes a = {left, PLOT_TOP, PLOT_WIDTH, PLOT_HEIGHT, (double)g->x[0], (double)g->x[g->count - 1], 5, 100000};
+    char label[128];
+    snprintf(label, sizeof label, "Checked find as %s grow (%s)", g->along, g->at);
+    text(to, left, PLOT_TOP - 12, "start", label);
+    time_axis(to, &a);
+    for (size_t i = 0; i < g->count; i += 2) {
+        double x = place_x(&a, (double)g->x[i]);
+        line(to, x, a.top, x, a.top + a.height, "#eeeeee", "");
+        grouped(label, sizeof label, g->x[i]);
+        text(to, x, a.top + a.height + 16, "middle", label);
+    }
+    snprintf(label, sizeof label, "%s", g->along);
+    text(to, a.left + a.width / 2, a.top + a.height + 32, "middle", label);
+    curve(to, &a, g, TREE, LIMIT, LIMIT, grey, "2 3");
+    for (int e = TREE; e <= SEGMENT; e++) {
+        curve(to, &a, g, e, SAME_IDEAS, FURTHER_IDEAS, colour[e], "6 4");
+        curve(to, &a, g, e, PROVED, PROVED, colour[e], "none");
+    }
+    line(to, a.left, a.top + a.height, a.left + a.width, a.top + a.height, "#333333", "");
+    line(to, a.left, a.top, a.left, a.top + a.height, "#333333", "");
+}
+
+static void legend(FILE *to, double y)
+{
+    static const struct {
+        double x;
+        int colour;
+        const char *dashes, *name;
+    } entries[] = {{40, TREE, "none", "tree, proved"},
+                   {175, TREE, "6 4", "tree, best C twin"},
+                   {335, SEGMENT, "none", "segment, proved"},
+                   {495, SEGMENT, "6 4", "segment, best C twin"},
+                   {680, -1, "2 3", "memcmp of the arena"}};
+    for (size_t i = 0; i < sizeof entries / sizeof entries[0]; i++) {
+        char more[64];
+        snprintf(more, sizeof more, "stroke-width=\"2\" stroke-dasharray=\"%s\"", entries[i].dashes);
+        line(to, entries[i].x, y - 4, entries[i].x + 26, y - 4,
+             entries[i].colour < 0 ? grey : colour[entries[i].colour], more);
+        text(to, entries[i].x + 32, y, "start", entries[i].name);
+    }
+}
+
+// ---- ratios
+
+static void ratio_axis(FILE *to, const axes *a)
+{
+    static const double ticks[] = {0.5, 1, 2, 4, 8, 16, 32};
+    for (size_t i = 0; i < sizeof ticks / sizeof ticks[0]; i++) {
+        char label[16];
+        double x = place_x(a, ticks[i]);
+        line(to, x, a->top, x, a->top + a->height, ticks[i] == 1 ? "#333333" : "#dddddd", "");
+        snprintf(label, sizeof label, "%g", ticks[i]);
+        text(to, x, a->top + a->height + 16, "middle", label);
+    }
+    double x = place_x(a, 1.2);
+    line(to, x, a->top, x, a->top + a->height, "#333333", "stroke-dasharray=\"2 3\"");
+    text(to, x + 3, a->top - 5, "start", "1.2");
+}
+
+static void ratio_dot(FILE *to, const axes *a, double y, const measured *m, enum group g, const char *fill)
+{
+    double twin = least_of(&m->t, g, g);
+    if (twin <= 0)
+        return;
+    double x = place_x(a, fmin(fmax(least_of(&m->t, PROVED, PROVED) / twin, a->x_from), a->x_to));
+    fprintf(to, "<circle cx=\"%.1f\" cy=\"%.1f\" r=\"4\" fill=\"%s\" fill-opacity=\"0.6\" stroke=\"%s\"/>\n", x, y,
+            fill, colour[m->engine]);
+}
+
+static void ratio_plot(FILE *to, const measured *rows, size_t count)
+{
+    axes a = {190, STRIPS_TOP, 620, 8 * STRIP, 0.5, 40, 0, 0};
+    text(to, 70, STRIPS_TOP - 22, "start",
+         "Time of the proved code / time of the best C twin, a dot for each pool (full: twin with the same ideas; "
+         "hollow: with further ideas)");
+    ratio_axis(to, &a);
+    for (int k = 0; k < 8; k++) {
+        char label[64];
+        snprintf(label, sizeof label, "%s: %s", engine_name((enum engine)(k / 4)), call_name((enum call)(k % 4)));
+        text(to, a.left - 8, a.top + STRIP * (k + 0.5) + 4, "end", label);
+    }
+    for (size_t i = 0; i < count; i++) {
+        double y = a.top + STRIP * ((double)rows[i].engine * 4 + (double)rows[i].call + 0.5);
+        ratio_dot(to, &a, y, &rows[i], FURTHER_IDEAS, "none");
+        ratio_dot(to, &a, y, &rows[i], SAME_IDEAS, colour[rows[i].engine]);
+    }
+}
+
+void draw(FILE *to, const measured *rows, size_t count, const growth *by_words, const growth *by_records)
+{
+    fprintf(to,
+            "<svg xmlns=\"http://www.w3.org/2000/svg\" viewBox=\"0 0 %d %d\" font-family=\"sans-serif\" "
+            "font-size=\"12\" fill=\"#222222\">\n<rect width=\"%d\" height=\"%d\" fill=\"white\"/>\n",
+            WIDTH, HEIGHT, WIDTH, HEIGHT);
+    growth_plot(to, by_words, 70);
+    growth_plot(to, by_records, 490);
+    legend(to, 345);
+    ratio_plot(to, rows, count);
+    fprintf(to, "</svg>\n");
+}

@@ -1,0 +1,63 @@
+// Pools to measure on, brought into a state by calls of the proved library.
+#ifndef POOLS_H
+#define POOLS_H
+
+#include <stdbool.h>
+
+#include "contestants.h"
+
+enum engine { TREE, SEGMENT };
+
+enum state {
+    EMPTY,      // formatted
+    HALF,       // half of the slots and half of the words held, side by side from the low end
+    FRAGMENTED, // every slot was filled, then every other record released: gaps between records
+    CROWDED,    // fragmented, then each gap filled but for a unit: every slot live, and gaps
+};
+
+enum { POOL_WORDS = 16384, POOL_RECORDS = 256, POOL_SEGMENTS = 256, LIST_LENGTH = 512, LIST_MOST = 1024, LISTS = 8 };
+
+// A list of requests that leaves the pool as it was, with the answers to them. For each release `granted_by` has the
+// request that was granted its block.
+typedef struct {
+    size_t requests;
+    uint32_t list[4 * LIST_MOST], expected[4 * LIST_MOST];
+    uint32_t granted_by[LIST_MOST];
+} traffic;
+
+typedef struct {
+    enum engine engine;
+    enum state state;
+    size_t words, records;
+    uint32_t segments;
+
+    lf_tree_head head; // the segment pool has no root
+    uint32_t arena[POOL_WORDS], table[3 * POOL_RECORDS], index[3 * POOL_SEGMENTS];
+    uint32_t copy[POOL_WORDS]; // the arena once more, to compare it with
+
+    lf_answer named;      // what find names, and the number that it answers
+    uint32_t ask;         // the words that a pair asks for and gives back
+    traffic lists[LISTS]; // several, run in turn, so that no predictor of branches learns one by heart
+    size_t requests;      // of all lists
+    uint32_t answers[4 * LIST_MOST];
+} pool;
+
+const char *engine_name(enum engine e);
+const char *state_name(enum state s);
+
+void make_pool(pool *p, enum engine e, size_t words, size_t records, uint32_t segments, enum state s);
+
+// Makes the lists, which a pool has none of at first. There must be an empty slot.
+void make_lists(pool *p);
+
+// One call on the pool, which keeps its own head up to date.
+lf_answer ask_for(const contestant *c, pool *p, uint32_t words);
+lf_answer give_back(const contestant *c, pool *p, lf_answer block);
+lf_answer find_in(const contestant *c, const pool *p, lf_answer block);
+lf_answer run_list(const contestant *c, pool *p, const uint32_t *requests, size_t n, uint32_t *answers);
+lf_answer format_pool(const contestant *c, pool *p);
+
+// Whether the contestant answers on this pool as the proved library did, and leaves it as it was.
+bool agrees(const contestant *c, pool *p);
+
+#endif

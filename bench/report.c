@@ -1,0 +1,149 @@
+// The tables, in a form that is read as text and as Markdown.
+#include "report.h"
+
+#include <string.h>
+
+// A line of a file of the kernel's that begins so, from there to the line's end; "unknown" where there is none.
+static void line_of(const char *path, const char *begin, char *out, size_t room)
+{
+    snprintf(out, room, "unknown");
+    FILE *f = fopen(path, "r");
+    char line[512];
+    while (f != NULL && fgets(line, sizeof line, f) != NULL) {
+        if (strncmp(line, begin, strlen(begin)) != 0)
+            continue;
+        char *from = line + strlen(begin);
+        from += strspn(from, " \t:");
+        snprintf(out, room, "%.*s", (int)strcspn(from, "\n"), from);
+        break;
+    }
+    if (f != NULL)
+        fclose(f);
+}
+
+void print_conditions(FILE *to, effort e)
+{
+    char processor[128], load[128];
+    line_of("/proc/cpuinfo", "model name", processor, sizeof processor);
+    line_of("/proc/loadavg", "", load, sizeof load);
+    fprintf(to, "- One run, %d passes of %d rounds in rotated order, samples of %.0f microseconds. ", e.passes,
+            e.rounds, e.sample / 1000);
+    fputs("Times are nanoseconds: minimum, and median in brackets; ratios are of minima, and of medians in brackets.\n"
+          "- Release builds for plain x86-64 on both sides: the archive of rt staticlib; the twins with -O3.\n"
+          "- Buffers were not cleared first: every byte was 0xa5 before format, and holders wrote every word of their "
+          "blocks. Caches are warm.\n"
+          "- Pools. Half full: half of the slots and words held, from the low end. Fragmented: all slots were filled, "
+          "then every other record released. Crowded: then all gaps filled but for a unit, so every slot is live.\n"
+          "- Twins. Same ideas: a byte for each unit, all pairs of tickets. Further ideas: first units alone, tickets "
+          "by residue. Each is the quickest of all compilers and loop shapes.\n",
+          to);
+    fprintf(to, "- Processor: %s. Load average when it ended: %.14s.\n\n", processor, load);
+}
+
+static double ratio(double a, double b)
+{
+    return b > 0 ? a / b : 0;
+}
+
+static void print_against(FILE *to, const timed *us, const timed *other)
+{
+    if (other == NULL) {
+        fprintf(to, " %24s | %13s |", "-", "-");
+        return;
+    }
+    char cell[64];
+    snprintf(cell, sizeof cell, "%.0f %s", other->least, other->name);
+    fprintf(to, " %-24s | %5.2f (%5.2f) |", cell, ratio(us->least, other->least), ratio(us->median, other->median));
+}
+
+// Times under 100 are printed with a decimal.
+static void print_proved(FILE *to, const timed *us)
+{
+    char cell[64];
+    int digits = us->least < 100;
+    snprintf(cell, sizeof cell, "%.*f (%.*f)", digits, us->least, digits, us->median);
+    fprintf(to, " %17s |", cell);
+}
+
+void print_rows(FILE *to, const measured *rows, size_t count)
+{
+    fprintf(to, "| %-7s | %-18s | %-12s | %-3s | %-10s | %-17s | %-24s | %-13s | %-24s | %-13s | %-24s | %-13s |\n",
+            "engine", "call", "words/slots", "S", "pool", "proved", "twin, same ideas", "proved / twin",
+            "twin, further ideas", "proved / twin", "limit", "proved/limit");
+    fprintf(to, "|---|---|---|---|---|---:|---|---:|---|---:|---|---:|\n");
+    for (size_t i = 0; i < count; i++) {
+        const measured *m = &rows[i];
+        const timed *us = quickest(&m->t, PROVED, PROVED);
+        char size[32], segments[16];
+        snprintf(size, sizeof size, "%zu / %zu", m->words, m->records);
+        snprintf(segments, sizeof segments, "%u", m->segments);
+        fprintf(to, "| %-7s | %-18s | %-12s | %-3s | %-10s |", engine_name(m->engine), call_name(m->call), size,
+                m->engine == SEGMENT ? segments : "", m->call == FORMAT ? "any" : state_name(m->state));
+        print_proved(to, us);
+        print_against(to, us, quickest(&m->t, SAME_IDEAS, SAME_IDEAS));
+        print_against(to, us, quickest(&m->t, FURTHER_IDEAS, FURTHER_IDEAS));
+        print_against(to, us, quickest(&m->t, LIMIT, LIMIT));
+        fprintf(to, "\n");
+    }
+    fprintf(to, "\n");
+}
+
+void print_growth(FILE *to, const growth *g)
+{
+    fprintf(to, "Checked find on a crowded pool as %s grow, %s:\n\n", g->along, g->at);
+    fprintf(to, "| %-7s | %-7s | %-17s | %-24s | %-13s | %-24s | %-13s | %-24s | %-13s |\n", "engine", g->along,
+            "proved", "twin, same ideas", "proved / twin", "twin, further ideas", "proved / twin", "limit",
+            "proved/limit");
+    fprintf(to, "|---|---:|---:|---|---:|---|---:|---|---:|\n");
+    for (int e = 0; e < 2; e++)
+        for (size_t i = 0; i < g->count; i++) {
+            const timings *t = &g->points[e][i].t;
+            const timed *us = quickest(t, PROVED, PROVED);
+            fprintf(to, "| %-7s | %7zu |", engine_name((enum engine)e), g->x[i]);
+            print_proved(to, us);
+            print_against(to, us, quickest(t, SAME_IDEAS, SAME_IDEAS));
+            print_against(to, us, quickest(t, FURTHER_IDEAS, FURTHER_IDEAS));
+            print_against(to, us, quickest(t, LIMIT, LIMIT));
+            fprintf(to, "\n");
+        }
+    fprintf(to, "\n");
+}
+
+// ---- in short
+
+// The rows in which the proved code takes more than 1.2 times what the twins of these groups take.
+static size_t rows_above(const measured *rows, size_t count, enum group first, enum group last)
+{
+    size_t above = 0;
+    for (size_t i = 0; i < count; i++) {
+        const timed *twin = quickest(&rows[i].t, first, last);
+        above += twin != NULL && quickest(&rows[i].t, PROVED, PROVED)->least > 1.2 * twin->least;
+    }
+    return above;
+}
+
+// The largest ratio to memcmp of a checked find on 16,384 words with so many slots.
+static double find_to_memcmp(const measured *rows, size_t count, enum engine e, size_t records)
+{
+    double most = 0;
+    for (size_t i = 0; i < count; i++) {
+        const measured *m = &rows[i];
+        if (m->engine != e || m->call != FIND || m->words != POOL_WORDS || m->records != records)
+            continue;
+        double r = ratio(quickest(&m->t, PROVED, PROVED)->least, quickest(&m->t, LIMIT, LIMIT)->least);
+        most = r > most ? r : most;
+    }
+    return most;
+}
+
+void print_summary(FILE *to, const measured *rows, size_t count)
+{
+    fprintf(to, "- Rows in which the proved code takes more than 1.2 times the best twin with the same ideas: ");
+    fprintf(to, "%zu of %zu; with any: %zu.\n", rows_above(rows, count, SAME_IDEAS, SAME_IDEAS), count,
+            rows_above(rows, count, SAME_IDEAS, FURTHER_IDEAS));
+    fprintf(to, "- A checked find on 16,384 words takes at most so many times memcmp of the arena:");
+    for (int e = TREE; e <= SEGMENT; e++)
+        fprintf(to, " %s %.1f with 16 slots, %.1f with 256%s", engine_name((enum engine)e),
+                find_to_memcmp(rows, count, (enum engine)e, 16), find_to_memcmp(rows, count, (enum engine)e, 256),
+                e == TREE ? ";" : ".\n");
+}

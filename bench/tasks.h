@@ -1,0 +1,13 @@
+// What is measured on a pool, and what the same bytes cost the machine itself.
+#ifndef TASKS_H
+#define TASKS_H
+
+#include "timing.h"
+
+enum call { FIND, PAIR, LIST, FORMAT };
+
+const char *call_name(enum call c);
+
+contest contest_of(enum call c, const pool *p);
+
+#endif

@@ -1,0 +1,90 @@
+#include "timing.h"
+
+#include <stdio.h>
+#include <stdlib.h>
+#include <time.h>
+
+static double now(void)
+{
+    struct timespec t;
+    clock_gettime(CLOCK_MONOTONIC, &t);
+    return 1e9 * (double)t.tv_sec + (double)t.tv_nsec;
+}
+
+// The time of one repetition.
+static double sample(const contest *c, size_t k, pool *p, size_t repetitions)
+{
+    bool limit = k == contestant_count;
+    const contestant *who = limit ? NULL : &contestants[k];
+    task work = limit ? c->limit : c->work;
+    uint64_t sum = 0;
+    double start = now();
+    for (size_t i = 0; i < repetitions; i++)
+        sum += work(who, p);
+    double took = now() - start;
+    if (sum != (limit ? 0 : repetitions * c->answer)) {
+        fprintf(stderr, "bench: %s: a wrong answer while it was measured\n", limit ? c->limit_name : who->name);
+        exit(1);
+    }
+    return took / (double)repetitions;
+}
+
+static size_t repetitions_for(double nanoseconds, const contest *c, size_t k, pool *p)
+{
+    for (size_t n = 1;; n *= 2) {
+        double took = sample(c, k, p, n) * (double)n;
+        if (took >= nanoseconds / 4)
+            return (size_t)(nanoseconds * (double)n / took) + 1;
+    }
+}
+
+static void name_entrants(timings *t, const contest *c)
+{
+    t->count = contestant_count + 1;
+    for (size_t k = 0; k < contestant_count; k++) {
+        t->by[k].name = contestants[k].name;
+        t->by[k].group = contestants[k].group;
+    }
+    t->by[contestant_count].name = c->limit_name;
+    t->by[contestant_count].group = LIMIT;
+}
+
+void time_pass(timings *t, effort e, pool *p, contest c)
+{
+    size_t repetitions[ENTRANTS_MOST];
+    name_entrants(t, &c);
+    for (size_t k = 0; k < t->count; k++)
+        repetitions[k] = repetitions_for(e.sample, &c, k, p);
+    for (int r = 0; r < e.rounds; r++) {
+        for (size_t i = 0; i < t->count; i++) {
+            size_t k = (i + t->taken) % t->count;
+            t->by[k].samples[t->taken] = sample(&c, k, p, repetitions[k]) / (double)c.parts;
+        }
+        t->taken++;
+    }
+}
+
+static int by_size(const void *a, const void *b)
+{
+    double x = *(const double *)a, y = *(const double *)b;
+    return (x > y) - (x < y);
+}
+
+void sum_up(timings *t)
+{
+    for (size_t k = 0; k < t->count; k++) {
+        timed *w = &t->by[k];
+        qsort(w->samples, t->taken, sizeof w->samples[0], by_size);
+        w->least = w->samples[0];
+        w->median = w->samples[t->taken / 2];
+    }
+}
+
+const timed *quickest(const timings *t, enum group first, enum group last)
+{
+    const timed *best = NULL;
+    for (size_t k = 0; k < t->count; k++)
+        if (t->by[k].group >= first && t->by[k].group <= last && (best == NULL || t->by[k].least < best->least))
+            best = &t->by[k];
+    return best;
+}

@@ -1,0 +1,144 @@
+/* Wrong libraries, to show that the comparison can fail: each wrap stands before the real call and, if BROKEN names
+   its kind, slips. Kind 0 is the library as it is. Most slips are those that document 01 lists. */
+#include "lingfurrow.h"
+#include <stdlib.h>
+
+static int broken(int kind)
+{
+    static int chosen = -1;
+    if (chosen < 0) {
+        const char *named = getenv("BROKEN");
+        chosen = named ? atoi(named) : 0;
+    }
+    return chosen == kind;
+}
+
+#define TREE uint32_t *arena, size_t arena_len, uint32_t *table, size_t table_len
+#define TREE_PASSED arena, arena_len, table, table_len
+#define SEGMENT                                                                                                       \
+    int32_t *arena, size_t arena_len, uint32_t *table, size_t table_len, uint32_t segments, uint32_t *index,          \
+        size_t index_len
+#define SEGMENT_PASSED arena, arena_len, table, table_len, segments, index, index_len
+#define NAMED uint32_t ticket, uint32_t address, uint32_t words
+#define NAMED_PASSED ticket, address, words
+#define LISTED const uint32_t *requests, size_t requests_len, uint32_t *answers, size_t answers_len
+#define LISTED_PASSED requests, requests_len, answers, answers_len
+
+lf_tree_outcome __real_lf_tree_format(TREE);
+lf_tree_outcome __real_lf_tree_allocate(lf_tree_head head, TREE, uint32_t words);
+lf_tree_outcome __real_lf_tree_release(lf_tree_head head, TREE, NAMED);
+lf_answer __real_lf_tree_find(lf_tree_head head, const uint32_t *arena, size_t arena_len, const uint32_t *table,
+                              size_t table_len, NAMED);
+lf_tree_outcome __real_lf_tree_list(lf_tree_head head, TREE, LISTED);
+lf_segment_outcome __real_lf_segment_allocate(uint32_t next, SEGMENT, uint32_t words);
+lf_segment_outcome __real_lf_segment_release(uint32_t next, SEGMENT, NAMED);
+
+lf_tree_outcome __wrap_lf_tree_format(TREE)
+{
+    lf_tree_outcome done = __real_lf_tree_format(TREE_PASSED);
+    if (broken(1) && (uintptr_t)(table + table_len) % 4096) /* writes one word behind the table, where it can */
+        table[table_len] = 0;
+    return done;
+}
+
+lf_tree_outcome __wrap_lf_tree_allocate(lf_tree_head head, TREE, uint32_t words)
+{
+    if (broken(2)) /* lengths cut to 32 bits */
+        arena_len = (uint32_t)arena_len;
+    lf_tree_outcome done = __real_lf_tree_allocate(head, TREE_PASSED, words);
+    if (broken(3)) /* always address 0 */
+        done.answer.address = 0;
+    if (broken(4) && done.answer.number == LF_NO_ROOM) /* a refusal uses up a ticket */
+        done.head.next++;
+    return done;
+}
+
+/* Of equal lengths the later one above: the root and its right son change places. */
+static lf_tree_head turned(lf_tree_head head, uint32_t *arena)
+{
+    uint32_t *root = head.root ? arena + 2 * (head.root - 1) : 0;
+    uint32_t link = root ? root[1] >> 16 : 0;
+    uint32_t *son = link ? arena + 2 * (link - 1) : 0;
+    if (!son || son[0] != root[0])
+        return head;
+    root[1] = (root[1] & 65535) | (son[1] & 65535) << 16;
+    son[1] = (son[1] & ~65535u) | head.root;
+    head.root = link;
+    return head;
+}
+
+/* The ticket of whoever holds this place now. */
+static uint32_t holder(const uint32_t *table, size_t table_len, NAMED)
+{
+    for (size_t at = 0; at + 2 < table_len; at += 3)
+        if (table[at + 1] == address && table[at + 2] == words)
+            return table[at];
+    return ticket;
+}
+
+lf_tree_outcome __wrap_lf_tree_release(lf_tree_head head, TREE, NAMED)
+{
+    lf_answer found = __real_lf_tree_find(head, TREE_PASSED, NAMED_PASSED);
+    lf_tree_outcome as_it_was = { head, found };
+    if (broken(5)) /* does nothing */
+        return as_it_was;
+    if (broken(6) && ticket == 0 && address == 0 && words == 0 && found.number == LF_UNKNOWN_TICKET) {
+        as_it_was.answer.number = LF_OK; /* an empty record matched by ticket 0 */
+        return as_it_was;
+    }
+    if (broken(7) && found.number == LF_UNKNOWN_TICKET) /* address and words only */
+        ticket = holder(table, table_len, NAMED_PASSED);
+    lf_tree_outcome done = __real_lf_tree_release(head, TREE_PASSED, NAMED_PASSED);
+    if (broken(8) && done.answer.number == 0)
+        done.head = turned(done.head, arena);
+    if (broken(9) && done.answer.number == 0 && arena[address] == 0) /* an old header inside a merged block */
+        arena[address] = 1;
+    return done;
+}
+
+lf_answer __wrap_lf_tree_find(lf_tree_head head, const uint32_t *arena, size_t arena_len, const uint32_t *table,
+                              size_t table_len, NAMED)
+{
+    if (broken(10)) { /* reads one word behind the arena */
+        volatile uint32_t read = arena[arena_len];
+        (void)read;
+    }
+    return __real_lf_tree_find(head, TREE_PASSED, NAMED_PASSED);
+}
+
+lf_tree_outcome __wrap_lf_tree_list(lf_tree_head head, TREE, LISTED)
+{
+    size_t served = broken(11) && requests_len > 4 && requests_len % 4 == 0 ? 4 : requests_len;
+    lf_tree_outcome done = __real_lf_tree_list(head, TREE_PASSED, requests, served, answers, answers_len);
+    for (size_t at = 4; served == 4 && done.answer.number == 0 && at < requests_len && at < answers_len; at++)
+        answers[at] = at % 4 ? requests[at] : 0; /* performs the first request and echoes the rest */
+    return done;
+}
+
+/* Leaf 0 for a segment that holds only held blocks. */
+static void forget_held(const int32_t *arena, uint32_t segments, uint32_t *index)
+{
+    for (uint32_t at = 0; at < segments; at++)
+        if (index[segments + at] == 1 && arena[index[2 * segments + at]] < 0)
+            index[segments + at] = 0;
+}
+
+lf_segment_outcome __wrap_lf_segment_allocate(uint32_t next, SEGMENT, uint32_t words)
+{
+    lf_segment_outcome done = __real_lf_segment_allocate(next, SEGMENT_PASSED, words);
+    if (broken(12) && done.answer.number == 0)
+        forget_held(arena, segments, index);
+    if (broken(13)) { /* refuses everything */
+        lf_segment_outcome refused = { next, { LF_NO_ROOM, 0, 0, 0 } };
+        return refused;
+    }
+    return done;
+}
+
+lf_segment_outcome __wrap_lf_segment_release(uint32_t next, SEGMENT, NAMED)
+{
+    lf_segment_outcome done = __real_lf_segment_release(next, SEGMENT_PASSED, NAMED_PASSED);
+    if (broken(14) && done.answer.number == 0) /* words of the released block not wiped */
+        arena[address] = 1;
+    return done;
+}

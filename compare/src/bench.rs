@@ -1,0 +1,219 @@
+//! The bench: the library's buffers beside the model's pool. Every step makes one call on both and
+//! compares the answer, the head and every word of every buffer, guards included.
+
+use crate::guarded::{Guarded, Words};
+use crate::library::{Lent, Library, Played};
+use crate::model::{self, Call, Head, Outcome, Placeholder, Pool, Slice};
+use crate::random::Random;
+use crate::tally::Tally;
+use crate::{situations, watch};
+use std::ops::Range;
+
+pub struct Bench {
+    pub section: &'static str,
+    pub tally: Tally,
+    steps: u64,
+    place: Random,
+    library: Library,
+    aside: Lent,
+}
+
+/// One buffer that a stray call brings: a part of the pool's own, or another.
+#[derive(Clone)]
+pub enum Part {
+    Own(Range<usize>),
+    Other(Vec<u32>),
+}
+
+/// What a stray call brings instead of the pool.
+#[derive(Clone)]
+pub struct Stray {
+    pub head: Head,
+    pub segments: u32,
+    pub arena: Part,
+    pub table: Part,
+    pub index: Part,
+}
+
+impl Bench {
+    pub fn new(seed: u64) -> Bench {
+        let (tally, place) = (Tally::default(), Random::new(seed));
+        Bench { section: "", tally, steps: 0, place, library: Library::new(), aside: Lent::new() }
+    }
+
+    /// Lends the library a copy of this pool.
+    pub fn lend(&mut self, pool: &Pool) {
+        self.library.lend(pool, &mut self.place);
+    }
+
+    /// The same writing by callers on both sides.
+    pub fn write(&mut self, pool: &mut Pool, at: usize, word: u32) {
+        pool.arena[at] = word;
+        self.library.lent.arena.words_mut()[at] = word;
+    }
+
+    /// One call on a pool of its own.
+    pub fn once(&mut self, pool: &Pool, call: &Call) -> Outcome {
+        let mut pool = pool.clone();
+        self.lend(&pool);
+        self.step(&mut pool, call)
+    }
+
+    /// One call on the pool as lent: on the library's buffers, and on the model's pool.
+    pub fn step(&mut self, pool: &mut Pool, call: &Call) -> Outcome {
+        watch::case(self.steps);
+        self.steps += 1;
+        let before = pool.clone();
+        self.library.lend_for(call, &mut self.place);
+        let played = self.library.play(pool, call);
+        let outcome = model::make(pool, call);
+        let differences = self.differences(pool, call, &played, &outcome);
+        if !differences.is_empty() {
+            let size = before.arena.len() + before.table.len() + before.index.len();
+            let told = self.tell(&before, call, &outcome, &differences);
+            self.tally.mismatch(self.section, size, told);
+            self.lend(pool);
+        }
+        self.tally.case(pool.engine, self.section, call, &outcome);
+        situations::note(&mut self.tally, &before, call, &outcome);
+        outcome
+    }
+
+    /// A call that brings something else than the pool, and is refused: the pool must stay as it was.
+    pub fn stray(&mut self, pool: &Pool, stray: &Stray, call: &Call) -> Outcome {
+        let known = self.tally.mismatches;
+        let mut brought = stray.over(pool);
+        self.bring(stray);
+        let outcome = self.step(&mut brought, call);
+        self.bring_back(stray);
+        if !self.holds(pool) {
+            let told = format!("  refused, yet the pool changed: {call:?}");
+            self.tally.mismatch(self.section, pool.arena.len(), told);
+        }
+        if self.tally.mismatches > known {
+            self.lend(pool);
+        }
+        outcome
+    }
+
+    /// Are the library's buffers, guards included, exactly this pool?
+    pub fn holds(&self, pool: &Pool) -> bool {
+        let mut all = Vec::new();
+        compare_words("arena", &pool.arena, &self.library.lent.arena, &mut all);
+        compare_words("table", &pool.table, &self.library.lent.table, &mut all);
+        compare_words("index", &pool.index, &self.library.lent.index, &mut all);
+        all.is_empty()
+    }
+
+    fn bring(&mut self, stray: &Stray) {
+        let (lent, aside) = (&mut self.library.lent, &mut self.aside);
+        bring_part(&stray.arena, &mut lent.arena, &mut aside.arena, &mut self.place);
+        bring_part(&stray.table, &mut lent.table, &mut aside.table, &mut self.place);
+        bring_part(&stray.index, &mut lent.index, &mut aside.index, &mut self.place);
+    }
+
+    fn bring_back(&mut self, stray: &Stray) {
+        let (lent, aside) = (&mut self.library.lent, &mut self.aside);
+        bring_part_back(&stray.arena, &mut lent.arena, &mut aside.arena);
+        bring_part_back(&stray.table, &mut lent.table, &mut aside.table);
+        bring_part_back(&stray.index, &mut lent.index, &mut aside.index);
+    }
+
+    fn differences(&self, pool: &Pool, call: &Call, played: &Played, outcome: &Outcome) -> Vec<String> {
+        let mut all = Vec::new();
+        let slice = outcome.slice.map(|slice| self.place_of(slice, call));
+        differ("slice", &slice, &played.slice, &mut all);
+        if slice.is_none() {
+            differ("answer", &outcome.answer, &played.answer, &mut all);
+            differ("head", &outcome.head, &played.head, &mut all);
+        }
+        compare_words("arena", &pool.arena, &self.library.lent.arena, &mut all);
+        compare_words("table", &pool.table, &self.library.lent.table, &mut all);
+        compare_words("index", &pool.index, &self.library.lent.index, &mut all);
+        if let Call::List { requests, .. } = call {
+            compare_words("requests", requests, &self.library.requests, &mut all);
+            compare_words("answers", &outcome.answers, &self.library.answers, &mut all);
+        }
+        if let Call::Look(_, Placeholder::Own(words)) = call {
+            compare_words("placeholder", words, &self.library.placeholder, &mut all);
+        }
+        all
+    }
+
+    /// Where a slice due lies in the library's buffers, and its length.
+    fn place_of(&self, slice: Slice, call: &Call) -> (usize, usize) {
+        let due = match slice {
+            Slice::Arena { from, len } => Words { at: self.library.lent.arena.lies().at.wrapping_add(from), len },
+            Slice::Placeholder => self.library.placeholder_for(call),
+        };
+        (due.at as usize, due.len)
+    }
+
+    fn tell(&self, before: &Pool, call: &Call, outcome: &Outcome, differences: &[String]) -> String {
+        let shown = |words: &[u32]| match words.len() {
+            0..=96 => format!("{words:?}"),
+            long => format!("{long} words, the first {:?}", &words[..64]),
+        };
+        let Pool { engine, head, segments, arena, table, index } = before;
+        let called: String = format!("{call:?}").chars().take(900).collect();
+        [
+            format!("  section {}, step {}: {engine:?} {head:?} S {segments}", self.section, self.steps - 1),
+            format!("  arena {}\n  table {}\n  index {}", shown(arena), shown(table), shown(index)),
+            format!("  call {called}\n  due {:?} {:?}", outcome.answer, outcome.head),
+            format!("  {}", differences.join("\n  ")),
+        ]
+        .join("\n")
+    }
+}
+
+impl Stray {
+    /// What the call is given, put together.
+    pub fn over(&self, pool: &Pool) -> Pool {
+        let taken = |part: &Part, own: &[u32]| match part {
+            Part::Own(range) => own[range.clone()].to_vec(),
+            Part::Other(words) => words.clone(),
+        };
+        Pool {
+            engine: pool.engine,
+            head: self.head,
+            arena: taken(&self.arena, &pool.arena),
+            table: taken(&self.table, &pool.table),
+            segments: self.segments,
+            index: taken(&self.index, &pool.index),
+        }
+    }
+}
+
+fn bring_part(part: &Part, lent: &mut Guarded, aside: &mut Guarded, place: &mut Random) {
+    match part {
+        Part::Own(range) => lent.narrow(range.clone()),
+        Part::Other(words) => {
+            std::mem::swap(lent, aside);
+            lent.lend(words, place);
+        }
+    }
+}
+
+fn bring_part_back(part: &Part, lent: &mut Guarded, aside: &mut Guarded) {
+    match part {
+        Part::Own(_) => lent.widen(),
+        Part::Other(_) => std::mem::swap(lent, aside),
+    }
+}
+
+fn differ<T: PartialEq + std::fmt::Debug>(what: &str, due: &T, got: &T, all: &mut Vec<String>) {
+    if due != got {
+        all.push(format!("{what}: due {due:?}, got {got:?}"));
+    }
+}
+
+fn compare_words(what: &str, due: &[u32], got: &Guarded, all: &mut Vec<String>) {
+    if !got.guards_stand() {
+        all.push(format!("{what}: guard words overwritten"));
+    }
+    if due != got.words() {
+        let places = due.iter().zip(got.words()).enumerate().filter(|(_, (due, got))| due != got);
+        let told: Vec<String> = places.take(8).map(|(at, (due, got))| format!("[{at}] due {due} got {got}")).collect();
+        all.push(format!("{what}: {}", told.join(", ")));
+    }
+}

@@ -1,0 +1,140 @@
+//! Random calls, aimed at a ledger so that every number is reached.
+
+use crate::ledger::{Ledger, Record, UnitRule};
+use crate::model::{Call, Placeholder};
+use crate::random::Random;
+
+pub fn any(ledger: &Ledger, arena_words: usize, random: &mut Random) -> Call {
+    match random.below(32) {
+        0 => Call::Format,
+        1..12 => Call::Allocate(words(ledger, random)),
+        12..19 => Call::Release(named(ledger, random)),
+        19..23 => Call::Find(named(ledger, random)),
+        23..27 => look(ledger, arena_words, random),
+        _ => list(ledger, random),
+    }
+}
+
+/// Words to ask for: wrong ones, ones that just fit or just do not, small ones.
+pub fn words(ledger: &Ledger, random: &mut Random) -> u32 {
+    let free = ledger.free_runs();
+    let longest = free.iter().map(|run| run.count).max().unwrap_or(0);
+    let chosen = if free.is_empty() { 0 } else { free[random.below(free.len())].count };
+    let most = match ledger.rule {
+        UnitRule::Cells => 2 * longest as u32,
+        UnitRule::ControlledWords => (longest as u32).saturating_sub(1),
+    };
+    match random.below(20) {
+        0 => 0,
+        1 => random.pick(&[16_385, 16_386, 32_768, 65_536, u32::MAX, u32::MAX - 1]),
+        2 => 16_384,
+        3 => random.word(),
+        4..7 => most + 1,
+        7..10 => most,
+        10..13 => (chosen as u32 * 2).saturating_sub(random.below(3) as u32),
+        13..16 => (chosen as u32).saturating_sub(random.below(3) as u32),
+        _ => random.between(1, 8) as u32,
+    }
+}
+
+/// A record to name: a live one in half the cases, else one wrong in a word or three.
+pub fn named(ledger: &Ledger, random: &mut Random) -> Record {
+    let live: Vec<Record> = ledger.live().collect();
+    let stray = Record { ticket: 0, address: random.below(ledger.units * 2) as u32, words: random.below(9) as u32 };
+    if live.is_empty() {
+        return Record { ticket: unknown(ledger, random), ..stray };
+    }
+    let right = random.pick(&live);
+    let other = random.pick(&live);
+    let near = |word: u32, random: &mut Random| match random.below(4) {
+        0 => word.wrapping_add(1),
+        1 => word.wrapping_sub(1),
+        2 => word ^ (1 << random.below(32)),
+        _ => random.word(),
+    };
+    match random.below(18) {
+        0 => Record { address: near(right.address, random), ..right },
+        1 => Record { words: near(right.words, random), ..right },
+        2 => Record { ticket: near(right.ticket, random), ..right },
+        3 => Record { ticket: unknown(ledger, random), ..right },
+        4 => Record { ticket: 0, address: 0, words: 0 },
+        5 => Record { ticket: right.ticket, ..other },
+        6 => Record { ticket: right.ticket, ..stray },
+        7 => Record { ticket: unknown(ledger, random), ..stray },
+        _ => right,
+    }
+}
+
+/// Mostly a ticket that is not live: 0, the next one, one given out before.
+fn unknown(ledger: &Ledger, random: &mut Random) -> u32 {
+    match random.below(4) {
+        0 => 0,
+        1 => ledger.next,
+        2 => random.word(),
+        _ => (random.long() % ledger.next.max(1) as u64) as u32,
+    }
+}
+
+pub fn look(ledger: &Ledger, arena_words: usize, random: &mut Random) -> Call {
+    let placeholder = if random.one_in(4) {
+        let from = random.below(arena_words + 1);
+        Placeholder::PartOfArena { from, len: random.below(arena_words - from + 1) }
+    } else {
+        let mut own = vec![0; random.pick(&[0, 1, 2, 3, 8, 64, 256])];
+        random.fill(&mut own);
+        Placeholder::Own(own)
+    };
+    Call::Look(named(ledger, random), placeholder)
+}
+
+/// A list, now and then as long as allowed or one longer, with answers' room of any length.
+pub fn list(ledger: &Ledger, random: &mut Random) -> Call {
+    let count = match random.below(200) {
+        0..20 => 0,
+        20..50 => 1,
+        50..180 => random.between(2, 12),
+        180..197 => random.between(12, 80),
+        197 => 1_025,
+        _ => 1_024,
+    };
+    let mut requests = requests(ledger, count, random);
+    if random.one_in(12) {
+        requests.resize((requests.len() + 4).saturating_sub(random.between(1, 7)), 1);
+    }
+    let room = match random.below(10) {
+        0..5 => requests.len(),
+        5..9 => requests.len() + random.between(1, 24),
+        _ => requests.len().saturating_sub(random.between(1, 8)),
+    };
+    let mut answers = vec![0; room];
+    random.fill(&mut answers);
+    Call::List { requests, answers }
+}
+
+/// Requests, each aimed at the ledger as the ones before leave it.
+pub fn requests(ledger: &Ledger, count: usize, random: &mut Random) -> Vec<u32> {
+    let mut ledger = ledger.clone();
+    let mut requests = Vec::with_capacity(4 * count);
+    for _ in 0..count {
+        requests.extend(request(&mut ledger, random));
+    }
+    requests
+}
+
+fn request(ledger: &mut Ledger, random: &mut Random) -> [u32; 4] {
+    match random.below(24) {
+        0 => [random.pick(&[0, 3, 4, 9, 257, 65_537, u32::MAX]), random.word() % 9, 0, 0],
+        1 => [1, words(ledger, random), random.below(2) as u32, 1],
+        2 => [1, words(ledger, random), random.pick(&[1, 65_536, u32::MAX]), 0],
+        3..13 => {
+            let words = words(ledger, random);
+            let _ = ledger.grant(words);
+            [1, words, 0, 0]
+        }
+        _ => {
+            let named = named(ledger, random);
+            let _ = ledger.release(named);
+            [2, named.ticket, named.address, named.words]
+        }
+    }
+}

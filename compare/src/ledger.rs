@@ -1,0 +1,186 @@
+//! The plain ledger of document 01: records, the unit rule, free runs, the lowest fit.
+//! Nothing here knows an engine. Numbers are read as 64-bit, so nothing wraps round.
+
+/// What a unit is, and what a request takes.
+#[derive(Clone, Copy, PartialEq, Eq, Debug)]
+pub enum UnitRule {
+    /// Two words to a unit; n words take n/2 units rounded up; the address is the first word.
+    Cells,
+    /// One word to a unit; n words take n + 1; the address is the word after the first.
+    ControlledWords,
+}
+
+#[derive(Clone, Copy, PartialEq, Eq, Debug)]
+pub struct Record {
+    pub ticket: u32,
+    pub address: u32,
+    pub words: u32,
+}
+
+/// Units that lie together.
+#[derive(Clone, Copy, PartialEq, Eq, Debug)]
+pub struct Run {
+    pub first: usize,
+    pub count: usize,
+}
+
+#[derive(Clone, PartialEq, Eq, Debug)]
+pub struct Ledger {
+    pub rule: UnitRule,
+    pub units: usize,
+    pub slots: Vec<Option<Record>>,
+    pub next: u32,
+}
+
+impl Run {
+    pub fn end(self) -> usize {
+        self.first + self.count
+    }
+}
+
+impl UnitRule {
+    pub fn units_in(self, arena_words: usize) -> usize {
+        match self {
+            UnitRule::Cells => arena_words / 2,
+            UnitRule::ControlledWords => arena_words,
+        }
+    }
+
+    pub fn units_for(self, words: u32) -> usize {
+        match self {
+            UnitRule::Cells => (words as usize).div_ceil(2),
+            UnitRule::ControlledWords => words as usize + 1,
+        }
+    }
+
+    /// The unit a block at this address begins with, if one begins so.
+    pub fn first_unit(self, address: u32) -> Option<usize> {
+        match self {
+            UnitRule::Cells => (address % 2 == 0).then_some(address as usize / 2),
+            UnitRule::ControlledWords => (address as usize).checked_sub(1),
+        }
+    }
+
+    pub fn address_of(self, first: usize) -> u32 {
+        match self {
+            UnitRule::Cells => first as u32 * 2,
+            UnitRule::ControlledWords => first as u32 + 1,
+        }
+    }
+
+    /// The words of the arena that these units are.
+    pub fn words_of(self, run: Run) -> std::ops::Range<usize> {
+        match self {
+            UnitRule::Cells => 2 * run.first..2 * run.end(),
+            UnitRule::ControlledWords => run.first..run.end(),
+        }
+    }
+}
+
+impl Ledger {
+    pub fn empty(rule: UnitRule, arena_words: usize, slots: usize) -> Ledger {
+        Ledger { rule, units: rule.units_in(arena_words), slots: vec![None; slots], next: 1 }
+    }
+
+    /// The one ledger that this table, next ticket and arena length name, if they name one.
+    pub fn read(rule: UnitRule, arena_words: usize, table: &[u32], next: u32) -> Option<Ledger> {
+        let slots: Option<Vec<_>> = table.chunks_exact(3).map(read_slot).collect();
+        let ledger = Ledger { rule, units: rule.units_in(arena_words), slots: slots?, next };
+        let lawful = ledger.live().all(|record| ledger.allows(record));
+        (lawful && ledger.tickets_differ() && ledger.blocks_stand_apart()).then_some(ledger)
+    }
+
+    pub fn table(&self) -> Vec<u32> {
+        let words = |slot: &Option<Record>| slot.map_or([0; 3], |r| [r.ticket, r.address, r.words]);
+        self.slots.iter().flat_map(words).collect()
+    }
+
+    pub fn live(&self) -> impl Iterator<Item = Record> + '_ {
+        self.slots.iter().flatten().copied()
+    }
+
+    /// The units of a record that starts on a unit.
+    pub fn units_of(&self, record: Record) -> Option<Run> {
+        let first = self.rule.first_unit(record.address)?;
+        Some(Run { first, count: self.rule.units_for(record.words) })
+    }
+
+    fn allows(&self, record: Record) -> bool {
+        let inside = self.units_of(record).is_some_and(|run| run.end() <= self.units);
+        let given_out = self.next == 0 || record.ticket < self.next;
+        inside && given_out && record.ticket != 0 && record.words >= 1
+    }
+
+    fn tickets_differ(&self) -> bool {
+        let mut tickets: Vec<u32> = self.live().map(|record| record.ticket).collect();
+        tickets.sort_unstable();
+        tickets.windows(2).all(|pair| pair[0] != pair[1])
+    }
+
+    fn blocks_stand_apart(&self) -> bool {
+        self.held_runs().windows(2).all(|pair| pair[0].end() <= pair[1].first)
+    }
+
+    /// Each record's units, by address; two that touch stay two.
+    pub fn held_runs(&self) -> Vec<Run> {
+        let mut runs: Vec<Run> = self.live().filter_map(|record| self.units_of(record)).collect();
+        runs.sort_unstable_by_key(|run| run.first);
+        runs
+    }
+
+    /// The longest runs of free units, by address.
+    pub fn free_runs(&self) -> Vec<Run> {
+        let mut free = Vec::new();
+        let mut from = 0;
+        for held in self.held_runs() {
+            if held.first > from {
+                free.push(Run { first: from, count: held.first - from });
+            }
+            from = held.end();
+        }
+        if self.units > from {
+            free.push(Run { first: from, count: self.units - from });
+        }
+        free
+    }
+
+    /// Grants a request, or says its number: 2, 3, 4, 5 in this order.
+    pub fn grant(&mut self, words: u32) -> Result<Record, u32> {
+        if words == 0 || words > 16_384 {
+            return Err(2);
+        }
+        let slot = self.slots.iter().position(Option::is_none).ok_or(3u32)?;
+        if self.next == 0 {
+            return Err(4);
+        }
+        let wanted = self.rule.units_for(words);
+        let run = self.free_runs().into_iter().find(|run| run.count >= wanted).ok_or(5u32)?;
+        let record = Record { ticket: self.next, address: self.rule.address_of(run.first), words };
+        self.slots[slot] = Some(record);
+        self.next = self.next.wrapping_add(1);
+        Ok(record)
+    }
+
+    /// The slot of the record so named, or the number: 6, 7 in this order.
+    pub fn slot_of(&self, named: Record) -> Result<usize, u32> {
+        let has_ticket = |slot: &Option<Record>| slot.is_some_and(|r| r.ticket == named.ticket);
+        let slot = self.slots.iter().position(has_ticket).ok_or(6u32)?;
+        if self.slots[slot] == Some(named) { Ok(slot) } else { Err(7) }
+    }
+
+    pub fn release(&mut self, named: Record) -> Result<Record, u32> {
+        let slot = self.slot_of(named)?;
+        self.slots[slot] = None;
+        Ok(named)
+    }
+}
+
+/// An empty record is three zeros. Ticket 0 beside another word is no slot of any ledger.
+fn read_slot(words: &[u32]) -> Option<Option<Record>> {
+    match *words {
+        [0, 0, 0] => Some(None),
+        [0, _, _] => None,
+        [ticket, address, words] => Some(Some(Record { ticket, address, words })),
+        _ => None,
+    }
+}

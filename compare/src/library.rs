@@ -1,0 +1,171 @@
+//! The library under comparison: a call on lent words, and the buffers that are lent to it.
+
+use crate::abi::{self, TreeHead, Word, word};
+use crate::guarded::{Guarded, Words};
+use crate::model::{Answer, Call, Engine, Head, Placeholder, Pool};
+use crate::random::Random;
+
+/// What the library handed back; a look only its slice, by place and length.
+#[derive(Clone, Copy, PartialEq, Eq, Debug)]
+pub struct Played {
+    pub head: Head,
+    pub answer: Answer,
+    pub slice: Option<(usize, usize)>,
+}
+
+/// Where everything lies that a call may take.
+#[derive(Clone, Copy)]
+pub struct View {
+    pub arena: Words,
+    pub table: Words,
+    pub index: Words,
+    pub requests: Words,
+    pub answers: Words,
+    pub placeholder: Words,
+}
+
+/// What a pool lies in.
+pub struct Lent {
+    pub arena: Guarded,
+    pub table: Guarded,
+    pub index: Guarded,
+}
+
+pub struct Library {
+    pub lent: Lent,
+    pub requests: Guarded,
+    pub answers: Guarded,
+    pub placeholder: Guarded,
+}
+
+impl Lent {
+    pub fn new() -> Lent {
+        Lent { arena: Guarded::new(), table: Guarded::new(), index: Guarded::new() }
+    }
+}
+
+impl Library {
+    pub fn new() -> Library {
+        let (requests, answers, placeholder) = (Guarded::new(), Guarded::new(), Guarded::new());
+        Library { lent: Lent::new(), requests, answers, placeholder }
+    }
+
+    /// Lends a copy of this pool.
+    pub fn lend(&mut self, pool: &Pool, place: &mut Random) {
+        self.lent.arena.lend(&pool.arena, place);
+        self.lent.table.lend(&pool.table, place);
+        self.lent.index.lend(&pool.index, place);
+    }
+
+    /// Lends what this call takes beside the pool.
+    pub fn lend_for(&mut self, call: &Call, place: &mut Random) {
+        match call {
+            Call::List { requests, answers } => {
+                self.requests.lend(requests, place);
+                self.answers.lend(answers, place);
+            }
+            Call::Look(_, Placeholder::Own(words)) => self.placeholder.lend(words, place),
+            _ => {}
+        }
+    }
+
+    /// Makes the call with the pool's head and S on the buffers as they are lent.
+    pub fn play(&self, pool: &Pool, call: &Call) -> Played {
+        let view = View {
+            arena: self.lent.arena.lies(),
+            table: self.lent.table.lies(),
+            index: self.lent.index.lies(),
+            requests: self.requests.lies(),
+            answers: self.answers.lies(),
+            placeholder: self.placeholder_for(call),
+        };
+        play(pool, &view, call)
+    }
+
+    pub fn placeholder_for(&self, call: &Call) -> Words {
+        match call {
+            Call::Look(_, Placeholder::PartOfArena { from, len }) => {
+                Words { at: self.lent.arena.lies().at.wrapping_add(*from), len: *len }
+            }
+            _ => self.placeholder.lies(),
+        }
+    }
+}
+
+/// Makes the call with this head and S on the words in view.
+pub fn play(pool: &Pool, view: &View, call: &Call) -> Played {
+    match pool.engine {
+        Engine::Tree => play_tree(pool, view, call),
+        Engine::Segment => play_segment(pool, view, call),
+    }
+}
+
+/// Ticket, address and words, where the call has them.
+fn numbers_of(call: &Call) -> [Word; 3] {
+    let numbers = match call {
+        Call::Allocate(words) => [0, 0, *words],
+        Call::Release(named) | Call::Find(named) | Call::Look(named, _) => [named.ticket, named.address, named.words],
+        Call::Format | Call::List { .. } => [0; 3],
+    };
+    numbers.map(word)
+}
+
+fn play_tree(pool: &Pool, view: &View, call: &Call) -> Played {
+    let head = TreeHead { root: pool.head.root, next: pool.head.next };
+    let View { arena: a, table: t, requests: r, answers: w, placeholder: p, .. } = *view;
+    let [ticket, address, words] = numbers_of(call);
+    // SAFETY: the words are lent as far as said, and none that a call writes overlap.
+    let done = unsafe {
+        match call {
+            Call::Format => abi::lf_tree_format(a.at, a.len, t.at, t.len),
+            Call::Allocate(_) => abi::lf_tree_allocate(head, a.at, a.len, t.at, t.len, words),
+            Call::Release(_) => abi::lf_tree_release(head, a.at, a.len, t.at, t.len, ticket, address, words),
+            Call::List { .. } => abi::lf_tree_list(head, a.at, a.len, t.at, t.len, r.at, r.len, w.at, w.len),
+            Call::Find(_) => {
+                let answer = abi::lf_tree_find(head, a.at, a.len, t.at, t.len, ticket, address, words);
+                return Played { head: pool.head, answer, slice: None };
+            }
+            Call::Look(..) => {
+                let slice = abi::compare_tree_look(head, a.at, a.len, t.at, t.len, p.at, p.len, ticket, address, words);
+                return Played::look(pool, slice.words as usize, slice.len);
+            }
+        }
+    };
+    Played { head: Head { root: done.head.root, next: done.head.next }, answer: done.answer, slice: None }
+}
+
+fn play_segment(pool: &Pool, view: &View, call: &Call) -> Played {
+    let (next, s) = (word(pool.head.next), word(pool.segments));
+    let View { arena: a, table: t, index: i, requests: r, answers: w, placeholder: p } = *view;
+    let (v, own) = (a.at as *mut i32, p.at as *const i32);
+    let [ticket, address, words] = numbers_of(call);
+    // SAFETY: the words are lent as far as said, and none that a call writes overlap.
+    let done = unsafe {
+        match call {
+            Call::Format => abi::lf_segment_format(v, a.len, t.at, t.len, s, i.at, i.len),
+            Call::Allocate(_) => abi::lf_segment_allocate(next, v, a.len, t.at, t.len, s, i.at, i.len, words),
+            Call::Release(_) => {
+                abi::lf_segment_release(next, v, a.len, t.at, t.len, s, i.at, i.len, ticket, address, words)
+            }
+            Call::List { .. } => {
+                abi::lf_segment_list(next, v, a.len, t.at, t.len, s, i.at, i.len, r.at, r.len, w.at, w.len)
+            }
+            Call::Find(_) => {
+                let answer = abi::lf_segment_find(next, v, a.len, t.at, t.len, s, i.at, i.len, ticket, address, words);
+                return Played { head: pool.head, answer, slice: None };
+            }
+            Call::Look(..) => {
+                let look = abi::compare_segment_look;
+                let slice = look(next, v, a.len, t.at, t.len, s, i.at, i.len, own, p.len, ticket, address, words);
+                return Played::look(pool, slice.words as usize, slice.len);
+            }
+        }
+    };
+    Played { head: Head { root: 0, next: done.next }, answer: done.answer, slice: None }
+}
+
+impl Played {
+    fn look(pool: &Pool, at: usize, len: usize) -> Played {
+        Played { head: pool.head, answer: Answer::default(), slice: Some((at, len)) }
+    }
+}

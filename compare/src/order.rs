@@ -1,0 +1,273 @@
+//! Demand 3, played: one pool, one set of live tickets, two sequences that release them in different
+//! orders with refused calls, finds, looks and replays mixed in; then the same later calls on both.
+
+use crate::bench::{Bench, Part, Stray};
+use crate::ledger::{Ledger, Record};
+use crate::model::{self, Answer, Call, Engine, Outcome, Placeholder, Pool};
+use crate::random::Random;
+use crate::{calls, damage, lengths, pools};
+
+/// A sequence under way.
+struct Sequence {
+    pool: Pool,
+    ledger: Ledger,
+    /// The set's releases still to come, the next one last.
+    to_come: Vec<Record>,
+    spent: Vec<Record>,
+}
+
+/// A later call, and what callers write before it.
+struct Later {
+    writing: Vec<(usize, u32)>,
+    call: Call,
+}
+
+pub fn run(bench: &mut Bench, engine: Engine, cases: u64, random: &mut Random) {
+    bench.section = "demand 3";
+    let end = bench.tally.cases_of(engine) + cases;
+    while bench.tally.cases_of(engine) < end {
+        claim(bench, engine, random);
+    }
+}
+
+fn claim(bench: &mut Bench, engine: Engine, random: &mut Random) {
+    let start = pools::sound(engine, pools::shape(engine, random), random);
+    let ledger = start.ledger().expect("a stored form is sound");
+    let mut set: Vec<Record> = ledger.live().collect();
+    random.shuffle(&mut set);
+    set.truncate(if random.one_in(3) { set.len() } else { random.below(set.len().min(24) + 1) });
+    let mut after = ledger.clone();
+    for record in &set {
+        let _ = after.release(*record);
+    }
+    let due = Pool::stored(engine, &after, start.segments, &start.arena);
+    let mut first = play(bench, &start, &ledger, &set, random);
+    check(bench, &due, first == due && bench.holds(&due), "the first sequence's end is not the form due");
+    let (later, answers) = invent_later(bench, &mut first, random);
+    random.shuffle(&mut set);
+    let mut second = play(bench, &start, &ledger, &set, random);
+    check(bench, &due, second == due && bench.holds(&due), "the second sequence's end is not the form due");
+    let again = repeat_later(bench, &mut second, &later);
+    check(bench, &due, again == answers && second == first && bench.holds(&first), "later calls differ");
+    bench.tally.situation(engine, "demand 3: one ticket or none", set.len() < 2);
+    bench.tally.situation(engine, "demand 3: two to five tickets", (2..6).contains(&set.len()));
+    bench.tally.situation(engine, "demand 3: six tickets or more", set.len() > 5);
+}
+
+fn check(bench: &mut Bench, pool: &Pool, holds: bool, otherwise: &str) {
+    if !holds {
+        let told = format!("  demand 3, {:?}: {otherwise}", pool.engine);
+        bench.tally.mismatch(bench.section, pool.arena.len(), told);
+    }
+}
+
+fn play(bench: &mut Bench, start: &Pool, ledger: &Ledger, set: &[Record], random: &mut Random) -> Pool {
+    let (pool, ledger) = (start.clone(), ledger.clone());
+    let mut sequence = Sequence { pool, ledger, to_come: set.to_vec(), spent: Vec::new() };
+    let mut after = random.below(4);
+    bench.lend(start);
+    while after > 0 || !sequence.to_come.is_empty() {
+        if sequence.to_come.is_empty() {
+            after -= 1;
+        }
+        match random.below(8) {
+            0..3 => release_one(bench, &mut sequence),
+            3 => release_some(bench, &mut sequence, random),
+            _ => mix_in(bench, &mut sequence, random),
+        }
+    }
+    sequence.pool
+}
+
+fn accepted(named: Record) -> Answer {
+    Answer { number: 0, ticket: named.ticket, address: named.address, words: named.words }
+}
+
+fn release_one(bench: &mut Bench, sequence: &mut Sequence) {
+    let Some(named) = sequence.to_come.pop() else { return };
+    let outcome = bench.step(&mut sequence.pool, &Call::Release(named));
+    check(bench, &sequence.pool, outcome.answer == accepted(named), "a release of the set was not accepted");
+    let _ = sequence.ledger.release(named);
+    sequence.spent.push(named);
+}
+
+/// A list that carries some of the releases, refused requests between them.
+fn release_some(bench: &mut Bench, sequence: &mut Sequence, random: &mut Random) {
+    let (mut requests, mut due) = (Vec::new(), Vec::new());
+    for _ in 0..random.between(0, 12) {
+        if let (Some(named), true) = (sequence.to_come.last().copied(), random.one_in(2)) {
+            sequence.to_come.pop();
+            let _ = sequence.ledger.release(named);
+            sequence.spent.push(named);
+            requests.extend([2, named.ticket, named.address, named.words]);
+            due.push(Some(accepted(named)));
+        } else {
+            requests.extend(refused_request(sequence, random));
+            due.push(None);
+        }
+    }
+    let mut answers = vec![0; requests.len() + random.below(6)];
+    random.fill(&mut answers);
+    let outcome = bench.step(&mut sequence.pool, &Call::List { requests, answers });
+    let kept = due.iter().zip(outcome.answers.chunks_exact(4)).all(|(due, answer)| match due {
+        Some(Answer { number, ticket, address, words }) => answer == [*number, *ticket, *address, *words],
+        None => answer[0] != 0 && answer[1..] == [0, 0, 0],
+    });
+    check(bench, &sequence.pool, kept && outcome.answer == Answer::default(), "a listed request went wrong");
+}
+
+/// A request that is refused where it stands; asking for no words always is.
+fn refused_request(sequence: &Sequence, random: &mut Random) -> [u32; 4] {
+    let ledger = &sequence.ledger;
+    match random.below(6) {
+        0 => [random.pick(&[0, 3, u32::MAX]), 1, 0, 0],
+        1 => [1, 1, 0, 1],
+        2 => {
+            let named = replay(sequence, random);
+            [2, named.ticket, named.address, named.words]
+        }
+        3 | 4 => {
+            let words = calls::words(ledger, random);
+            if ledger.clone().grant(words).is_err() { [1, words, 0, 0] } else { [1, 0, 0, 0] }
+        }
+        _ => {
+            let named = calls::named(ledger, random);
+            if ledger.slot_of(named).is_err() { [2, named.ticket, named.address, named.words] } else { [1, 0, 0, 0] }
+        }
+    }
+}
+
+/// A release whose ticket is not live: one of the set again, or one spent before.
+fn replay(sequence: &Sequence, random: &mut Random) -> Record {
+    let mut named = calls::named(&sequence.ledger, random);
+    if !sequence.spent.is_empty() && !random.one_in(4) {
+        named = random.pick(&sequence.spent);
+    }
+    let live = sequence.ledger.live().any(|record| record.ticket == named.ticket);
+    Record { ticket: if live { 0 } else { named.ticket }, ..named }
+}
+
+fn mix_in(bench: &mut Bench, sequence: &mut Sequence, random: &mut Random) {
+    match random.below(8) {
+        0 => {
+            let call = Call::Release(replay(sequence, random));
+            let outcome = bench.step(&mut sequence.pool, &call);
+            check(bench, &sequence.pool, outcome.answer == Answer::refusal(6), "a replay was not refused");
+        }
+        1 => {
+            let call = Call::Release(replay(sequence, random));
+            let stray = stray(sequence, true, random);
+            let outcome = bench.stray(&sequence.pool, &stray, &call);
+            let refused = matches!(outcome.answer.number, 8 | 1 | 6);
+            check(bench, &sequence.pool, refused, "a replay that brings the pool's table was not refused");
+        }
+        2 => {
+            bench.step(&mut sequence.pool, &Call::Find(calls::named(&sequence.ledger, random)));
+        }
+        3 => {
+            let call = calls::look(&sequence.ledger, sequence.pool.arena.len(), random);
+            bench.step(&mut sequence.pool, &call);
+        }
+        4 | 5 => refused_whole(bench, sequence, random),
+        _ => refused_stray(bench, sequence, random),
+    }
+}
+
+/// A call on the pool itself that is refused as it stands.
+fn refused_whole(bench: &mut Bench, sequence: &mut Sequence, random: &mut Random) {
+    let call = match random.below(4) {
+        0 | 1 => Call::Allocate(calls::words(&sequence.ledger, random)),
+        2 => Call::Release(calls::named(&sequence.ledger, random)),
+        _ => calls::list(&sequence.ledger, random),
+    };
+    if is_refused(&mut sequence.pool.clone(), &call) {
+        bench.step(&mut sequence.pool, &call);
+    }
+}
+
+/// Any call that brings a wrong head, S, length or buffer and is refused.
+fn refused_stray(bench: &mut Bench, sequence: &mut Sequence, random: &mut Random) {
+    let stray = stray(sequence, false, random);
+    let mut brought = stray.over(&sequence.pool);
+    let call = calls::any(&sequence.ledger, brought.arena.len(), random);
+    if is_refused(&mut brought, &call) {
+        bench.stray(&sequence.pool, &stray, &call);
+    }
+}
+
+/// Refused; a list that is served counts as its requests.
+fn is_refused(pool: &mut Pool, call: &Call) -> bool {
+    let outcome = model::make(pool, call);
+    match (call, outcome.answer.number) {
+        (Call::List { requests, .. }, 0) => {
+            outcome.answers.chunks_exact(4).take(requests.len() / 4).all(|answer| answer[0] != 0)
+        }
+        (_, number) => number != 0,
+    }
+}
+
+/// Head, S and buffers, each the pool's own, a part of it, or another.
+fn stray(sequence: &Sequence, own_table: bool, random: &mut Random) -> Stray {
+    let pool = &sequence.pool;
+    let mut other = if random.one_in(3) {
+        let Pool { arena, table, segments, .. } = pool;
+        let shape = pools::Shape { words: arena.len(), slots: table.len() / 3, segments: *segments };
+        pools::sound(pool.engine, shape, random)
+    } else {
+        pool.clone()
+    };
+    match random.below(3) {
+        0 => lengths::misfit(&mut other, random),
+        1 => {
+            damage::any(&mut other, &sequence.ledger, random);
+        }
+        _ => {}
+    }
+    Stray {
+        head: if random.one_in(2) { pool.head } else { other.head },
+        segments: if random.one_in(2) { pool.segments } else { other.segments },
+        arena: part(&pool.arena, &other.arena, random),
+        table: if own_table { Part::Own(0..pool.table.len()) } else { part(&pool.table, &other.table, random) },
+        index: part(&pool.index, &other.index, random),
+    }
+}
+
+fn part(own: &[u32], other: &[u32], random: &mut Random) -> Part {
+    match random.below(6) {
+        0 | 1 => Part::Own(0..own.len()),
+        2 => Part::Own(0..own.len().saturating_sub(random.between(1, 3))),
+        3 => {
+            let from = random.below(own.len() + 1);
+            Part::Own(from..from + random.below(own.len() - from + 1))
+        }
+        _ => Part::Other(other.to_vec()),
+    }
+}
+
+/// Later calls, made up as they go, with the same writing by callers between.
+fn invent_later(bench: &mut Bench, pool: &mut Pool, random: &mut Random) -> (Vec<Later>, Vec<Outcome>) {
+    let (mut later, mut answers) = (Vec::new(), Vec::new());
+    for _ in 0..random.between(1, 10) {
+        let ledger = pool.ledger().expect("accepted calls leave a sound pool");
+        let writing = ledger.live().map(|record| (record.address as usize, random.word())).take(3).collect();
+        let call = match calls::any(&ledger, pool.arena.len(), random) {
+            Call::Look(named, _) => Call::Look(named, Placeholder::Own(vec![7; 5])),
+            call => call,
+        };
+        later.push(Later { writing, call });
+        let last = &later[later.len() - 1..];
+        answers.extend(repeat_later(bench, pool, last));
+    }
+    (later, answers)
+}
+
+fn repeat_later(bench: &mut Bench, pool: &mut Pool, later: &[Later]) -> Vec<Outcome> {
+    let mut answers = Vec::new();
+    for Later { writing, call } in later {
+        for (at, word) in writing {
+            bench.write(pool, *at, *word);
+        }
+        answers.push(bench.step(pool, call));
+    }
+    answers
+}

@@ -1,0 +1,2 @@
+-- What the structs that cross to C stand for.
+pub mod Structs

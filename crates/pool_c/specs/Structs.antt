@@ -1,0 +1,21 @@
+-- The structs that cross to C, as the pools' own. Assumes nothing.
+use Rattle.calls.specs.declared.Answer as calls
+use Rattle.tree_pool.specs.declared.Head as tree-head
+use Rattle.tree_pool.specs.declared.Outcome as tree
+use Rattle.segment_pool.specs.declared.Outcome as segment
+use Rattle.pool_c.specs.declared.TreeHead.{TreeHead}
+use Rattle.pool_c.specs.declared.Answer.{Answer}
+use Rattle.pool_c.specs.declared.TreeOutcome.{TreeOutcome}
+use Rattle.pool_c.specs.declared.SegmentOutcome.{SegmentOutcome}
+
+abbrev pub headOf : TreeHead → tree-head.Head
+headOf h = record { root = h .root; next = h .next }
+
+abbrev pub answerOf : Answer → calls.Answer
+answerOf r = record { number = r .number; ticket = r .ticket; address = r .address; words = r .words }
+
+abbrev pub treeOutcome : TreeOutcome → tree.Outcome
+treeOutcome r = record { head = headOf (r .head); answer = answerOf (r .answer) }
+
+abbrev pub segmentOutcome : SegmentOutcome → segment.Outcome
+segmentOutcome r = record { head = record { next = r .next }; answer = answerOf (r .answer) }

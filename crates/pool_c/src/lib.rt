@@ -1,0 +1,287 @@
+// The calls of both pools for C, as include/lingfurrow.h declares them. Each makes one call of its pool, and its promise
+// is the pool's: an equation with the machine's step on all inputs.
+use ledger::Row;
+ghost use mathlib.Core.Path.{_≡_};
+ghost use mathlib.Core.List.{[], _∷_};
+ghost use Rattle.ledger.specs.Records.{row};
+ghost use Rattle.calls.specs.Step.{format, allocate, release, find, list, step};
+ghost use Rattle.calls.specs.Engines.{treeEngine, segmentEngine};
+ghost use Rattle.tree_check.specs.Gate.{treePool};
+ghost use Rattle.segment_pool.specs.Promises.{segmentPool};
+ghost use Rattle.tree_pool.specs.Promises as tree;
+ghost use Rattle.segment_pool.specs.Promises as segment;
+ghost use Rattle.pool_c.specs.Structs.{headOf, answerOf, treeOutcome, segmentOutcome};
+
+// lf_tree_head
+#[repr(C)]
+pub struct TreeHead {
+    pub root: u32,
+    pub next: u32,
+}
+
+// lf_answer
+#[repr(C)]
+pub struct Answer {
+    pub number: u32,
+    pub ticket: u32,
+    pub address: u32,
+    pub words: u32,
+}
+
+// lf_tree_outcome
+#[repr(C)]
+pub struct TreeOutcome {
+    pub head: TreeHead,
+    pub answer: Answer,
+}
+
+// lf_segment_outcome
+#[repr(C)]
+pub struct SegmentOutcome {
+    pub next: u32,
+    pub answer: Answer,
+}
+
+// ---- from the pools' structs to those of C
+
+fn c_answer(answer: calls::Answer) -> Answer
+    ensures { λ r. ⌜ answerOf r ≡ answer ⌝ }
+{
+    Answer {
+        number: answer.number,
+        ticket: answer.ticket,
+        address: answer.address,
+        words: answer.words,
+    }
+}
+
+fn c_tree_outcome(done: tree_pool::Outcome) -> TreeOutcome
+    ensures { λ r. ⌜ treeOutcome r ≡ done ⌝ }
+{
+    let after = done.head;
+    TreeOutcome {
+        head: TreeHead {
+            root: after.root,
+            next: after.next,
+        },
+        answer: c_answer(done.answer),
+    }
+}
+
+fn c_segment_outcome(done: segment_pool::Outcome) -> SegmentOutcome
+    ensures { λ r. ⌜ segmentOutcome r ≡ done ⌝ }
+{
+    let after = done.head;
+    SegmentOutcome {
+        next: after.next,
+        answer: c_answer(done.answer),
+    }
+}
+
+// ---- the tree pool
+
+#[no_mangle]
+pub extern "C" fn lf_tree_format(arena: &mut [u32], table: &mut [u32]) -> TreeOutcome
+    ensures { λ r. ⌜ tree.handed (treeOutcome r) (now (arena .exit)) (now (table .exit)) []
+        ≡ tree.left (step treeEngine format (treePool 0 0 (now (arena .entry)) (now (table .entry)))) ⌝ }
+{
+    let done = tree_pool::format(arena, table);
+    c_tree_outcome(done)
+}
+
+#[no_mangle]
+pub extern "C" fn lf_tree_allocate(
+    head: TreeHead,
+    arena: &mut [u32],
+    table: &mut [u32],
+    words: u32,
+) -> TreeOutcome
+    ensures { λ r. ⌜ tree.handed (treeOutcome r) (now (arena .exit)) (now (table .exit)) []
+        ≡ tree.left (step treeEngine (allocate words)
+        (tree.poolOf (headOf head) (now (arena .entry)) (now (table .entry)))) ⌝ }
+{
+    let pool = tree_pool::Head {
+        root: head.root,
+        next: head.next,
+    };
+    let done = tree_pool::allocate(pool, arena, table, words);
+    c_tree_outcome(done)
+}
+
+#[no_mangle]
+pub extern "C" fn lf_tree_release(
+    head: TreeHead,
+    arena: &mut [u32],
+    table: &mut [u32],
+    ticket: u32,
+    address: u32,
+    words: u32,
+) -> TreeOutcome
+    ensures { λ r. ⌜ tree.handed (treeOutcome r) (now (arena .exit)) (now (table .exit)) []
+        ≡ tree.left (step treeEngine (release (row ticket address words))
+        (tree.poolOf (headOf head) (now (arena .entry)) (now (table .entry)))) ⌝ }
+{
+    let pool = tree_pool::Head {
+        root: head.root,
+        next: head.next,
+    };
+    let named = Row {
+        ticket,
+        address,
+        words,
+    };
+    let done = tree_pool::release(pool, arena, table, named);
+    c_tree_outcome(done)
+}
+
+#[no_mangle]
+pub extern "C" fn lf_tree_find(
+    head: TreeHead,
+    arena: &[u32],
+    table: &[u32],
+    ticket: u32,
+    address: u32,
+    words: u32,
+) -> Answer
+    ensures { λ r. ⌜ answerOf r
+        ≡ step treeEngine (find (row ticket address words))
+        (tree.poolOf (headOf head) (now (arena .entry)) (now (table .entry))) .answer ⌝ }
+{
+    let pool = tree_pool::Head {
+        root: head.root,
+        next: head.next,
+    };
+    let named = Row {
+        ticket,
+        address,
+        words,
+    };
+    let answer = tree_pool::find(pool, arena, table, named);
+    c_answer(answer)
+}
+
+#[no_mangle]
+pub extern "C" fn lf_tree_list(
+    head: TreeHead,
+    arena: &mut [u32],
+    table: &mut [u32],
+    requests: &[u32],
+    answers: &mut [u32],
+) -> TreeOutcome
+    ensures { λ r. ⌜ tree.handed (treeOutcome r) (now (arena .exit)) (now (table .exit)) (now (answers .exit) ∷ [])
+        ≡ tree.left (step treeEngine (list (now (requests .entry)) (now (answers .entry)))
+        (tree.poolOf (headOf head) (now (arena .entry)) (now (table .entry)))) ⌝ }
+{
+    let pool = tree_pool::Head {
+        root: head.root,
+        next: head.next,
+    };
+    let done = tree_pool::list(pool, arena, table, requests, answers);
+    c_tree_outcome(done)
+}
+
+// ---- the segment pool; its head is the next ticket alone
+
+#[no_mangle]
+pub extern "C" fn lf_segment_format(
+    arena: &mut [i32],
+    table: &mut [u32],
+    segments: u32,
+    index: &mut [u32],
+) -> SegmentOutcome
+    ensures { λ r. ⌜ segment.handed (segmentOutcome r) (now (arena .exit)) (now (table .exit)) (now (index .exit)) []
+        ≡ segment.left (step segmentEngine format
+        (segmentPool segments 0 (now (arena .entry)) (now (table .entry)) (now (index .entry)))) ⌝ }
+{
+    let done = segment_pool::format(segments, arena, table, index);
+    c_segment_outcome(done)
+}
+
+#[no_mangle]
+pub extern "C" fn lf_segment_allocate(
+    next: u32,
+    arena: &mut [i32],
+    table: &mut [u32],
+    segments: u32,
+    index: &mut [u32],
+    words: u32,
+) -> SegmentOutcome
+    ensures { λ r. ⌜ segment.handed (segmentOutcome r) (now (arena .exit)) (now (table .exit)) (now (index .exit)) []
+        ≡ segment.left (step segmentEngine (allocate words)
+        (segmentPool segments next (now (arena .entry)) (now (table .entry)) (now (index .entry)))) ⌝ }
+{
+    let head = segment_pool::Head { next };
+    let done = segment_pool::allocate(head, segments, arena, table, index, words);
+    c_segment_outcome(done)
+}
+
+#[no_mangle]
+pub extern "C" fn lf_segment_release(
+    next: u32,
+    arena: &mut [i32],
+    table: &mut [u32],
+    segments: u32,
+    index: &mut [u32],
+    ticket: u32,
+    address: u32,
+    words: u32,
+) -> SegmentOutcome
+    ensures { λ r. ⌜ segment.handed (segmentOutcome r) (now (arena .exit)) (now (table .exit)) (now (index .exit)) []
+        ≡ segment.left (step segmentEngine (release (row ticket address words))
+        (segmentPool segments next (now (arena .entry)) (now (table .entry)) (now (index .entry)))) ⌝ }
+{
+    let head = segment_pool::Head { next };
+    let named = Row {
+        ticket,
+        address,
+        words,
+    };
+    let done = segment_pool::release(head, segments, arena, table, index, named);
+    c_segment_outcome(done)
+}
+
+#[no_mangle]
+pub extern "C" fn lf_segment_find(
+    next: u32,
+    arena: &[i32],
+    table: &[u32],
+    segments: u32,
+    index: &[u32],
+    ticket: u32,
+    address: u32,
+    words: u32,
+) -> Answer
+    ensures { λ r. ⌜ answerOf r
+        ≡ step segmentEngine (find (row ticket address words))
+        (segmentPool segments next (now (arena .entry)) (now (table .entry)) (now (index .entry))) .answer ⌝ }
+{
+    let head = segment_pool::Head { next };
+    let named = Row {
+        ticket,
+        address,
+        words,
+    };
+    let answer = segment_pool::find(head, segments, arena, table, index, named);
+    c_answer(answer)
+}
+
+#[no_mangle]
+pub extern "C" fn lf_segment_list(
+    next: u32,
+    arena: &mut [i32],
+    table: &mut [u32],
+    segments: u32,
+    index: &mut [u32],
+    requests: &[u32],
+    answers: &mut [u32],
+) -> SegmentOutcome
+    ensures { λ r. ⌜
+        segment.handed (segmentOutcome r) (now (arena .exit)) (now (table .exit)) (now (index .exit))
+        (now (answers .exit) ∷ [])
+        ≡ segment.left (step segmentEngine (list (now (requests .entry)) (now (answers .entry)))
+        (segmentPool segments next (now (arena .entry)) (now (table .entry)) (now (index .entry)))) ⌝ }
+{
+    let head = segment_pool::Head { next };
+    let done = segment_pool::list(head, segments, arena, table, index, requests, answers);
+    c_segment_outcome(done)
+}

@@ -1,0 +1,278 @@
+/* A gateway between dryers and their radio, on each of the two pools: commands are put into runs of words, and the radio
+ * releases them in any order. One release comes in twice, the second time when a new command lies at its address. */
+#include "lingfurrow.h"
+
+#include <inttypes.h>
+#include <stdio.h>
+
+#define RECORDS 4u
+#define ARENA_WORDS 24u
+#define SEGMENTS 4u
+#define BURST 4u
+
+/* What the loop below needs of a pool. The answer of allocate, ticket, address and words, is what the radio gets with
+ * the command and names in its release. */
+typedef struct {
+    const char *name;
+    lf_answer (*format)(void);
+    lf_answer (*allocate)(uint32_t words);
+    lf_answer (*release)(lf_answer named);
+    lf_answer (*list)(const uint32_t *requests, size_t requests_len, uint32_t *answers, size_t answers_len);
+    void (*write)(lf_answer run, uint32_t dryer);
+    void (*show)(lf_answer run);
+} pool;
+
+/* ---- on the tree pool: the head that a call hands back replaces the old one */
+
+static uint32_t tree_arena[ARENA_WORDS];
+static uint32_t tree_table[LF_TABLE_WORDS(RECORDS)];
+static lf_tree_head tree_head;
+
+static lf_answer tree_keep(lf_tree_outcome outcome)
+{
+    tree_head = outcome.head;
+    return outcome.answer;
+}
+
+/* A format that is refused hands back no head to keep. */
+static lf_answer tree_format(void)
+{
+    lf_tree_outcome outcome = lf_tree_format(tree_arena, ARENA_WORDS, tree_table, LF_TABLE_WORDS(RECORDS));
+    return outcome.answer.number == LF_OK ? tree_keep(outcome) : outcome.answer;
+}
+
+static lf_answer tree_allocate(uint32_t words)
+{
+    return tree_keep(
+        lf_tree_allocate(tree_head, tree_arena, ARENA_WORDS, tree_table, LF_TABLE_WORDS(RECORDS), words));
+}
+
+static lf_answer tree_release(lf_answer named)
+{
+    return tree_keep(lf_tree_release(tree_head, tree_arena, ARENA_WORDS, tree_table, LF_TABLE_WORDS(RECORDS),
+                                     named.ticket, named.address, named.words));
+}
+
+static lf_answer tree_list(const uint32_t *requests, size_t requests_len, uint32_t *answers, size_t answers_len)
+{
+    return tree_keep(lf_tree_list(tree_head, tree_arena, ARENA_WORDS, tree_table, LF_TABLE_WORDS(RECORDS), requests,
+                                  requests_len, answers, answers_len));
+}
+
+/* A run that was granted is ours to write. */
+static void tree_write(lf_answer run, uint32_t dryer)
+{
+    for (uint32_t i = 0; i < run.words; i++) {
+        tree_arena[run.address + i] = 100 * dryer + i;
+    }
+}
+
+/* Prints the run's words, or a 0 if it is not held. */
+static void tree_show(lf_answer run)
+{
+    static const uint32_t nothing[1] = { 0 };
+    lf_tree_slice slice = lf_tree_look(tree_head, tree_arena, ARENA_WORDS, tree_table, LF_TABLE_WORDS(RECORDS),
+                                       nothing, 1, run.ticket, run.address, run.words);
+    for (size_t i = 0; i < slice.len; i++) {
+        printf(" %" PRIu32, slice.words[i]);
+    }
+}
+
+/* ---- on the segment pool: the head is the next ticket */
+
+static int32_t segment_arena[ARENA_WORDS];
+static uint32_t segment_table[LF_TABLE_WORDS(RECORDS)];
+static uint32_t segment_index[LF_INDEX_WORDS(SEGMENTS)];
+static uint32_t segment_next;
+
+static lf_answer segment_keep(lf_segment_outcome outcome)
+{
+    segment_next = outcome.next;
+    return outcome.answer;
+}
+
+static lf_answer segment_format(void)
+{
+    lf_segment_outcome outcome = lf_segment_format(segment_arena, ARENA_WORDS, segment_table, LF_TABLE_WORDS(RECORDS),
+                                                   SEGMENTS, segment_index, LF_INDEX_WORDS(SEGMENTS));
+    return outcome.answer.number == LF_OK ? segment_keep(outcome) : outcome.answer;
+}
+
+static lf_answer segment_allocate(uint32_t words)
+{
+    return segment_keep(lf_segment_allocate(segment_next, segment_arena, ARENA_WORDS, segment_table,
+                                            LF_TABLE_WORDS(RECORDS), SEGMENTS, segment_index,
+                                            LF_INDEX_WORDS(SEGMENTS), words));
+}
+
+static lf_answer segment_release(lf_answer named)
+{
+    return segment_keep(lf_segment_release(segment_next, segment_arena, ARENA_WORDS, segment_table,
+                                           LF_TABLE_WORDS(RECORDS), SEGMENTS, segment_index, LF_INDEX_WORDS(SEGMENTS),
+                                           named.ticket, named.address, named.words));
+}
+
+static lf_answer segment_list(const uint32_t *requests, size_t requests_len, uint32_t *answers, size_t answers_len)
+{
+    return segment_keep(lf_segment_list(segment_next, segment_arena, ARENA_WORDS, segment_table,
+                                        LF_TABLE_WORDS(RECORDS), SEGMENTS, segment_index, LF_INDEX_WORDS(SEGMENTS),
+                                        requests, requests_len, answers, answers_len));
+}
+
+static void segment_write(lf_answer run, uint32_t dryer)
+{
+    for (uint32_t i = 0; i < run.words; i++) {
+        segment_arena[run.address + i] = (int32_t)(100 * dryer + i);
+    }
+}
+
+static void segment_show(lf_answer run)
+{
+    static const int32_t nothing[1] = { 0 };
+    lf_segment_slice slice = lf_segment_look(segment_next, segment_arena, ARENA_WORDS, segment_table,
+                                             LF_TABLE_WORDS(RECORDS), SEGMENTS, segment_index,
+                                             LF_INDEX_WORDS(SEGMENTS), nothing, 1, run.ticket, run.address, run.words);
+    for (size_t i = 0; i < slice.len; i++) {
+        printf(" %" PRId32, slice.words[i]);
+    }
+}
+
+/* ---- the loop */
+
+static const pool pools[] = {
+    { "tree pool", tree_format, tree_allocate, tree_release, tree_list, tree_write, tree_show },
+    { "segment pool", segment_format, segment_allocate, segment_release, segment_list, segment_write, segment_show },
+};
+
+/* What comes in: a command of some words for a dryer, or the radio's release of the command that came as the n-th. */
+typedef struct {
+    enum { COMMAND, RELEASE } kind;
+    uint32_t dryer, words, nth;
+} event;
+
+static const event events[] = {
+    { COMMAND, 4, 5, 0 },
+    { COMMAND, 9, 4, 0 },
+    { COMMAND, 2, 6, 0 },
+    { RELEASE, 0, 0, 1 },
+    { COMMAND, 9, 5, 0 }, /* lies where the first command lay */
+    { RELEASE, 0, 0, 1 }, /* comes in again, over the spare antenna */
+    { COMMAND, 7, 20, 0 },
+    { RELEASE, 0, 0, 3 },
+    { RELEASE, 0, 0, 2 },
+};
+#define EVENTS (sizeof events / sizeof events[0])
+
+static const char *meaning(uint32_t number)
+{
+    switch (number) {
+    case LF_OK: return "done";
+    case LF_DAMAGED: return "the pool is damaged";
+    case LF_BAD_SIZE: return "bad size";
+    case LF_NO_RECORD: return "no record is left";
+    case LF_NO_TICKET: return "no ticket is left";
+    case LF_NO_ROOM: return "no room";
+    case LF_UNKNOWN_TICKET: return "nothing is held under this ticket";
+    case LF_MISMATCH: return "address or words are not this ticket's";
+    case LF_BAD_LENGTHS: return "bad lengths";
+    case LF_BAD_REQUEST: return "bad request";
+    default: return "unknown number";
+    }
+}
+
+static void print_answer(lf_answer answer)
+{
+    if (answer.number == LF_OK) {
+        printf("done, ticket %" PRIu32 " at %" PRIu32 ", words %" PRIu32 "\n", answer.ticket, answer.address,
+               answer.words);
+    } else {
+        printf("refused, %" PRIu32 ": %s\n", answer.number, meaning(answer.number));
+    }
+}
+
+static void print_look(const pool *on, lf_answer run)
+{
+    printf("    look at ticket %" PRIu32 ":", run.ticket);
+    on->show(run);
+    printf("\n");
+}
+
+static lf_answer command(const pool *on, uint32_t dryer, uint32_t words)
+{
+    lf_answer run = on->allocate(words);
+    printf("  command for dryer %" PRIu32 ", words %" PRIu32 ": ", dryer, words);
+    print_answer(run);
+    on->write(run, dryer); /* a refused run has no words */
+    return run;
+}
+
+/* A release as the radio names it. Refused, it leaves the command that was stored last as it is. */
+static void radio_release(const pool *on, lf_answer named, lf_answer last)
+{
+    lf_answer answer = on->release(named);
+    printf("  release of ticket %" PRIu32 " at %" PRIu32 ", words %" PRIu32 ": ", named.ticket, named.address,
+           named.words);
+    print_answer(answer);
+    if (answer.number != LF_OK) {
+        print_look(on, named);
+        print_look(on, last);
+    }
+}
+
+/* Four requests handed over as one list: two new commands, the last command's release and a replay. */
+static void burst(const pool *on, lf_answer first, lf_answer last)
+{
+    const uint32_t requests[LF_LIST_WORDS(BURST)] = {
+        LF_REQUEST_ALLOCATE, 3, 0, 0,
+        LF_REQUEST_RELEASE, last.ticket, last.address, last.words,
+        LF_REQUEST_ALLOCATE, 8, 0, 0,
+        LF_REQUEST_RELEASE, first.ticket, first.address, first.words,
+    };
+    uint32_t answers[LF_LIST_WORDS(BURST)];
+    lf_answer whole = on->list(requests, LF_LIST_WORDS(BURST), answers, LF_LIST_WORDS(BURST));
+    if (whole.number != LF_OK) {
+        print_answer(whole);
+        return;
+    }
+    printf("  list of %u requests\n", BURST);
+    for (size_t i = 0; i < BURST; i++) {
+        const uint32_t *r = requests + 4 * i;
+        const uint32_t *a = answers + 4 * i;
+        const lf_answer answer = { a[0], a[1], a[2], a[3] };
+        printf("    %" PRIu32 " %" PRIu32 " %" PRIu32 " %" PRIu32 ": ", r[0], r[1], r[2], r[3]);
+        print_answer(answer);
+    }
+}
+
+static void serve(const pool *on)
+{
+    lf_answer runs[EVENTS];
+    lf_answer last = { 0, 0, 0, 0 };
+    size_t commands = 0;
+    for (size_t i = 0; i < EVENTS; i++) {
+        if (events[i].kind == COMMAND) {
+            runs[commands] = command(on, events[i].dryer, events[i].words);
+            if (runs[commands].number == LF_OK) {
+                last = runs[commands];
+            }
+            commands++;
+        } else {
+            radio_release(on, runs[events[i].nth - 1], last);
+        }
+    }
+    burst(on, runs[0], last);
+}
+
+int main(void)
+{
+    for (size_t i = 0; i < sizeof pools / sizeof pools[0]; i++) {
+        lf_answer formatted = pools[i].format();
+        if (formatted.number != LF_OK) {
+            print_answer(formatted);
+            return 1;
+        }
+        printf("%s, words %u, records %u\n", pools[i].name, ARENA_WORDS, RECORDS);
+        serve(&pools[i]);
+    }
+    return 0;
+}

@@ -1,0 +1,117 @@
+//! The gateway of examples/c/gateway.c, on the safe calls: it writes the same.
+mod lingfurrow;
+
+use lingfurrow::{Answer, Pool, Refusal, Request, Run, SegmentPool, TreePool};
+use std::fmt::Display;
+
+const RECORDS: usize = 4;
+const ARENA_WORDS: usize = 24;
+const SEGMENTS: usize = 4;
+
+/// What comes in: a command of some words for a dryer, or the radio's release of the command that came as the n-th.
+enum Event {
+    Command { dryer: u16, words: u32 },
+    Release { nth: usize },
+}
+
+const EVENTS: [Event; 9] = [
+    Event::Command { dryer: 4, words: 5 },
+    Event::Command { dryer: 9, words: 4 },
+    Event::Command { dryer: 2, words: 6 },
+    Event::Release { nth: 1 },
+    Event::Command { dryer: 9, words: 5 }, // lies where the first command lay
+    Event::Release { nth: 1 },             // comes in again, over the spare antenna
+    Event::Command { dryer: 7, words: 20 },
+    Event::Release { nth: 3 },
+    Event::Release { nth: 2 },
+];
+
+fn told(result: Result<Run, Refusal>) -> String {
+    match result {
+        Ok(run) => format!("done, ticket {} at {}, words {}", run.ticket, run.address, run.words),
+        Err(refusal) => format!("refused, {}: {}", refusal.0, refusal),
+    }
+}
+
+fn print_look<P: Pool>(pool: &P, run: Run)
+where
+    P::Word: Display + From<u16>,
+{
+    print!("    look at ticket {}:", run.ticket);
+    for word in pool.look(run, &[P::Word::from(0)]) {
+        print!(" {word}");
+    }
+    println!();
+}
+
+fn command<P: Pool>(pool: &mut P, dryer: u16, words: u32) -> Result<Run, Refusal>
+where
+    P::Word: From<u16>,
+{
+    let granted = pool.allocate(words);
+    println!("  command for dryer {dryer}, words {words}: {}", told(granted));
+    for (i, word) in (0..).zip(pool.words_of(granted?)?) {
+        *word = P::Word::from(100 * dryer + i);
+    }
+    granted
+}
+
+/// A release as the radio names it. Refused, it leaves the command that was stored last as it is.
+fn radio_release<P: Pool>(pool: &mut P, named: Run, last: Run)
+where
+    P::Word: Display + From<u16>,
+{
+    let result = pool.release(named);
+    let Run { ticket, address, words } = named;
+    println!("  release of ticket {ticket} at {address}, words {words}: {}", told(result));
+    if result.is_err() {
+        print_look(pool, named);
+        print_look(pool, last);
+    }
+}
+
+/// Four requests handed over as one list: two new commands, the last command's release and a replay.
+fn burst<P: Pool>(pool: &mut P, first: Run, last: Run) -> Result<(), Refusal> {
+    let requests = [Request::allocate(3), Request::release(last), Request::allocate(8), Request::release(first)];
+    let mut answers = [Answer::default(); 4];
+    pool.list(&requests, &mut answers)?;
+    println!("  list of {} requests", requests.len());
+    for (Request([kind, x, y, z]), answer) in requests.iter().zip(answers) {
+        println!("    {kind} {x} {y} {z}: {}", told(answer.result()));
+    }
+    Ok(())
+}
+
+fn serve<P: Pool>(pool: &mut P) -> Result<(), Refusal>
+where
+    P::Word: Display + From<u16>,
+{
+    let mut runs = Vec::new();
+    let mut last = Run::default();
+    for event in &EVENTS {
+        match *event {
+            Event::Command { dryer, words } => {
+                let granted = command(pool, dryer, words);
+                last = granted.unwrap_or(last);
+                runs.push(granted.unwrap_or_default());
+            }
+            Event::Release { nth } => radio_release(pool, runs[nth - 1], last),
+        }
+    }
+    burst(pool, runs[0], last)
+}
+
+fn main() -> Result<(), Refusal> {
+    let mut arena = [0; ARENA_WORDS];
+    let mut table = [0; 3 * RECORDS];
+    let mut pool = TreePool::format(&mut arena, &mut table)?;
+    println!("tree pool, words {ARENA_WORDS}, records {RECORDS}");
+    serve(&mut pool)?;
+
+    let mut arena = [0; ARENA_WORDS];
+    let mut table = [0; 3 * RECORDS];
+    let mut index = [0; 3 * SEGMENTS];
+    let mut pool = SegmentPool::format(&mut arena, &mut table, SEGMENTS as u32, &mut index)?;
+    println!("segment pool, words {ARENA_WORDS}, records {RECORDS}");
+    serve(&mut pool)
+}

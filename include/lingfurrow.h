@@ -1,0 +1,210 @@
+/* Lingfurrow: a message pool for gateway firmware, in C.
+ *
+ * You lend a pool some memory. It hands out runs of words from it, each at the lowest address where there is room, and
+ * each under a ticket, a number that is given out once. To give a run back you name its ticket, address and words, and
+ * all three must match: an old release that comes in again is refused, though address and words may fit what lies there
+ * by then. Every call checks the pool before it acts, so you need check nothing before calling, and a refused call
+ * leaves every word as it was.
+ *
+ * Two engines keep a pool, with the same calls and the same numbers: the tree pool, lf_tree_..., and the segment pool,
+ * lf_segment_... They store different words, so a pool stays with the engine that formatted it.
+ *
+ * MEMORY THAT YOU LEND, the same at every call on a pool; lengths count words of 32 bits:
+ *   arena     what is handed out.
+ *             Tree pool: uint32_t, an even number from 2 to 16,384. Runs begin at even words and take whole pairs.
+ *             Segment pool: int32_t, from 2 to 16,384. A run takes one word more, the control word before its address.
+ *   table     uint32_t, LF_TABLE_WORDS(n) for at most n runs at a time; n is 1 to 256.
+ *   segments  segment pool: a power of two from 1 to 256; the search for room scans one segment.
+ *   index     segment pool: uint32_t, LF_INDEX_WORDS(segments).
+ * No pointer is kept after a call. Between calls you write only to the words of runs that you hold; all other words are
+ * the pool's. If one of those changes, the next call answers LF_DAMAGED, unless what is there then is again a pool in
+ * order.
+ *
+ * HEAD: the part of the pool that you keep. Format hands back the first one; each later call takes it, and those that
+ * can change the pool hand back the next. Keep that one, also when the call was refused (then it is the same). But a
+ * refused format hands back zeros, which belong to no pool: one that lay there before goes on with the head it had.
+ *   tree pool: lf_tree_head, the link to the tree of free blocks and the next ticket
+ *   segment pool: a uint32_t, the next ticket
+ * TICKET: 1, 2, 3 and so on in each pool, never 0. After 4,294,967,295 none is left.
+ * ADDRESS: where a run begins, as an index: arena[address] to arena[address + words - 1] are yours.
+ *
+ * WHAT IS PROVED (crates/pool_c, by the Rattle prover): for all numbers and all contents of the buffers, each function
+ * of the archive returns, touches nothing outside the buffers, and both its outcome and every word that it leaves are
+ * those that crates/calls/specs/Step.antt defines.
+ *
+ * WHAT IS NOT PROVED, and is yours to see to:
+ *   - Pointers are not null, not even with length 0, aligned to 4 bytes, and good for their length.
+ *   - A buffer that a call writes overlaps no other buffer of that call. While a call runs, no interrupt, other core or
+ *     transfer unit writes to its buffers, or reads those that the call writes.
+ *   - The archive needs memset, from a C library or your own, and nothing else.
+ *   - Stack: as built for x86-64, a call on a tree pool was seen to need 54 KB at most, on a segment pool 18 KB.
+ *   - Time: it grows with arena and table, since each call checks the whole pool. A list checks it once.
+ *   - This header is C: that it fits the archive, and that its two inline look functions do what they say, is tested
+ *     (examples/) and not proved. Nor is the compiler that made the archive, LLVM.
+ */
+#ifndef LINGFURROW_H
+#define LINGFURROW_H
+
+#include <stddef.h>
+#include <stdint.h>
+
+#ifdef __cplusplus
+extern "C" {
+#endif
+
+/* ---- numbers that a call answers
+ *
+ * Where several would fit, the first of this order is given: 8, 1, 9; then 2, 3, 4, 5 to an allocation, 6, 7 to a
+ * release or find. Any call can answer 8, and any but format 1. */
+#define LF_OK 0u             /* done */
+#define LF_DAMAGED 1u        /* lengths are right, but head and buffers are not a pool in order */
+#define LF_BAD_SIZE 2u       /* words asked are 0 or above 16,384 */
+#define LF_NO_RECORD 3u      /* the table is full */
+#define LF_NO_TICKET 4u      /* no ticket is left */
+#define LF_NO_ROOM 5u        /* no free run is long enough */
+#define LF_UNKNOWN_TICKET 6u /* nothing is held under this ticket: released already, or never given out */
+#define LF_MISMATCH 7u       /* the ticket is live, but address or words are not its own */
+#define LF_BAD_LENGTHS 8u    /* a length or the number of segments is out of range, or a list's lengths don't suit */
+#define LF_BAD_REQUEST 9u    /* in a list: a request of unknown kind, or with spare words that are not zero */
+
+/* ---- limits and lengths */
+#define LF_ARENA_WORDS_MAX 16384u
+#define LF_RECORDS_MAX 256u
+#define LF_SEGMENTS_MAX 256u
+#define LF_REQUESTS_MAX 1024u
+#define LF_TABLE_WORDS(records) (3u * (records))
+#define LF_INDEX_WORDS(segments) (3u * (segments))
+#define LF_LIST_WORDS(requests) (4u * (requests))
+
+/* ---- requests of a list: four words each
+ *
+ *   { LF_REQUEST_ALLOCATE, words, 0, 0 }
+ *   { LF_REQUEST_RELEASE, ticket, address, words }
+ *
+ * Each is answered by four words in the answer buffer: number, ticket, address, words. */
+#define LF_REQUEST_ALLOCATE 1u
+#define LF_REQUEST_RELEASE 2u
+
+/* ---- what calls take and hand back */
+
+typedef struct {
+    uint32_t root, next;
+} lf_tree_head;
+
+/* number is LF_OK or the reason of the refusal. ticket, address and words are those of the run that was granted,
+ * released or found; format and list, and every refusal, give zeros. */
+typedef struct {
+    uint32_t number, ticket, address, words;
+} lf_answer;
+
+typedef struct {
+    lf_tree_head head;
+    lf_answer answer;
+} lf_tree_outcome;
+
+typedef struct {
+    uint32_t next;
+    lf_answer answer;
+} lf_segment_outcome;
+
+/* ---- the tree pool */
+
+/* Makes a pool in which all is free and the next ticket is 1, whatever the buffers held. Refused: LF_BAD_LENGTHS only,
+ * with a head of zeros.
+ * Tickets begin at 1 again, so a release that was meant for a pool formatted here earlier can fit a run of this one. */
+lf_tree_outcome lf_tree_format(uint32_t *arena, size_t arena_len, uint32_t *table, size_t table_len);
+
+/* Takes a run of `words` words, at the lowest address where there is room. All its words read zero. Refused:
+ * LF_BAD_SIZE, LF_NO_RECORD, LF_NO_TICKET, LF_NO_ROOM. */
+lf_tree_outcome lf_tree_allocate(lf_tree_head head, uint32_t *arena, size_t arena_len, uint32_t *table,
+                                 size_t table_len, uint32_t words);
+
+/* Gives a run back. Its words are wiped, and it becomes one with the free runs that it touches. Refused:
+ * LF_UNKNOWN_TICKET, as for each release that comes in again; LF_MISMATCH. */
+lf_tree_outcome lf_tree_release(lf_tree_head head, uint32_t *arena, size_t arena_len, uint32_t *table,
+                                size_t table_len, uint32_t ticket, uint32_t address, uint32_t words);
+
+/* Is this run held? Changes nothing, and answers the number that a release of it would get. */
+lf_answer lf_tree_find(lf_tree_head head, const uint32_t *arena, size_t arena_len, const uint32_t *table,
+                       size_t table_len, uint32_t ticket, uint32_t address, uint32_t words);
+
+/* Serves the requests of a list one after another, as calls of their own would, with one check of the pool. Each gets
+ * its four words in `answers`; one that is refused gets its number there, and the rest go on. Answer words beyond the
+ * list stay. The outcome's own answer tells whether the list was served at all: it is refused whole, LF_BAD_LENGTHS, if
+ * requests_len is no multiple of four or above LF_LIST_WORDS(LF_REQUESTS_MAX), or answers_len is below it. */
+lf_tree_outcome lf_tree_list(lf_tree_head head, uint32_t *arena, size_t arena_len, uint32_t *table, size_t table_len,
+                             const uint32_t *requests, size_t requests_len, uint32_t *answers, size_t answers_len);
+
+typedef struct {
+    const uint32_t *words;
+    size_t len;
+} lf_tree_slice;
+
+/* The words of the run if find answers LF_OK, else the placeholder, whole. */
+static inline lf_tree_slice lf_tree_look(lf_tree_head head, const uint32_t *arena, size_t arena_len,
+                                         const uint32_t *table, size_t table_len, const uint32_t *placeholder,
+                                         size_t placeholder_len, uint32_t ticket, uint32_t address, uint32_t words)
+{
+    lf_tree_slice slice;
+    if (lf_tree_find(head, arena, arena_len, table, table_len, ticket, address, words).number == LF_OK) {
+        slice.words = arena + address;
+        slice.len = words;
+    } else {
+        slice.words = placeholder;
+        slice.len = placeholder_len;
+    }
+    return slice;
+}
+
+/* ---- the segment pool
+ *
+ * Each call does what the tree pool's call of that name does, and is refused as that is. The head is the next ticket
+ * alone. */
+
+lf_segment_outcome lf_segment_format(int32_t *arena, size_t arena_len, uint32_t *table, size_t table_len,
+                                     uint32_t segments, uint32_t *index, size_t index_len);
+
+lf_segment_outcome lf_segment_allocate(uint32_t next, int32_t *arena, size_t arena_len, uint32_t *table,
+                                       size_t table_len, uint32_t segments, uint32_t *index, size_t index_len,
+                                       uint32_t words);
+
+lf_segment_outcome lf_segment_release(uint32_t next, int32_t *arena, size_t arena_len, uint32_t *table,
+                                      size_t table_len, uint32_t segments, uint32_t *index, size_t index_len,
+                                      uint32_t ticket, uint32_t address, uint32_t words);
+
+lf_answer lf_segment_find(uint32_t next, const int32_t *arena, size_t arena_len, const uint32_t *table,
+                          size_t table_len, uint32_t segments, const uint32_t *index, size_t index_len,
+                          uint32_t ticket, uint32_t address, uint32_t words);
+
+lf_segment_outcome lf_segment_list(uint32_t next, int32_t *arena, size_t arena_len, uint32_t *table, size_t table_len,
+                                   uint32_t segments, uint32_t *index, size_t index_len, const uint32_t *requests,
+                                   size_t requests_len, uint32_t *answers, size_t answers_len);
+
+typedef struct {
+    const int32_t *words;
+    size_t len;
+} lf_segment_slice;
+
+static inline lf_segment_slice lf_segment_look(uint32_t next, const int32_t *arena, size_t arena_len,
+                                               const uint32_t *table, size_t table_len, uint32_t segments,
+                                               const uint32_t *index, size_t index_len, const int32_t *placeholder,
+                                               size_t placeholder_len, uint32_t ticket, uint32_t address,
+                                               uint32_t words)
+{
+    lf_segment_slice slice;
+    if (lf_segment_find(next, arena, arena_len, table, table_len, segments, index, index_len, ticket, address, words)
+            .number == LF_OK) {
+        slice.words = arena + address;
+        slice.len = words;
+    } else {
+        slice.words = placeholder;
+        slice.len = placeholder_len;
+    }
+    return slice;
+}
+
+#ifdef __cplusplus
+}
+#endif
+
+#endif

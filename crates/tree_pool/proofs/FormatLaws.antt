@@ -30,7 +30,7 @@ unfolding free covers
 blank-free zero u = refl
 blank-free (suc k) u = blank-free k u
 
-blank-owned : (k i : ℕ) → owned (formRule formOne) (replicate k emptyRow) i ≡ false
+pub blank-owned : (k i : ℕ) → owned (formRule formOne) (replicate k emptyRow) i ≡ false
 unfolding owned owns
 blank-owned zero i = refl
 blank-owned (suc k) i = blank-owned k i

@@ -232,8 +232,8 @@ pub fn release(head: Head, arena: &mut [u32], table: &mut [u32], named: Row) -> 
 
 // ---- list
 
-// One request on a sound pool.
-fn serve(head: Head, arena: &mut [u32], table: &mut [u32], request: Request) -> Outcome
+// One request on a sound pool. It is a core and no call of the interface: who keeps a pool of its own sound may use it.
+pub fn serve(head: Head, arena: &mut [u32], table: &mut [u32], request: Request) -> Outcome
     requires { ⌜ sound treeEngine (poolOf head (now arena) (now table)) ≡ true ⌝ }
     ensures { λ r. ⌜ handed r (now (arena .exit)) (now (table .exit)) []
         ≡ acted (actOf request) (poolOf head (now (arena .entry)) (now (table .entry))) ⌝ }

@@ -1,0 +1,122 @@
+-- A line out of a chunk, and what the rest of the chunk will have made. Assumes nothing.
+use Prim.Native.Nat.{ℕ, suc, _+_, _≤_, _<_}
+use mathlib.Core.Path.{_≡_, refl, sym, ap, _∙_}
+use mathlib.Core.Logic.{_≢_}
+use mathlib.Core.Bool.{Bool, true, false, cond, _&&_}
+use mathlib.Core.List.{[], _∷_, _++_}
+use native.Mathlib.Numerals.{add-one}
+use native.Mathlib.Nat.{add-zero}
+use native.Mathlib.Omega.{arith}
+use lib.Dec.{eqb, leb}
+use lib.ListN.{length, getD, drop, length-append, drop-of-length-le}
+use lib.Seq.{sets, drop-cons}
+use Rattle.words.proofs.Tests.{eqb-eq}
+use Rattle.calls.specs.declared.Answer.{Answer}
+use Rattle.calls.specs.Step.{accepted, answerTo}
+use Rattle.calls.specs.Engines.{treeEngine}
+use Rattle.call_parts.specs.Parts.{actOf}
+use Rattle.text.specs.declared.Pair.{Pair}
+use Rattle.text.specs.declared.Pair.the-variants as pair
+use Rattle.text.specs.Numbers.{Bytes}
+use Rattle.text.specs.Fields.{lineOf, Wrote}
+use Rattle.text.specs.Lines.{Fed, also, feed, finish, keep, Run, run}
+use Rattle.text.proofs.WriteLaws.{sets-after}
+use Rattle.text.proofs.CutLaw.{feed-run}
+use Rattle.pool_text.specs.Meaning.{Standing, before, serving, stopped, served, serve, fresh, opened, firstLine}
+use Rattle.pool_text.specs.Meaning.{sizesOf, requestOf, answerLine, refusalLine, mostWords}
+use Rattle.pool_text.specs.Session.{landed}
+use Rattle.pool_text.proofs.RoomLaws.{choice-long, line-room}
+
+-- ---- an answer is at most 35 bytes long
+
+answer-long : (x : Answer) → length (answerLine x) ≤ 35
+unfolding answerLine
+answer-long x =
+    choice-long (accepted x) _ _ 35 (line-room 75 (x .ticket ∷ x .address ∷ x .words ∷ []) (omega arith))
+    (line-room 78 (x .number ∷ []) (omega arith))
+
+opened-long : (b : Bool) (s : Standing) (w k : ℕ)
+    → length (cond b (served s (lineOf 80 (w ∷ k ∷ []))) (served stopped (refusalLine 8)) .said) ≤ 35
+opened-long true s w k = line-room 80 (w ∷ k ∷ []) (omega arith)
+opened-long false s w k = line-room 78 (8 ∷ []) (omega arith)
+
+first-long : (p : Pair) → length (firstLine p .said) ≤ 35
+unfolding opened
+first-long (pair.Two w k) =
+    opened-long (leb w mostWords && accepted (fresh w k .answer)) (serving (fresh w k .pool)) w k
+first-long pair.Bad = line-room 78 (9 ∷ []) (omega arith)
+
+pub said-long : (s : Standing) (line : Bytes) → length (serve s line .said) ≤ 35
+unfolding serve
+said-long before line = first-long (sizesOf line)
+said-long (serving p) line = answer-long (answerTo treeEngine p (actOf (requestOf line)))
+said-long stopped line = omega arith
+
+-- ---- where the line ends
+
+head-is : (x b : ℕ) (xs more : Bytes) → x ∷ xs ≡ b ∷ more → x ≡ b
+head-is x b xs more e = ap (λ (l : Bytes). getD l 0 0) e
+
+stop-byte : (t : Bool) (k : Bytes) (x : ℕ) (xs : Bytes) (r : Run) (b : ℕ) (more : Bytes) → eqb x 10 ≡ t
+    → (r .rest ≡ b ∷ more → b ≡ 10) → cond t (record { kept = k; rest = x ∷ xs }) r .rest ≡ b ∷ more → b ≡ 10
+stop-byte true k x xs r b more e ih h = sym (head-is x b xs more h) ∙ eqb-eq x 10 e
+stop-byte false k x xs r b more e ih h = ih h
+
+-- what is left of a chunk begins with a line feed, if anything is left
+stops-at-feed : (k bs : Bytes) (b : ℕ) (more : Bytes) → run k bs .rest ≡ b ∷ more → b ≡ 10
+unfolding run
+stops-at-feed k [] b more h = absurd (nothing (ap length h))
+  where
+    nothing : _≡_ {A = ℕ} 0 (suc (length more)) → ⊥
+    nothing e = omega arith
+stops-at-feed k (x ∷ bs) b more h =
+    stop-byte (eqb x 10) k x bs (run (keep k x) bs) b more refl (stops-at-feed (keep k x) bs b more) h
+
+-- what code has kept, as far as place e of the chunk
+module _ (s : Standing) (k kept chunk : Bytes) (from e : ℕ)
+    (r : record { kept = kept; rest = drop e chunk } ≡ run k (drop from chunk)) where
+  pub ran : feed serve s k (drop from chunk) ≡ feed serve s kept (drop e chunk)
+  ran =
+      feed-run serve s k (drop from chunk)
+      ∙ sym (ap (λ (x : Run). feed serve s (x .kept) (x .rest)) r)
+
+  line-served : e < length chunk
+      → feed serve s k (drop from chunk)
+      ≡ also (serve s kept .said) (feed serve (serve s kept .state) [] (drop (e + 1) chunk))
+  line-served h =
+      let b = getD chunk e 0 in
+      let cut = drop-cons chunk e 0 h in
+      let rest = sym (ap (λ (x : Run). x .rest) r) ∙ cut in
+      let ten : b ≡ 10 = stops-at-feed k (drop from chunk) b (drop (suc e) chunk) rest in
+      ran ∙ ap (λ (bs : Bytes). feed serve s kept bs) cut
+      ∙ ap (λ (n : ℕ). feed serve s kept (n ∷ drop (suc e) chunk)) ten
+      ∙ ap (λ (n : ℕ). also (serve s kept .said) (feed serve (serve s kept .state) [] (drop n chunk))) (sym (add-one e))
+
+-- what was written before the rest
+landed-on : (out left : Bytes) (at to : ℕ) (said : Bytes) (f : Fed Standing) → Wrote out left at to said
+    → landed left to f ≡ landed out at (also said f)
+landed-on out left at to said f w =
+    let place : to + length (f .said) ≡ at + length (said ++ f .said) =
+    omega (arith, w .0, length-append said (f .said)) in
+    let bytes = sets-after said (f .said) out left at to w in
+    ap (λ (l : Bytes). (f .state, f .kept, l, to + length (f .said))) bytes
+    ∙ ap (λ (n : ℕ). (f .state, f .kept, sets out at (said ++ f .said), n)) place
+
+-- a whole line
+pub next-line : (s t : Standing) (k kept chunk : Bytes) (from e : ℕ)
+    → record { kept = kept; rest = drop e chunk } ≡ run k (drop from chunk) → e < length chunk
+    → (out left : Bytes) (at to : ℕ) → t ≡ serve s kept .state → Wrote out left at to (serve s kept .said)
+    → landed left to (feed serve t [] (drop (e + 1) chunk)) ≡ landed out at (feed serve s k (drop from chunk))
+next-line s t k kept chunk from e r h out left at to st w =
+    ap (λ (x : Standing). landed left to (feed serve x [] (drop (e + 1) chunk))) st
+    ∙ landed-on out left at to (serve s kept .said) (feed serve (serve s kept .state) [] (drop (e + 1) chunk)) w
+    ∙ ap (landed out at) (sym (line-served s k kept chunk from e r h))
+
+-- the end of a chunk, and of the input
+pub ahead-end : (s : Standing) (k chunk out : Bytes) (from at : ℕ) → length chunk ≤ from
+    → landed out at (feed serve s k (drop from chunk)) ≡ (s, k, out, at)
+ahead-end s k chunk out from at h = rw (drop-of-length-le chunk h, add-zero)
+
+pub finish-some : (s : Standing) (k : Bytes) (n : ℕ) → length k ≡ n → n ≢ 0 → finish serve s k ≡ serve s k
+finish-some s [] n e h = absurd (h (sym e))
+finish-some s (b ∷ k) n e h = refl

@@ -1,0 +1,46 @@
+-- What a line is read as. Assumes nothing.
+use Prim.Native.Nat.{ℕ, _-_, _≤_}
+use mathlib.Core.Path.{_≡_, ap, _∙_}
+use mathlib.Core.Bool.{true, false}
+use lib.ListN.{length, take, drop}
+use Rattle.words.proofs.Tests.{and-l, le-of}
+use Rattle.call_parts.specs.declared.Request.{Request}
+use Rattle.call_parts.specs.declared.Request.the-variants as request
+use Rattle.text.specs.declared.Number.{Number}
+use Rattle.text.specs.declared.Pair.{Pair}
+use Rattle.text.specs.declared.Pair.the-variants as pair
+use Rattle.text.specs.declared.Triple.{Triple}
+use Rattle.text.specs.Numbers.{Bytes, valueOf}
+use Rattle.text.specs.Fields.{pairOf, tripleOf}
+use Rattle.text.proofs.FieldLaws.{part-rest}
+use Rattle.pool_text.specs.Meaning.{begins, sizesOf, requestOf, askOf, giveOf}
+
+-- there is something after the tab to slice
+pub begins-long : (s : Bytes) (letter : ℕ) → begins s letter ≡ true → 2 ≤ length s
+unfolding begins
+begins-long s letter h = le-of 2 (length s) (and-l _ _ (and-l _ _ (and-l _ _ h)))
+
+module _ (s : Bytes) where
+  abbrev pub rest : Bytes
+  rest = take (length s - 2) (drop 2 s)
+
+  pub sizes-in : (r : Pair) → begins s 80 ≡ true → r ≡ pairOf rest → r ≡ sizesOf s
+  unfolding sizesOf
+  sizes-in r b e = rw b (e ∙ ap pairOf (part-rest 2 s))
+
+  pub no-sizes : begins s 80 ≡ false → pair.Bad ≡ sizesOf s
+  unfolding sizesOf
+  no-sizes b = rw b
+
+  pub ask-line : (n : Number) (r : Request) → begins s 65 ≡ true → n ≡ valueOf rest → r ≡ askOf n → r ≡ requestOf s
+  unfolding requestOf
+  ask-line n r b e z = rw b (z ∙ ap askOf (e ∙ ap valueOf (part-rest 2 s)))
+
+  pub give-line : (t : Triple) (r : Request) → begins s 65 ≡ false → begins s 82 ≡ true → t ≡ tripleOf rest
+      → r ≡ giveOf t → r ≡ requestOf s
+  unfolding requestOf
+  give-line t r a b e z = rw (a, b) (z ∙ ap giveOf (e ∙ ap tripleOf (part-rest 2 s)))
+
+  pub bad-line : begins s 65 ≡ false → begins s 82 ≡ false → request.Bad ≡ requestOf s
+  unfolding requestOf
+  bad-line a b = rw (a, b)

@@ -1,0 +1,93 @@
+-- The session after a line, as the meaning has it. Assumes nothing.
+use Prim.Native.Nat.{ℕ, _*_, _≤_}
+use mathlib.Core.Path.{_≡_, sym, ap, _∙_, subst}
+use mathlib.Core.Bool.{true, _&&_}
+use mathlib.Core.List.{[]}
+use lib.Dec.{leb}
+use lib.ListN.{length, take}
+use Rattle.words.specs.Lists.{Words}
+use Rattle.words.proofs.Tests.{and-l, and-r, and-i, le-of, of-le}
+use Rattle.ledger.specs.Records.{recordWords}
+use Rattle.calls.specs.Pool.{sound}
+use Rattle.calls.specs.Step.{poolAfter}
+use Rattle.calls.specs.Engines.{treeEngine}
+use Rattle.call_parts.specs.declared.Request.{Request}
+use Rattle.call_parts.specs.Parts.{actOf}
+use Rattle.tree_pool.specs.declared.Outcome.{Outcome}
+use Rattle.tree_pool.specs.Promises.{Left, handed, acted}
+use Rattle.tree_pool.proofs.RequestLaws.{acted-pool, acted-sound}
+use Rattle.text.specs.Numbers.{Bytes}
+use Rattle.text.specs.Fields.{Wrote}
+use Rattle.text.specs.Lines.{Served}
+use Rattle.pool_text.specs.declared.Own.{Own}
+use Rattle.pool_text.specs.declared.Stage.{Stage}
+use Rattle.pool_text.specs.declared.Stage.the-variants.{Serving, Stopped}
+use Rattle.pool_text.specs.Meaning.{Standing, serving, stopped, served, serve, actLine}
+use Rattle.pool_text.specs.Meaning.{requestOf, answerLine, refusalLine}
+use Rattle.pool_text.specs.Session.{ownPool, standingOf, ready, Lent, Became}
+
+-- what is known of a session with a pool
+module _ (o : Own) (a t : Words) (l : Lent (Serving o) a t) where
+  pub arena-lies : o .words ≤ length a
+  arena-lies = le-of (o .words) (length a) (and-l _ _ (and-l _ _ (l .2)))
+
+  pub table-lies : recordWords * o .slots ≤ length t
+  table-lies = le-of (recordWords * o .slots) (length t) (and-r (leb (o .words) (length a)) _ (and-l _ _ (l .2)))
+
+  pub own-sound : sound treeEngine (ownPool o a t) ≡ true
+  own-sound = and-r (leb (o .words) (length a) && leb (recordWords * o .slots) (length t)) _ (l .2)
+
+pub lent-own : (o : Own) (a t : Words) → length a ≡ 8192 → length t ≡ 768 → o .words ≤ length a
+    → recordWords * o .slots ≤ length t → sound treeEngine (ownPool o a t) ≡ true → Lent (Serving o) a t
+lent-own o a t la lt ha ht ok = (
+  la,
+  lt,
+  and-i (leb (o .words) (length a) && leb (recordWords * o .slots) (length t)) _
+      (and-i _ _ (of-le (o .words) (length a) ha) (of-le (recordWords * o .slots) (length t) ht)) ok,
+)
+
+-- what came of a line, where its meaning is said otherwise
+pub became-as : {m n : Served Standing} → m ≡ n → (s : Stage) (a t : Words) (out left : Bytes) (at r : ℕ)
+    → Became s a t m out left at r → Became s a t n out left at r
+became-as e s a t out left at r b = subst (λ (x : Served Standing). Became s a t x out left at r) e b
+
+-- stopped, with N and a number
+pub became-stopped : (s : Stage) (a t : Words) (out left : Bytes) (at r n : ℕ) → s ≡ Stopped → length a ≡ 8192
+    → length t ≡ 768 → Wrote out left at r (refusalLine n) → Became s a t (served stopped (refusalLine n)) out left at r
+became-stopped s a t out left at r n e la lt w = (
+  (la, lt, ap (λ (x : Stage). ready x a t) e),
+  ap (λ (x : Stage). standingOf x a t) e,
+  w,
+)
+
+-- a request served: what was asked of the pool before, and the words before and after
+module _ (o : Own) (a t b u line : Bytes) (q : Request) (d : Outcome) (asked : q ≡ requestOf line)
+    (e : handed d (take (o .words) b) (take (recordWords * o .slots) u) [] ≡ acted (actOf q) (ownPool o a t)) where
+  abbrev own : Own
+  own = record { head = d .head; words = o .words; slots = o .slots }
+
+  pool-after : ownPool own b u ≡ poolAfter treeEngine (ownPool o a t) (actOf q)
+  pool-after =
+      acted-pool (actOf q) (o .head) (take (o .words) a) (take (recordWords * o .slots) t) d (take (o .words) b)
+      (take (recordWords * o .slots) u) e
+
+  request-lent : Lent (Serving o) a t → length b ≡ length a → length u ≡ length t → Lent (Serving own) b u
+  request-lent l lb lu =
+      lent-own own b u (lb ∙ l .0) (lu ∙ l .1)
+      (subst (λ (n : ℕ). o .words ≤ n) (sym lb) (arena-lies o a t l))
+      (subst (λ (n : ℕ). recordWords * o .slots ≤ n) (sym lu) (table-lies o a t l))
+      (acted-sound (ownPool o a t) (actOf q) (ownPool own b u) pool-after (own-sound o a t l))
+
+  asked-line : actLine (ownPool o a t) (actOf q) ≡ serve (standingOf (Serving o) a t) line
+  unfolding serve
+  asked-line = ap (λ (r : Request). actLine (ownPool o a t) (actOf r)) asked
+
+  pub became-served : (out left : Bytes) (at r : ℕ) → Lent (Serving o) a t → length b ≡ length a → length u ≡ length t
+      → Wrote out left at r (answerLine (d .answer))
+      → Became (Serving own) b u (serve (standingOf (Serving o) a t) line) out left at r
+  became-served out left at r l lb lu w =
+      became-as asked-line (Serving own) b u out left at r (
+        request-lent l lb lu,
+        ap serving pool-after,
+        subst (λ (x : Left). Wrote out left at r (answerLine (x .answer))) e w,
+      )

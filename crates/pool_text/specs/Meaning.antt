@@ -1,0 +1,112 @@
+-- The meaning of the text program, from input bytes to output bytes, over the machine. 01, "The text program". Letters
+-- and tabs are bytes: A is 65, K 75, N 78, P 80, R 82, a tab 9. Assumes nothing.
+use Prim.Native.Nat.{ℕ, _*_}
+use mathlib.Core.Bool.{Bool, cond, _&&_}
+use mathlib.Core.List.{List, [], _∷_, _++_}
+use lib.Dec.{eqb, leb}
+use lib.ListN.{length, getD, drop, replicate}
+use Rattle.ledger.specs.Records.{row, recordWords}
+use Rattle.calls.specs.declared.Answer.{Answer}
+use Rattle.calls.specs.Pool.{Pool}
+use Rattle.calls.specs.Step.{Outcome, Act, accepted, answerTo, poolAfter, format, step}
+use Rattle.calls.specs.Engines.{treeEngine}
+use Rattle.call_parts.specs.declared.Request.{Request}
+use Rattle.call_parts.specs.declared.Request.the-variants as request
+use Rattle.call_parts.specs.Parts.{actOf}
+use Rattle.tree_check.specs.Gate.{treePool}
+use Rattle.text.specs.declared.Number.{Number}
+use Rattle.text.specs.declared.Number.the-variants as number
+use Rattle.text.specs.declared.Pair.{Pair}
+use Rattle.text.specs.declared.Pair.the-variants as pair
+use Rattle.text.specs.declared.Triple.{Triple}
+use Rattle.text.specs.declared.Triple.the-variants as triple
+use Rattle.text.specs.Numbers.{Bytes, valueOf}
+use Rattle.text.specs.Fields.{pairOf, tripleOf, lineOf}
+use Rattle.text.specs.Lines.{mostBytes, Served, answered, finish, feedAll}
+
+-- ---- what a line asks
+
+-- a line of at most 64 bytes that begins with the letter and a tab ("Lines over 64 bytes, the line feed not counted,
+-- are bad lines.")
+unfoldable pub begins : Bytes → ℕ → Bool
+begins s letter =
+    leb 2 (length s) && leb (length s) mostBytes && eqb (getD s 0 0) letter && eqb (getD s 1 0) 9
+
+-- "First line P, words, slots"
+unfoldable pub sizesOf : Bytes → Pair
+sizesOf s = cond (begins s 80) (pairOf (drop 2 s)) pair.Bad
+
+-- "Then A, words or R, ticket, address, words."
+abbrev pub askOf : Number → Request
+askOf (number.Value n) = request.Ask n
+askOf number.Bad = request.Bad
+
+abbrev pub giveOf : Triple → Request
+giveOf (triple.Three t a n) = request.Give (row t a n)
+giveOf triple.Bad = request.Bad
+
+-- every other line is bad, an empty one and a second P too
+unfoldable pub requestOf : Bytes → Request
+requestOf s =
+    cond (begins s 65) (askOf (valueOf (drop 2 s))) (cond (begins s 82) (giveOf (tripleOf (drop 2 s))) request.Bad)
+
+-- ---- what a line does
+
+-- before P; with a pool; or after "the program stops", where nothing is answered any more
+pub data Standing : Type 0 where
+  before : Standing
+  serving : Pool → Standing
+  stopped : Standing
+
+-- where the program stands after a line, and what it said
+abbrev pub served : Standing → Bytes → Served Standing
+served s said = record { state = s; said = said }
+
+-- "tree pool, here at most 8,192 words"
+abbrev pub mostWords : ℕ
+mostWords = 8192
+
+-- a new pool of w words and s records
+unfoldable pub fresh : ℕ → ℕ → Outcome
+fresh w s = step treeEngine format (treePool 0 0 (replicate w 0) (replicate (recordWords * s) 0))
+
+-- "N, number"
+abbrev pub refusalLine : ℕ → Bytes
+refusalLine n = lineOf 78 (n ∷ [])
+
+-- "echoed", or "if its sizes are wrong N 8, and the program stops"
+unfoldable pub opened : ℕ → ℕ → Served Standing
+opened w s =
+    cond (leb w mostWords && accepted (fresh w s .answer)) (served (serving (fresh w s .pool)) (lineOf 80 (w ∷ s ∷ [])))
+    (served stopped (refusalLine 8))
+
+-- "If it is not a readable P line the answer is N 9"
+abbrev pub firstLine : Pair → Served Standing
+firstLine (pair.Two w s) = opened w s
+firstLine pair.Bad = served stopped (refusalLine 9)
+
+-- "Answers: K, ticket, address, words or N, number."
+unfoldable pub answerLine : Answer → Bytes
+answerLine x = cond (accepted x) (lineOf 75 (x .ticket ∷ x .address ∷ x .words ∷ [])) (refusalLine (x .number))
+
+-- an act on the pool. "A bad, empty or second P line gives N 9 and work goes on": it is the act that is answered 9.
+abbrev pub actLine : Pool → Act → Served Standing
+actLine p a = served (serving (poolAfter treeEngine p a)) (answerLine (answerTo treeEngine p a))
+
+-- a line, by where the program stands
+unfoldable pub serve : Standing → Bytes → Served Standing
+serve before line = firstLine (sizesOf line)
+serve (serving p) line = actLine p (actOf (requestOf line))
+serve stopped line = served stopped []
+
+-- ---- the whole program
+
+-- all of the input's lines, one after another. "Empty input gives empty output."
+unfoldable pub program : Bytes → Bytes
+program input = answered serve before input
+
+-- its bytes in chunks, cut anywhere: what each is answered after those before it, and the end
+unfoldable pub inChunks : List Bytes → Bytes
+inChunks cs =
+    let f = feedAll serve before [] cs in
+    f .said ++ finish serve (f .state) (f .kept) .said

@@ -1,0 +1,7 @@
+-- Laws of numbers, fields and lines.
+pub mod WriteLaws
+pub mod NumberLaws
+pub mod RoundTrip
+pub mod FieldLaws
+pub mod LineLaws
+pub mod CutLaw

@@ -1,0 +1,4 @@
+-- Numbers, fields and lines as bytes, with nothing of pools in it.
+pub mod Numbers
+pub mod Fields
+pub mod Lines

@@ -1,0 +1,2 @@
+-- What the session keeps from read to read.
+pub mod Between

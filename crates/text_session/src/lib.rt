@@ -6,24 +6,32 @@ ghost use Prim.Native.Nat.{_+_, _≤_, _<_};
 ghost use lib.ListN.{length};
 ghost use Rattle.text_session.specs.Between.{Between};
 
-// Writes the answers before place `at`.
-fn write_out(fd: i32, out: &[u8], at: usize)
+// Writes the answers before place `at`: whether they could be written.
+fn write_out(fd: i32, out: &[u8], at: usize) -> bool
     requires { ⌜ at ≤ length (now out) ⌝ }
 {
     let start = 0;
-    io::write_all(fd, &out[start..at]);
+    io::write_all(fd, &out[start..at])
 }
 
-// Makes room for the answers to 512 bytes, 35 for each: the place to go on at.
-fn make_room(fd: i32, out: &[u8], at: usize) -> usize
+// The place to go on at, and whether all answers before could be written.
+struct Room {
+    at: usize,
+    fine: bool,
+}
+
+// Makes room for the answers to 512 bytes, 35 for each.
+fn make_room(fd: i32, out: &[u8], at: usize) -> Room
     requires { ⌜ at ≤ length (now out) ⌝ }
-    ensures { λ r. ⌜ r ≤ 47616 ⌝ }
+    ensures { λ r. ⌜ r .at ≤ 47616 ⌝ }
 {
     if at <= 47616 {
-        return at;
+        return Room { at, fine: true };
     }
-    write_out(fd, out, at);
-    0
+    Room {
+        at: 0,
+        fine: write_out(fd, out, at),
+    }
 }
 
 // The end of a piece of at most `piece` bytes.
@@ -37,7 +45,7 @@ fn piece_end(from: usize, piece: usize, length: usize) -> usize
     from + piece
 }
 
-// Serves the next piece of what was read.
+// Serves the next piece of what was read. Where answers can't be written any more, the session stops.
 fn serve_piece(
     fd: i32,
     turn: Turn,
@@ -53,7 +61,16 @@ fn serve_piece(
     ensures { λ r. ⌜ Between r (now (line .exit)) (now (arena .exit)) (now (table .exit)) (now (out .exit)) ⌝ }
     ensures { λ r. ⌜ (turn .from < r .from) × (r .from ≤ length (now (chunk .entry))) ⌝ }
 {
-    let at = make_room(fd, out, turn.at);
+    let room = make_room(fd, out, turn.at);
+    if !room.fine {
+        return Turn {
+            stage: Stage::Stopped,
+            kept: 0,
+            at: 0,
+            from: chunk.len(),
+        };
+    }
+    let at = room.at;
     let from = turn.from;
     let end = piece_end(from, piece, chunk.len());
     let stage = turn.stage;
@@ -181,9 +198,9 @@ fn finish(
 )
     requires { ⌜ Between turn (now line) (now arena) (now table) (now out) ⌝ }
 {
-    let at = make_room(output, out, turn.at);
+    let room = make_room(output, out, turn.at);
     let stage = turn.stage;
-    let done = pool_text::serve_end(stage, turn.kept, line, arena, table, out, at);
+    let done = pool_text::serve_end(stage, turn.kept, line, arena, table, out, room.at);
     write_out(output, out, done.at);
 }
 

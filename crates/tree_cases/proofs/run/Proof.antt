@@ -1,6 +1,6 @@
 -- `tree_cases::run` is safe and ends.
 -- Assumes nothing.
-use Prim.Native.Nat.{_≤_, _-_}
+use Prim.Native.Nat.{_≤_, _+_, _-_}
 use lib.ListN.{length}
 use mathlib.Core.Path.{_≡_}
 use borrow.Author.Needs.{needs}
@@ -9,18 +9,21 @@ use Rattle.tree_cases.proofs.run.Tie as tie
 
 abbrev Inv-loop : tie.InvT-loop
 Inv-loop text arena₀ table₀ given₀ asked₀ answers₀ pool₀ at₀ arena table given asked answers pool at =
-    (at ≤ length text) × (length arena ≡ length arena₀) × (length table ≡ length table₀) ×
+    (at ≤ length text + 1) × (length arena ≡ length arena₀) × (length table ≡ length table₀) ×
     (length given ≡ length given₀) × (length asked ≡ length asked₀) × (length answers ≡ length answers₀)
 
 abbrev μ-loop : tie.MeasureT-loop
 μ-loop text arena₀ table₀ given₀ asked₀ answers₀ pool₀ at₀ arena table given asked answers pool at =
-    length text - at
+    length text + 1 - at
 
 loop-holds : tie.Need-loop-holds Inv-loop μ-loop
 loop-holds c = search needs
 
 until-requires : tie.Need-until-requires Inv-loop μ-loop
 until-requires c κs = search needs
+
+add-next : tie.Need-add-next Inv-loop μ-loop
+add-next c = search needs
 
 sub-run-line : tie.Need-sub-run-line Inv-loop μ-loop
 sub-run-line c = search needs
@@ -33,6 +36,12 @@ part-run-line-end c = search needs
 
 run-line-requires : tie.Need-run-line-requires Inv-loop μ-loop
 run-line-requires c κs = search needs
+
+loop-less : tie.Need-loop-less Inv-loop μ-loop
+loop-less c = search needs
+
+loop-again : tie.Need-loop-again Inv-loop μ-loop
+loop-again c = search needs
 
 same-length : tie.Need-same-length Inv-loop μ-loop
 same-length c = search needs
@@ -52,33 +61,6 @@ same-length-5 c = search needs
 returns : tie.Need-returns Inv-loop μ-loop
 returns c = search needs
 
-add-at : tie.Need-add-at Inv-loop μ-loop
-add-at c = search needs
-
-loop-less : tie.Need-loop-less Inv-loop μ-loop
-loop-less c = search needs
-
-loop-again : tie.Need-loop-again Inv-loop μ-loop
-loop-again c = search needs
-
-same-length-6 : tie.Need-same-length-6 Inv-loop μ-loop
-same-length-6 c = search needs
-
-same-length-7 : tie.Need-same-length-7 Inv-loop μ-loop
-same-length-7 c = search needs
-
-same-length-8 : tie.Need-same-length-8 Inv-loop μ-loop
-same-length-8 c = search needs
-
-same-length-9 : tie.Need-same-length-9 Inv-loop μ-loop
-same-length-9 c = search needs
-
-same-length-10 : tie.Need-same-length-10 Inv-loop μ-loop
-same-length-10 c = search needs
-
-returns-2 : tie.Need-returns-2 Inv-loop μ-loop
-returns-2 c = search needs
-
 pub run-spec : {M : Type 1} → statement M
 run-spec =
     tie.close
@@ -87,22 +69,16 @@ run-spec =
     μ-loop
     loop-holds
     until-requires
+    add-next
     sub-run-line
     part-run-line-start
     part-run-line-end
     run-line-requires
+    loop-less
+    loop-again
     same-length
     same-length-2
     same-length-3
     same-length-4
     same-length-5
-    returns
-    add-at
-    loop-less
-    loop-again
-    same-length-6
-    same-length-7
-    same-length-8
-    same-length-9
-    same-length-10
-    returns-2)
+    returns)

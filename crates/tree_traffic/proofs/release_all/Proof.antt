@@ -13,17 +13,13 @@ Inv-loop arena₀ table₀ book₀ map₀ slots round₀ i₀ arena table book m
     (length book ≡ length book₀) × (length map ≡ length map₀)
 
 abbrev μ-loop : tie.MeasureT-loop
-μ-loop arena₀ table₀ book₀ map₀ slots round₀ i₀ arena table book map round i =
-    slots - i
+μ-loop arena₀ table₀ book₀ map₀ slots round₀ i₀ arena table book map round i = slots - i
 
 loop-holds : tie.Need-loop-holds Inv-loop μ-loop
 loop-holds c = search needs
 
-entry-requires : tie.Need-entry-requires Inv-loop μ-loop
-entry-requires c κs = search needs
-
-try-release-requires : tie.Need-try-release-requires Inv-loop μ-loop
-try-release-requires c κs = search needs
+release-slot-requires : tie.Need-release-slot-requires Inv-loop μ-loop
+release-slot-requires c κs = search needs
 
 add-i : tie.Need-add-i Inv-loop μ-loop
 add-i c = search needs
@@ -56,8 +52,7 @@ release-all-spec =
     Inv-loop
     μ-loop
     loop-holds
-    entry-requires
-    try-release-requires
+    release-slot-requires
     add-i
     loop-less
     loop-again

@@ -2,7 +2,7 @@
 -- are readable.
 use Prim.Native.Nat.{ℕ, _+_, _-_, _≤_, _<_}
 use native.Mathlib.Omega.{arith}
-use mathlib.Core.Path.{_≡_, refl}
+use mathlib.Core.Path.{_≡_, refl, subst}
 use mathlib.Core.Logic.{_≢_}
 use Rattle.words.specs.Lists.{Words}
 use Rattle.words.proofs.Tests.{of-lt, of-ge}
@@ -13,7 +13,7 @@ use Rattle.free_tree.specs.Held.{cells, LeftSet, RightSet, Became, NoNod
 use Rattle.free_tree.proofs.PartLaws.{within-below, within-above}
 use Rattle.free_tree.proofs.CellLaws.{no-node-below, no-node-above}
 use Rattle.free_tree.proofs.StepLaws.{rooted, at-none, at-left, at-right, unchanged, still, left-replaced}
-use Rattle.free_tree.proofs.StepLaws.{right-replaced}
+use Rattle.free_tree.proofs.StepLaws.{right-replaced, left-kept, right-kept}
 
 module _ {F : Form} {bound : ℕ} (readable : Readable F bound) where
   pub parts-none : {m : Words} {l : ℕ} (x : ℕ) → l ≡ 0 → Parts F bound m m l x 0 0
@@ -60,3 +60,19 @@ module _ {F : Form} {bound : ℕ} (readable : Readable F bound) where
               (left-replaced readable p (j .high) out put (within-above x a 0 c place)
               (λ d u. no-node-above a 0 c d place u));
         })
+
+  -- there is nothing further down, and nothing is put
+  module _ {m : Words} {l x s : ℕ} (z : l ≢ 0) (e : s ≡ 0) where
+    pub parts-right-none : s ≡ rightAt F m (l - 1) → l - 1 < x → Parts F bound m m l x l 0
+    parts-right-none f h =
+        rooted (λ t. Parted F bound m m x t l 0) z
+        (λ a n b p.
+        let kept = right-kept readable p (unchanged readable {off = λ d. Unit {0}} (at-right readable p f)) tt f in
+        parts-right z (parts-none x e) f h (subst (RightSet F m m (l - 1)) e kept) (node a (run (l - 1) n) b) p)
+
+    pub parts-left-none : s ≡ leftAt F m (l - 1) → x ≤ l - 1 → Parts F bound m m l x 0 l
+    parts-left-none f h =
+        rooted (λ t. Parted F bound m m x t 0 l) z
+        (λ a n b p.
+        let kept = left-kept readable p (unchanged readable {off = λ d. Unit {0}} (at-left readable p f)) tt f in
+        parts-left z (parts-none x e) f h (subst (LeftSet F m m (l - 1)) e kept) (node a (run (l - 1) n) b) p)

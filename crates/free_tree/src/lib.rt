@@ -149,7 +149,8 @@ pub struct Sides {
     pub hi: usize,
 }
 
-// Splits the tree at the link `l` into its blocks below cell `x` and those from it on.
+// Splits the tree at the link `l` into its blocks below cell `x` and those from it on. Where there is nothing further
+// down, no call is made to find that out.
 pub fn split(arena: &mut [u32], l: usize, x: usize) -> Sides
     requires { ⌜ ((t : Tree) × At formOne links (now arena) l t) ⌝ }
     ensures { λ r. ⌜ Parts formOne links (now (arena .entry)) (now (arena .exit)) l x (r .lo) (r .hi) ⌝ }
@@ -160,6 +161,9 @@ pub fn split(arena: &mut [u32], l: usize, x: usize) -> Sides
     let c = l - 1;
     if c < x {
         let s = right_of(arena, c);
+        if s == 0 {
+            return Sides { lo: l, hi: 0 };
+        }
         let p = split(arena, s, x);
         let lo = p.lo;
         let hi = p.hi;
@@ -167,6 +171,9 @@ pub fn split(arena: &mut [u32], l: usize, x: usize) -> Sides
         Sides { lo: l, hi }
     } else {
         let s = left_of(arena, c);
+        if s == 0 {
+            return Sides { lo: 0, hi: l };
+        }
         let p = split(arena, s, x);
         let lo = p.lo;
         let hi = p.hi;

@@ -1,25 +1,26 @@
 -- Laws of the check of a table. Assumes nothing.
-use Prim.Native.Nat.{ℕ, _+_, _-_, _*_, _/_, _≤_, _<_}
+use Prim.Native.Nat.{ℕ, _+_, _-_, _*_, _/_, _%_, _≤_, _<_}
 use native.Mathlib.Nat.{mul-add, div-le-self, mul-div-le}
 use native.Mathlib.Decide.{ℕ-discrete}
 use native.Mathlib.Omega.{arith}
-use mathlib.Core.Path.{_≡_, refl, sym, _∙_}
+use mathlib.Core.Path.{_≡_, refl, sym, ap, _∙_}
 use mathlib.Core.Logic.{_≢_}
-use mathlib.Core.Bool.{Bool, true, false, not, _&&_, _||_, or-true}
+use mathlib.Core.Bool.{Bool, true, false, not, _&&_, _||_, or-true, true≢false}
 use lib.Dec.{eqb, leb}
 use lib.ListN.{length, getD, set}
 use lib.Seq.{getD-set-same, getD-set-other}
-use Rattle.words.specs.Lists.{Words, all, pairwise, zeroAt}
+use Rattle.words.specs.Lists.{Words, all, pairwise, isZero, zeroAt}
 use Rattle.words.specs.Counted.{every}
 use Rattle.words.proofs.Tests.{and-l, not-true, eqb-eq, eqb-ne}
 use Rattle.words.proofs.ListLaws.{all-listFrom}
-use Rattle.words.proofs.CountedLaws.{every-at, every-same}
+use Rattle.words.proofs.CountedLaws.{every-at, every-of, every-same}
 use Rattle.ledger.specs.declared.Row.{Row}
 use Rattle.ledger.specs.declared.Rule.{Rule}
 use Rattle.ledger.specs.Records.{Ledger, recordAt, slots, recordsOf, isEmpty}
 use Rattle.ledger.specs.Units.{span, first, past, apart, valid}
 use Rattle.ledger.proofs.UnitLaws.{Fitted, fits-facts}
 use Rattle.record_table.specs.Checks.{rowOk, differ, beside, unlike, newAt, Gathered, AllInside}
+use Rattle.record_table.specs.Checks.{Noted}
 use Rattle.record_table.proofs.PairLaws.{after, or-every, pairs, pairs-both}
 
 -- ---- the records by their slots
@@ -55,6 +56,35 @@ new-differ ids t g =
         or-every (zeroAt ids k) (unlike ids k) (k + 1) later
         ∙ every-same (λ j. zeroAt ids k || unlike ids k j) (λ j. differ (recordAt t k) (recordAt t j)) (k + 1) later
         (λ j a b. rw (g k h, g j (omega arith)))
+
+-- ---- the residues
+
+module _ (m : ℕ) (seen ids : Words) (n i : ℕ) (N : Noted m seen ids n (i + 1)) where
+  -- a ticket whose residue no later one has is none of them
+  pub residue-new : zeroAt ids i ≡ false → zeroAt seen (getD ids i 0 % m) ≡ true → newAt ids n i ≡ true
+  residue-new live none =
+      rw live (every-of (unlike ids i) (i + 1) (n - (i + 1))
+      (λ j a b. go j a (omega arith) (ℕ-discrete (getD ids i 0) (getD ids j 0))))
+    where
+      go : (j : ℕ) → i + 1 ≤ j → j < n → Dec (getD ids i 0 ≡ getD ids j 0) → unlike ids i j ≡ true
+      go j a b (yes e) = absurd (true≢false (sym none ∙ ap (λ t. zeroAt seen (t % m)) e ∙ N j a b (rw e at live)))
+      go j a b (no e) = rw (eqb-ne (getD ids i 0) (getD ids j 0) e)
+
+  pub note-none : zeroAt ids i ≡ true → Noted m seen ids n i
+  note-none z j a b live = go (ℕ-discrete j i)
+    where
+      go : Dec (j ≡ i) → zeroAt seen (getD ids j 0 % m) ≡ false
+      go (yes e) = absurd (true≢false (sym z ∙ ap (zeroAt ids) (sym e) ∙ live))
+      go (no e) = N j (omega arith) b live
+
+  pub note-next : (at : ℕ) → at ≡ getD ids i 0 % m → at < length seen → Noted m (set seen at 1) ids n i
+  note-next at is h j a b live = go (ℕ-discrete (getD ids j 0 % m) at) (ℕ-discrete j i)
+    where
+      go : Dec (getD ids j 0 % m ≡ at) → Dec (j ≡ i)
+          → zeroAt (set seen at 1) (getD ids j 0 % m) ≡ false
+      go (yes e) d = ap (zeroAt (set seen at 1)) e ∙ ap isZero (getD-set-same seen at 1 0 h)
+      go (no e) (yes d) = absurd (e (ap (λ k. getD ids k 0 % m) d ∙ sym is))
+      go (no e) (no d) = ap isZero (getD-set-other seen at (getD ids j 0 % m) 1 0 e) ∙ N j (omega arith) b live
 
 -- ---- numbers of a record that fit a machine word
 

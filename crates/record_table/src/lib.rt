@@ -11,7 +11,7 @@ ghost use Rattle.words.specs.Places.{wiped};
 ghost use Rattle.ledger.specs.Records.{recordWords, recordAt, slots, recordsOf, tableOf, isEmpty};
 ghost use Rattle.ledger.specs.Units.{span, first, past, fits, valid};
 ghost use Rattle.record_table.specs.Slots.{ticketSlot, emptySlot};
-ghost use Rattle.record_table.specs.Checks.{rowOk, differ, unlike, newAt, Gathered};
+ghost use Rattle.record_table.specs.Checks.{rowOk, differ, unlike, newAt, Gathered, Noted};
 ghost use Rattle.record_table.specs.Checks.{beside, Inside, AllInside, Marks, room, marked};
 
 // The slot that a search found.
@@ -82,12 +82,43 @@ pub fn empty_slot(table: &[u32]) -> Found
 
 // ---- the unit rule
 
+// How often so many words go into w. The units of this house are spared the division.
+fn over(w: usize, unit: usize) -> usize
+    requires { ⌜ 0 < unit ⌝ }
+    ensures { λ q. ⌜ q ≡ w / unit ⌝ }
+{
+    if unit == 1 {
+        return w;
+    }
+    if unit == 2 {
+        return w / 2;
+    }
+    w / unit
+}
+
+// What is left over then.
+fn rest(w: u32, unit: u32) -> u32
+    requires { ⌜ 0 < unit ⌝ }
+    ensures { λ q. ⌜ q ≡ w % unit ⌝ }
+{
+    if unit == 1 {
+        return 0;
+    }
+    if unit == 2 {
+        return w % 2;
+    }
+    w % unit
+}
+
 // The units that a request for n words takes.
 pub fn span_of(rule: Rule, n: u32) -> usize
     requires { ⌜ 0 < rule .unit ⌝ }
     ensures { λ u. ⌜ u ≡ span rule n ⌝ }
 {
-    (n as usize + rule.lead as usize + (rule.unit as usize - 1)) / rule.unit as usize
+    over(
+        n as usize + rule.lead as usize + (rule.unit as usize - 1),
+        rule.unit as usize,
+    )
 }
 
 // Where a record's block begins, in words: its address less the words before it, and 0 for an address too low for them.
@@ -105,7 +136,7 @@ pub fn first_unit(rule: Rule, r: Row) -> usize
     requires { ⌜ 0 < rule .unit ⌝ }
     ensures { λ u. ⌜ u ≡ first rule r ⌝ }
 {
-    (begin_of(rule, r) / rule.unit) as usize
+    over(begin_of(rule, r) as usize, rule.unit as usize)
 }
 
 pub fn past_unit(rule: Rule, r: Row) -> usize
@@ -128,7 +159,7 @@ fn live_fits(rule: Rule, words: usize, next: u32, r: Row) -> bool
         & ((next == 0) | (r.ticket < next))
         & (1 <= r.words)
         & (rule.lead <= r.address)
-        & (begin % rule.unit == 0)
+        & (rest(begin, rule.unit) == 0)
         & (end <= words)
 }
 
@@ -184,37 +215,84 @@ fn unlike_later(ids: &[u32], n: usize, i: usize) -> bool
     ok
 }
 
-fn is_new(ids: &[u32], n: usize, i: usize) -> bool
+// A ticket's place among m residues; the numbers in use here are spared the division. Tickets follow one another, so
+// those alive together rarely share one.
+fn residue(ticket: u32, m: usize) -> usize
+    requires { ⌜ 0 < m ⌝ }
+    ensures { λ r. ⌜ (r ≡ ticket % m) × (r < m) ⌝ }
+{
+    if m == 128 {
+        return (ticket % 128) as usize;
+    }
+    if m == 2048 {
+        return (ticket % 2048) as usize;
+    }
+    ticket as usize % m
+}
+
+// Ticket i is none of the later ones, whose residues are noted; its own is noted as well. Only where a later ticket
+// has the same residue are tickets compared.
+fn is_new(seen: &mut [u8], m: usize, ids: &[u32], n: usize, i: usize) -> bool
     requires { ⌜ (i < n) × (n ≤ length (now ids)) ⌝ }
+    requires { ⌜ (0 < m) × (length (now seen) ≡ m) × Noted m (now seen) (now ids) n (i + 1) ⌝ }
     ensures { λ b. ⌜ b ≡ newAt (now (ids .entry)) n i ⌝ }
+    ensures { λ _. ⌜ Noted m (now (seen .exit)) (now (ids .entry)) n i ⌝ }
 {
     if ids[i] == 0 {
+        return true;
+    }
+    let at = residue(ids[i], m);
+    let first = seen[at] == 0;
+    seen[at] = 1;
+    if first {
         return true;
     }
     unlike_later(ids, n, i)
 }
 
-fn all_new(ids: &[u32], n: usize) -> bool
-    requires { ⌜ n ≤ length (now ids) ⌝ }
+// No ticket stands twice. From the last ticket to the first, over m residues of which none has to be noted yet.
+fn all_new(seen: &mut [u8], m: usize, ids: &[u32], n: usize) -> bool
+    requires { ⌜ (n ≤ length (now ids)) × (0 < m) × (length (now seen) ≡ m) ⌝ }
     ensures { λ b. ⌜ b ≡ every (newAt (now (ids .entry)) n) 0 n ⌝ }
 {
     let mut ok = true;
-    let mut i = 0;
-    while i < n {
-        ok = ok & is_new(ids, n, i);
-        i += 1;
+    let mut i = n;
+    while i > 0 {
+        i -= 1;
+        ok = ok & is_new(&mut *seen, m, ids, n, i);
     }
     ok
 }
 
-// No ticket stands in two slots.
-fn tickets_differ(table: &[u32]) -> bool
+// No ticket stands in two slots, of few and of many. Both arrays are wiped whole, so that few slots get short ones.
+fn few_differ(table: &[u32]) -> bool
+    requires { ⌜ slots (now table) ≤ 16 ⌝ }
+    ensures { λ b. ⌜ b ≡ pairwise differ (recordsOf (now (table .entry))) ⌝ }
+{
+    let mut ids: [u32; 16] = [0; 16];
+    gather(&mut ids, table);
+    let mut seen: [u8; 128] = [0; 128];
+    all_new(&mut seen, 128, &ids, table.len() / 3)
+}
+
+fn many_differ(table: &[u32]) -> bool
     requires { ⌜ slots (now table) ≤ 256 ⌝ }
     ensures { λ b. ⌜ b ≡ pairwise differ (recordsOf (now (table .entry))) ⌝ }
 {
     let mut ids: [u32; 256] = [0; 256];
     gather(&mut ids, table);
-    all_new(&ids, table.len() / 3)
+    let mut seen: [u8; 2048] = [0; 2048];
+    all_new(&mut seen, 2048, &ids, table.len() / 3)
+}
+
+fn tickets_differ(table: &[u32]) -> bool
+    requires { ⌜ slots (now table) ≤ 256 ⌝ }
+    ensures { λ b. ⌜ b ≡ pairwise differ (recordsOf (now (table .entry))) ⌝ }
+{
+    if table.len() / 3 <= 16 {
+        return few_differ(table);
+    }
+    many_differ(table)
 }
 
 // Marks the units from lo up to hi in the map, unless one is marked already.

@@ -25,6 +25,11 @@ pub record Ground (v : List ℤ) (c : ℕ → ℤ) (s g : ℕ) : Type 0 where
   pub sizes : Sizes (length v) s g
   pub blocks : Blocks v c
 
+-- one free block, from word 0 to the end
+pub record OneBlock (v : List ℤ) (c : ℕ → ℤ) (s g : ℕ) : Type 0 where
+  pub ground : Ground v c s g
+  pub whole : c 0 ≡ pos (length v)
+
 -- the blocks of segment k can be scanned from `from` on: its first block, or a later place where it has none
 pub record Facing (v : List ℤ) (c : ℕ → ℤ) (s g k from : ℕ) : Type 0 where
   pub sizes : Sizes (length v) s g

@@ -5,17 +5,19 @@ ghost use mathlib.Core.Bool.{true};
 ghost use Prim.Native.Nat.{ℕ, _+_, _-_, _*_, _≤_, _<_, _^_};
 ghost use lib.IntN.{ℤ};
 ghost use lib.ListN.{length};
+ghost use Rattle.words.specs.Places.{wiped};
 ghost use Rattle.stored_forms.specs.Segments.{largest};
 ghost use Rattle.segment_index.specs.Index.{indexOf};
 ghost use Rattle.segment_blocks.specs.Blocks.{Scan, Seeking, FirstFit, Chain, EndsAt, Reaches};
-ghost use Rattle.segment_blocks.specs.Upkeep.{Ground, Ready, Refreshed, RefreshedIf, Touched, firstFrom};
+ghost use Rattle.segment_blocks.specs.Upkeep.{OneBlock, Ready, Refreshed, RefreshedIf, Touched, firstFrom};
 use control_words::size_at;
 use control_words::weight_at;
 use segment_index::index_word;
 use segment_index::larger;
 use segment_index::lesser;
 use segment_index::raise;
-use words::wipe;
+use segment_index::raise_most;
+use words::wipe_part;
 
 // The first free block of n words or more from `from` on. There is one: the leaf of the segment says so.
 pub fn first_fit(v: &[i32], from: usize, n: u32) -> usize
@@ -136,21 +138,31 @@ pub fn block_from(v: &[i32], from: usize, hi: usize) -> usize
     at
 }
 
-// The whole index, from blocks alone: what format does once.
-pub fn build_index(v: &[i32], t: &mut [u32], s: usize, g: usize)
-    requires { ⌜ ((c : ℕ → ℤ) × Ground (now v) c s g) ⌝ }
+// The words from lo on get the value x.
+fn fill_from(t: &mut [u32], lo: usize, x: u32)
+    requires { ⌜ lo ≤ length (now t) ⌝ }
+    ensures { λ _. ⌜ now (t .exit) ≡ wiped x lo (length (now (t .entry))) (now (t .entry)) ⌝ }
+{
+    let n = t.len();
+    let mut i = lo;
+    while i < n {
+        t[i] = x;
+        i += 1;
+    }
+}
+
+// The index of an arena that is one free block: what format writes.
+pub fn build_index(v: &[i32], t: &mut [u32], s: usize)
+    requires { ⌜ ((c : ℕ → ℤ) × (g : ℕ) × OneBlock (now v) c s g) ⌝ }
     requires { ⌜ length (now t) ≡ 3 * s ⌝ }
     ensures { λ _. ⌜
-        ((c : ℕ → ℤ) → Ground (now (v .entry)) c s g → now (t .exit) ≡ indexOf c (length (now (v .entry))) s)
+        ((c : ℕ → ℤ) → (g : ℕ) → OneBlock (now (v .entry)) c s g
+        → now (t .exit) ≡ indexOf c (length (now (v .entry))) s)
         ⌝ }
 {
-    wipe(t);
     let w = v.len();
-    let mut from: usize = 0;
-    let mut k: usize = 0;
-    while k < s {
-        refresh_segment(v, t, s, g, k, from);
-        from = block_from(v, from, lesser((k + 1) * g, w));
-        k += 1;
-    }
+    wipe_part(t, 0, 2 * s);
+    fill_from(t, 2 * s, w as u32);
+    raise_most(t, s, s, w as u32);
+    t[2 * s] = 0;
 }

@@ -31,7 +31,7 @@ use Rattle.segment_places.proofs.UnitLaws.{span-words}
 use Rattle.segment_places.proofs.ViewLaws.{ledger-whole, slot-starts, begun-slot}
 use Rattle.segment_places.proofs.WordLaws.{clash, run-is, run-of, opens-before, word-held, word-open, word-shut}
 use Rattle.segment_places.proofs.WordLaws.{unstarted}
-use Rattle.segment_check.specs.Right.{Says, heldRight, freeRight, runRight, Skips, Mapped}
+use Rattle.segment_check.specs.Right.{Says, heldRight, freeRight, runRight, Alike, Skips, Mapped}
 
 -- ---- a word by its tests
 
@@ -62,13 +62,18 @@ agrees true false h = absurd (true≢false h)
 agrees false true h = absurd (true≢false h)
 agrees false false h = refl
 
-pub skip-more : (m : Words) (b : Bool) (at i : ℕ) → ((u : ℕ) → at ≤ u → u < i → zeroAt m u ≡ b) → zeroAt m i ≡ b
-    → (u : ℕ) → at ≤ u → u < i + 1 → zeroAt m u ≡ b
-skip-more m b at i h e u x y = go (ℕ-discrete u i)
+pub alike-none : (m : Words) (b : Bool) (lo : ℕ) → Alike m b lo lo
+alike-none m b lo u x y = absurd (omega arith)
+
+pub alike-one : (m : Words) (b : Bool) (at : ℕ) → zeroAt m at ≡ b → Alike m b at (at + 1)
+alike-one m b at e u x y = let q : u ≡ at = omega arith in ap (zeroAt m) q ∙ e
+
+pub alike-join : (m : Words) (b : Bool) (lo i hi : ℕ) → Alike m b lo i → Alike m b i hi → Alike m b lo hi
+alike-join m b lo i hi f g u x y = go (decLt u i)
   where
-    go : Dec (u ≡ i) → zeroAt m u ≡ b
-    go (yes q) = ap (zeroAt m) q ∙ e
-    go (no q) = h u x (omega arith)
+    go : Dec (u < i) → zeroAt m u ≡ b
+    go (yes l) = f u x l
+    go (no l) = g u (omega arith) y
 
 -- ---- a run
 

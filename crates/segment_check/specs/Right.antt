@@ -43,11 +43,15 @@ runRight v lo hi =
     leb hi lo
     || (eqb (freeSize (getD v lo (pos 0))) (hi - lo) && every (zeroAtZ v) (lo + 1) (hi - (lo + 1)))
 
+-- the units from lo up to hi are marked as b says
+abbrev pub Alike : Words → Bool → ℕ → ℕ → Type 0
+Alike m b lo hi = (u : ℕ) → lo ≤ u → u < hi → zeroAt m u ≡ b
+
 -- r is the first unit from `at` on, of w, that is not marked as b says
 pub record Skips (m : Words) (b : Bool) (at w r : ℕ) : Type 0 where
   pub above : at ≤ r
   pub below : r ≤ w
-  pub same : (u : ℕ) → at ≤ u → u < r → zeroAt m u ≡ b
+  pub same : Alike m b at r
   pub stop : r < w → zeroAt m r ≡ not b
 
 -- the table holds a valid ledger, and exactly its free units read 0 in the map

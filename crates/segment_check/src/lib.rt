@@ -16,7 +16,7 @@ ghost use mathlib.Core.Bool.{true, false};
 ghost use Prim.Native.Nat.{ℕ, _+_, _-_, _*_, _≤_, _<_};
 ghost use lib.IntN.{ℤ};
 ghost use lib.ListN.{length};
-ghost use Rattle.words.specs.Lists.{all};
+ghost use Rattle.words.specs.Lists.{all, zeroAt};
 ghost use Rattle.words.specs.Counted.{every};
 ghost use Rattle.ledger.specs.Records.{recordsOf, isEmpty};
 ghost use Rattle.ledger.specs.Units.{valid};
@@ -24,8 +24,8 @@ ghost use Rattle.stored_forms.specs.Segments.{segmentRule, segmentIndex};
 ghost use Rattle.segment_index.specs.Index.{indexOf};
 ghost use Rattle.segment_blocks.specs.Upkeep.{Ground, Facing};
 ghost use Rattle.segment_places.specs.Stores.{arenaOf};
-ghost use Rattle.segment_check.specs.Right.{Says, heldRight, freeRight, runRight, Skips, Mapped, nodeRight};
-ghost use Rattle.segment_check.specs.Right.{segmentRight, Measured};
+ghost use Rattle.segment_check.specs.Right.{Says, heldRight, freeRight, runRight, Alike, Skips, Mapped};
+ghost use Rattle.segment_check.specs.Right.{nodeRight, segmentRight, Measured};
 
 // ---- the arena
 
@@ -54,17 +54,48 @@ fn rows_right(v: &[i32], table: &[u32]) -> bool
     ok
 }
 
-// The first unit from `at` on, of w, that is not free where `free` is true, and not held where it is false.
-fn skip(used: &[u8], free: bool, at: usize, w: usize) -> usize
-    requires { ⌜ (at ≤ w) × (w ≤ length (now used)) ⌝ }
-    ensures { λ r. ⌜ Skips (now (used .entry)) free at w r ⌝ }
+// Whether the units from lo up to hi are all free, or all held.
+fn alike(used: &[u8], free: bool, lo: usize, hi: usize) -> bool
+    requires { ⌜ (lo ≤ hi) × (hi ≤ length (now used)) ⌝ }
+    ensures { λ r. ⌜ (r ≡ true → Alike (now (used .entry)) free lo hi) ⌝ }
+{
+    if free {
+        return words::zero_part_bytes(used, lo, hi);
+    }
+    words::set_part_bytes(used, lo, hi)
+}
+
+// A later unit, up to which all are free, or all held, as the one at `at` is: the end of the block whose control word
+// stands there, if the map says so too, else the next one. Nothing is asked of the control word.
+fn onward(v: &[i32], used: &[u8], free: bool, at: usize) -> usize
+    requires { ⌜ (at < length (now v)) × (length (now v) ≤ length (now used)) ⌝ }
+    requires { ⌜ zeroAt (now used) at ≡ free ⌝ }
+    ensures { λ r. ⌜ (at < r) × (r ≤ length (now (v .entry))) × Alike (now (used .entry)) free at r ⌝ }
+{
+    let n = size_at(v, at);
+    if n == 0 {
+        return at + 1;
+    }
+    if v.len() - at < n {
+        return at + 1;
+    }
+    if !alike(used, free, at, at + n) {
+        return at + 1;
+    }
+    at + n
+}
+
+// The first unit from `at` on that is not free where `free` is true, and not held where it is false.
+fn skip(v: &[i32], used: &[u8], free: bool, at: usize) -> usize
+    requires { ⌜ (at ≤ length (now v)) × (length (now v) ≤ length (now used)) ⌝ }
+    ensures { λ r. ⌜ Skips (now (used .entry)) free at (length (now (v .entry))) r ⌝ }
 {
     let mut i = at;
-    while i < w {
+    while i < v.len() {
         if (used[i] == 0) != free {
             return i;
         }
-        i += 1;
+        i = onward(v, used, free, i);
     }
     i
 }
@@ -85,11 +116,10 @@ fn runs_right(v: &[i32], used: &[u8]) -> bool
     requires { ⌜ length (now v) ≤ length (now used) ⌝ }
     ensures { λ r. ⌜ r ≡ every (freeRight (now (v .entry)) (now (used .entry))) 0 (length (now (v .entry))) ⌝ }
 {
-    let w = v.len();
     let mut at: usize = 0;
-    while at < w {
-        let lo = skip(used, false, at, w);
-        let hi = skip(used, true, lo, w);
+    while at < v.len() {
+        let lo = skip(v, used, false, at);
+        let hi = skip(v, used, true, lo);
         if !run_right(v, lo, hi) {
             return false;
         }

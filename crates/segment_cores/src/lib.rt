@@ -150,5 +150,5 @@ pub fn lay_out(v: &mut [i32], t: &mut [u32], s: usize, g: usize)
     let w = v.len();
     wipe_signed(v);
     put_free(v, 0, w);
-    build_index(v, t, s, g);
+    build_index(v, t, s);
 }

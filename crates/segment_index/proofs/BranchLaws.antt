@@ -1,9 +1,9 @@
 -- The update of one leaf up its branch. Assumes nothing.
-use Prim.Native.Nat.{ℕ, _+_, _*_, _/_, _≤_, _<_, max}
+use Prim.Native.Nat.{ℕ, _+_, _-_, _*_, _/_, _≤_, _<_, max}
 use native.Mathlib.Decide.{ℕ-discrete}
 use native.Mathlib.Omega.{arith}
 use mathlib.Core.Logic.{_≢_}
-use mathlib.Core.Path.{_≡_, refl, sym, subst, _∙_}
+use mathlib.Core.Path.{_≡_, refl, sym, subst, ap, ap₂, _∙_}
 use lib.ListN.{length, getD, set, length-set}
 use lib.Seq.{getD-set-same, getD-set-other}
 use Rattle.words.specs.Lists.{Words}
@@ -70,6 +70,43 @@ module _ (s : ℕ) (t u : Words) (i : ℕ) (b : Bent s t u i) (more : 1 < i) whe
           → getD w j 0 ≡ max (getD w (2 * j) 0) (getD w (2 * j + 1) 0)
       go j x y z (yes e) = subst (λ (n : ℕ). getD w n 0 ≡ max (getD w (2 * n) 0) (getD w (2 * n + 1) 0)) (sym e) here
       go j x y z (no f) = apart u k _ j f (omega arith) (omega arith) (b .node j x y f)
+
+-- the larger of the word at i, which is m, and of the other son of the word above it
+pub carried : (u : Words) (i r m : ℕ) → m ≡ getD u i 0 → r + i ≡ 4 * (i / 2) + 1
+    → max m (getD u r 0) ≡ max (getD u (2 * (i / 2)) 0) (getD u (2 * (i / 2) + 1) 0)
+carried u i r m e b = go (ℕ-discrete i (2 * (i / 2)))
+  where
+    at : {j k : ℕ} → j ≡ k → getD u j 0 ≡ getD u k 0
+    at q = ap (λ (k : ℕ). getD u k 0) q
+
+    go : Dec (i ≡ 2 * (i / 2)) → max m (getD u r 0) ≡ max (getD u (2 * (i / 2)) 0) (getD u (2 * (i / 2) + 1) 0)
+    go (yes q) =
+        let other : r ≡ 2 * (i / 2) + 1 = omega arith in
+        ap₂ max (e ∙ at q) (at other)
+    go (no q) =
+        let here : i ≡ 2 * (i / 2) + 1 = omega arith in
+        let other : r ≡ 2 * (i / 2) = omega arith in
+        omega (arith, e, at here, at other)
+
+-- no word of the tree is larger than v
+abbrev pub Most : ℕ → Words → ℕ → Type 0
+Most s t v = (j : ℕ) → j < 2 * s → getD t j 0 ≤ v
+
+pub most-set : (s v : ℕ) (t : Words) (k : ℕ) → k < length t → Most s t v → Most s (set t k v) v
+most-set s v t k l h j i = go (ℕ-discrete j k)
+  where
+    go : Dec (j ≡ k) → getD (set t k v) j 0 ≤ v
+    go (yes e) = rw e (omega (arith, getD-set-same t k v 0 l))
+    go (no e) = omega (arith, getD-set-other t k j v 0 e, h j i)
+
+-- so where v is the word at i, it is the larger son
+pub most-carried : (s v : ℕ) (u : Words) (i : ℕ) → 0 < i → i < 2 * s → Most s u v → v ≡ getD u i 0
+    → v ≡ max (getD u (2 * (i / 2)) 0) (getD u (2 * (i / 2) + 1) 0)
+most-carried s v u i p l h e =
+    let r = 4 * (i / 2) + 1 - i in
+    let beside : r + i ≡ 4 * (i / 2) + 1 = omega arith in
+    let larger : v ≡ max v (getD u r 0) = omega (arith, h r (omega arith)) in
+    larger ∙ carried u i r v e beside
 
 pub bent-end : (s at v : ℕ) (t u : Words) (i : ℕ) → Bent s (set t at v) u i → i ≤ 1 → s ≤ at → 0 < s
     → Raised s t at v u

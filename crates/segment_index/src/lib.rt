@@ -1,8 +1,8 @@
 // The tree of the segment pool's index: word i is the larger of words 2i and 2i + 1, and the leaves are words S to
 // 2S - 1. Each walk goes up or down one branch.
 ghost use mathlib.Core.Path.{_≡_};
-ghost use Prim.Native.Nat.{ℕ, _+_, _*_, _^_, _≤_, _<_, max, min};
-ghost use lib.ListN.{length, getD, set};
+ghost use Prim.Native.Nat.{ℕ, _+_, _*_, _/_, _^_, _≤_, _<_, max, min};
+ghost use lib.ListN.{length, getD};
 ghost use Rattle.stored_forms.specs.Segments.{depth, segmentSize};
 ghost use Rattle.segment_index.specs.Tree.{Heap, LowestLeaf, Raised, LastIn};
 ghost use Rattle.segment_index.specs.Climb.{Later, Above, Under};
@@ -52,28 +52,40 @@ pub fn descend(t: &[u32], d: u32, n: u32) -> usize
     i
 }
 
-// A word gets the larger of its two sons.
-pub fn refresh_word(t: &mut [u32], i: usize)
-    requires { ⌜ (0 < i) × (2 * i + 1 < length (now t)) ⌝ }
-    ensures { λ _. ⌜
-        now (t .exit)
-        ≡ set (now (t .entry)) i (max (getD (now (t .entry)) (2 * i) 0) (getD (now (t .entry)) (2 * i + 1) 0))
-        ⌝ }
+// The other son of the word above i.
+fn beside(i: usize) -> usize
+    requires { ⌜ (0 < i) × (i < 2 ^ 63) ⌝ }
+    ensures { λ r. ⌜ r + i ≡ 4 * (i / 2) + 1 ⌝ }
 {
-    let m = larger(t[2 * i], t[2 * i + 1]);
-    t[i] = m;
+    4 * (i / 2) + 1 - i
 }
 
-// A leaf gets a new value, and each word above it the larger of its sons.
+// A leaf gets a new value, and each word above it the larger of its sons: the one that was just written is carried up.
 pub fn raise(t: &mut [u32], s: usize, at: usize, v: u32)
     requires { ⌜ (Heap s (now t)) × (s ≤ at) × (at < 2 * s) ⌝ }
     ensures { λ _. ⌜ Raised s (now (t .entry)) at v (now (t .exit)) ⌝ }
 {
     t[at] = v;
     let mut i = at;
+    let mut most = v;
+    while 1 < i {
+        most = larger(most, t[beside(i)]);
+        i = i / 2;
+        t[i] = most;
+    }
+}
+
+// The same where no word is larger: nothing is to be compared, so no word that was just written is waited for.
+pub fn raise_most(t: &mut [u32], s: usize, at: usize, v: u32)
+    requires { ⌜ (Heap s (now t)) × (s ≤ at) × (at < 2 * s) ⌝ }
+    requires { ⌜ ((j : ℕ) → j < 2 * s → getD (now t) j 0 ≤ v) ⌝ }
+    ensures { λ _. ⌜ Raised s (now (t .entry)) at v (now (t .exit)) ⌝ }
+{
+    t[at] = v;
+    let mut i = at;
     while 1 < i {
         i = i / 2;
-        refresh_word(t, i);
+        t[i] = v;
     }
 }
 

@@ -12,6 +12,7 @@ ghost use mathlib.Core.Bool.{true};
 ghost use mathlib.Core.List.{[], _∷_};
 ghost use Prim.Native.Nat.{_+_, _*_, _%_, _<_, _≤_};
 ghost use lib.ListN.{length};
+ghost use Rattle.words.specs.Lists.{all, isZero};
 ghost use Rattle.calls.specs.Pool.{lengths, stored, sound};
 ghost use Rattle.calls.specs.Step.{format, allocate, release, find, look, list, step};
 ghost use Rattle.calls.specs.Step.{ask, give, answerTo, poolAfter};
@@ -60,21 +61,73 @@ fn ranged(arena: &[i32])
     }
 }
 
+// Whether head and lent memory are the stored form of a ledger, by a map that comes in all zero.
+fn is_stored_over(
+    s: u32,
+    next: u32,
+    arena: &[i32],
+    table: &[u32],
+    index: &[u32],
+    used: &mut [u8],
+) -> bool
+    requires { ⌜ lengths segmentEngine (segmentPool s next (now arena) (now table) (now index)) ≡ true ⌝ }
+    requires { ⌜ (length (now arena) ≤ length (now used)) × (all isZero (now used) ≡ true) ⌝ }
+    ensures { λ r. ⌜ r
+        ≡ stored segmentEngine (segmentPool s next (now (arena .entry)) (now (table .entry)) (now (index .entry))) ⌝ }
+{
+    let words = arena.len();
+    let rule = Rule { unit: 1, lead: 1 };
+    if !record_table::table_check(rule, words, next, table, &mut *used) {
+        return false;
+    }
+    ranged(arena);
+    let g = segment_index::segment_size(words, s as usize);
+    segment_check::pool_right(arena, index, used, table, s as usize, g)
+}
+
+// A map is wiped whole, so that a small pool gets a small one.
+fn is_stored_small(s: u32, next: u32, arena: &[i32], table: &[u32], index: &[u32]) -> bool
+    requires { ⌜ lengths segmentEngine (segmentPool s next (now arena) (now table) (now index)) ≡ true ⌝ }
+    requires { ⌜ length (now arena) ≤ 128 ⌝ }
+    ensures { λ r. ⌜ r
+        ≡ stored segmentEngine (segmentPool s next (now (arena .entry)) (now (table .entry)) (now (index .entry))) ⌝ }
+{
+    let mut used: [u8; 128] = [0; 128];
+    is_stored_over(s, next, arena, table, index, &mut used)
+}
+
+fn is_stored_middle(s: u32, next: u32, arena: &[i32], table: &[u32], index: &[u32]) -> bool
+    requires { ⌜ lengths segmentEngine (segmentPool s next (now arena) (now table) (now index)) ≡ true ⌝ }
+    requires { ⌜ length (now arena) ≤ 2048 ⌝ }
+    ensures { λ r. ⌜ r
+        ≡ stored segmentEngine (segmentPool s next (now (arena .entry)) (now (table .entry)) (now (index .entry))) ⌝ }
+{
+    let mut used: [u8; 2048] = [0; 2048];
+    is_stored_over(s, next, arena, table, index, &mut used)
+}
+
+fn is_stored_large(s: u32, next: u32, arena: &[i32], table: &[u32], index: &[u32]) -> bool
+    requires { ⌜ lengths segmentEngine (segmentPool s next (now arena) (now table) (now index)) ≡ true ⌝ }
+    ensures { λ r. ⌜ r
+        ≡ stored segmentEngine (segmentPool s next (now (arena .entry)) (now (table .entry)) (now (index .entry))) ⌝ }
+{
+    let mut used: [u8; 16384] = [0; 16384];
+    is_stored_over(s, next, arena, table, index, &mut used)
+}
+
 // Whether head and lent memory are the stored form of a ledger.
 fn is_stored(s: u32, next: u32, arena: &[i32], table: &[u32], index: &[u32]) -> bool
     requires { ⌜ lengths segmentEngine (segmentPool s next (now arena) (now table) (now index)) ≡ true ⌝ }
     ensures { λ r. ⌜ r
         ≡ stored segmentEngine (segmentPool s next (now (arena .entry)) (now (table .entry)) (now (index .entry))) ⌝ }
 {
-    let words = arena.len();
-    let rule = Rule { unit: 1, lead: 1 };
-    let mut used: [u8; 16384] = [0; 16384];
-    if !record_table::table_check(rule, words, next, table, &mut used) {
-        return false;
+    if arena.len() <= 128 {
+        return is_stored_small(s, next, arena, table, index);
     }
-    ranged(arena);
-    let g = segment_index::segment_size(words, s as usize);
-    segment_check::pool_right(arena, index, &used, table, s as usize, g)
+    if arena.len() <= 2048 {
+        return is_stored_middle(s, next, arena, table, index);
+    }
+    is_stored_large(s, next, arena, table, index)
 }
 
 // The number of the tests that stand before every call: 8, 1, or 0 for a sound pool.

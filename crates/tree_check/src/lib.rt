@@ -8,6 +8,7 @@ ghost use mathlib.Core.Bool.{true};
 ghost use Prim.Native.Nat.{_+_, _-_, _*_, _<_, _≤_};
 ghost use mathlib.Core.List.{_∷_};
 ghost use lib.ListN.{length};
+ghost use Rattle.words.specs.Lists.{all, isZero};
 ghost use Rattle.words.specs.Counted.{every};
 ghost use Rattle.ledger.specs.Records.{slots, recordsOf};
 ghost use Rattle.ledger.specs.Runs.{run};
@@ -19,18 +20,15 @@ ghost use Rattle.tree_check.specs.Gate.{treePool, RightLengths, gateOf};
 
 // ---- the map of units, in which free units read 0
 
-// Whether no unit from lo up to hi is free. The loop has no way out, so that the machine reads many bytes at a time.
+// Whether no unit from lo up to hi is free.
 fn all_held(used: &[u8], lo: usize, hi: usize) -> bool
     requires { ⌜ hi ≤ length (now used) ⌝ }
     ensures { λ r. ⌜ r ≡ every (heldAt (now (used .entry))) lo (hi - lo) ⌝ }
 {
-    let mut held = true;
-    let mut i = lo;
-    while i < hi {
-        held = held & (used[i] != 0);
-        i += 1;
+    if hi <= lo {
+        return true;
     }
-    held
+    words::set_part_bytes(used, lo, hi)
 }
 
 // Whether no free unit follows at unit e.
@@ -185,20 +183,61 @@ pub fn right_lengths(arena: &[u32], table: &[u32]) -> bool
     (2 <= w) & (w <= 16384) & (w % 2 == 0) & (t % 3 == 0) & (1 <= t / 3) & (t / 3 <= 256)
 }
 
-// Whether head and lent memory are the stored form of a ledger. A pool of n live records has at most n + 1 free runs,
-// so the walk is allowed no more nodes: at most 257.
-pub fn is_stored(root: u32, next: u32, arena: &[u32], table: &[u32]) -> bool
+// Whether head and lent memory are the stored form of a ledger, by a map that comes in all zero. A pool of n live
+// records has at most n + 1 free runs, so the walk is allowed no more nodes: at most 257.
+fn is_stored_over(root: u32, next: u32, arena: &[u32], table: &[u32], used: &mut [u8]) -> bool
     requires { ⌜ lengths treeEngine (treePool root next (now arena) (now table)) ≡ true ⌝ }
+    requires { ⌜ (length (now arena) ≤ 2 * length (now used)) × (all isZero (now used) ≡ true) ⌝ }
     ensures { λ r. ⌜ r ≡ stored treeEngine (treePool root next (now (arena .entry)) (now (table .entry))) ⌝ }
 {
     let words = arena.len();
     let rule = Rule { unit: 2, lead: 0 };
-    let mut used: [u8; 8192] = [0; 8192];
-    if !record_table::table_check(rule, words, next, table, &mut used) {
+    if !record_table::table_check(rule, words, next, table, &mut *used) {
         return false;
     }
     let allowed = count_live(table) + 1;
-    tree_ok(arena, &used, words / 2, root as usize, allowed)
+    tree_ok(arena, used, words / 2, root as usize, allowed)
+}
+
+// A map is wiped whole, so that a small pool gets a small one.
+fn is_stored_small(root: u32, next: u32, arena: &[u32], table: &[u32]) -> bool
+    requires { ⌜ lengths treeEngine (treePool root next (now arena) (now table)) ≡ true ⌝ }
+    requires { ⌜ length (now arena) ≤ 128 ⌝ }
+    ensures { λ r. ⌜ r ≡ stored treeEngine (treePool root next (now (arena .entry)) (now (table .entry))) ⌝ }
+{
+    let mut used: [u8; 64] = [0; 64];
+    is_stored_over(root, next, arena, table, &mut used)
+}
+
+fn is_stored_middle(root: u32, next: u32, arena: &[u32], table: &[u32]) -> bool
+    requires { ⌜ lengths treeEngine (treePool root next (now arena) (now table)) ≡ true ⌝ }
+    requires { ⌜ length (now arena) ≤ 2048 ⌝ }
+    ensures { λ r. ⌜ r ≡ stored treeEngine (treePool root next (now (arena .entry)) (now (table .entry))) ⌝ }
+{
+    let mut used: [u8; 1024] = [0; 1024];
+    is_stored_over(root, next, arena, table, &mut used)
+}
+
+fn is_stored_large(root: u32, next: u32, arena: &[u32], table: &[u32]) -> bool
+    requires { ⌜ lengths treeEngine (treePool root next (now arena) (now table)) ≡ true ⌝ }
+    ensures { λ r. ⌜ r ≡ stored treeEngine (treePool root next (now (arena .entry)) (now (table .entry))) ⌝ }
+{
+    let mut used: [u8; 8192] = [0; 8192];
+    is_stored_over(root, next, arena, table, &mut used)
+}
+
+// Whether head and lent memory are the stored form of a ledger.
+pub fn is_stored(root: u32, next: u32, arena: &[u32], table: &[u32]) -> bool
+    requires { ⌜ lengths treeEngine (treePool root next (now arena) (now table)) ≡ true ⌝ }
+    ensures { λ r. ⌜ r ≡ stored treeEngine (treePool root next (now (arena .entry)) (now (table .entry))) ⌝ }
+{
+    if arena.len() <= 128 {
+        return is_stored_small(root, next, arena, table);
+    }
+    if arena.len() <= 2048 {
+        return is_stored_middle(root, next, arena, table);
+    }
+    is_stored_large(root, next, arena, table)
 }
 
 // The number of the tests that stand before every call: 8, 1, or 0 for a sound pool.

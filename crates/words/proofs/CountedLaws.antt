@@ -3,12 +3,12 @@ use Prim.Native.Nat.{ℕ, zero, suc, _+_, _-_, _≤_, _<_}
 use native.Mathlib.Nat.{sub-zero, add-zero, zero-add, add-suc, suc-add}
 use native.Mathlib.Numerals.{add-one}
 use native.Mathlib.Omega.{arith}
-use native.Mathlib.Decide.{ℕ-discrete}
+use native.Mathlib.Decide.{decLt, ℕ-discrete}
 use mathlib.Core.Path.{_≡_, refl, sym, ap, ap₂, _∙_}
 use mathlib.Core.Bool.{Bool, true, false, _&&_, true≢false, and-true, and-assoc}
 use mathlib.Core.Option.{Option, none, some}
 use Rattle.words.specs.Counted.{every, lowest}
-use Rattle.words.proofs.Tests.{and-l, and-r, and-i, false-of, absurd-some}
+use Rattle.words.proofs.Tests.{and-l, and-r, and-i, bool-iff, false-of, absurd-some}
 
 -- ---- every
 
@@ -85,6 +85,23 @@ module _ (r : Bool) (p : ℕ → Bool) (n i : ℕ) (inv : r ≡ every p i (n - i
 
     pub every-stop : block ≡ false → false ≡ r
     every-stop t = sym (parts ∙ ap (λ b. b && every p e (n - e)) t)
+
+-- numbers up to i pass, so that those from m on decide, where m is not above i
+pub every-rest : (p : ℕ → Bool) (lo n i m : ℕ) → every p lo (i - lo) ≡ true → lo ≤ m → m ≤ i → i ≤ n
+    → every p m (n - m) ≡ every p lo (n - lo)
+every-rest p lo n i m e a b c =
+    bool-iff (every p m (n - m)) (every p lo (n - lo))
+    (λ h. every-of p lo (n - lo) (λ k x y. go h k x (omega arith) (decLt k i)))
+    (λ h. every-of p m (n - m) (λ k x y. every-at p lo (n - lo) h k (omega arith) (omega arith)))
+  where
+    go : every p m (n - m) ≡ true → (k : ℕ) → lo ≤ k → k < n → Dec (k < i) → p k ≡ true
+    go h k x y (yes l) = every-at p lo (i - lo) e k x (omega arith)
+    go h k x y (no l) = every-at p m (n - m) h k (omega arith) (omega arith)
+
+-- numbers up to i pass, and so do those from i up to e
+pub every-join : (p : ℕ → Bool) (lo i e : ℕ) → every p lo (i - lo) ≡ true → every p i (e - i) ≡ true → lo ≤ i → i ≤ e
+    → every p lo (e - lo) ≡ true
+every-join p lo i e g h a b = sym (every-rest p lo e i i g a (omega arith) b) ∙ h
 
 -- ---- a flag that each turn may clear: whole is the answer, and ok what the turns before i found
 

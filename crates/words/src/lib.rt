@@ -3,7 +3,7 @@ ghost use mathlib.Core.Path.{_≡_};
 ghost use Prim.Native.Nat.{_-_, _≤_};
 ghost use lib.ListN.{length, replicate};
 ghost use lib.IntN.{pos};
-ghost use Rattle.words.specs.Lists.{all, isZero, zeroAt};
+ghost use Rattle.words.specs.Lists.{all, isZero, zeroAt, setAt};
 ghost use Rattle.words.specs.Signed.{isZeroZ, zeroAtZ};
 ghost use Rattle.words.specs.Counted.{every};
 ghost use Rattle.words.specs.Places.{wiped};
@@ -146,6 +146,26 @@ fn zero_block_bytes(s: &[u8], lo: usize, hi: usize) -> bool
     clear
 }
 
+// Whether fewer bytes are 0, by blocks of 16. The last block may overlap the one before it: no byte is left over.
+fn zero_short_bytes(s: &[u8], lo: usize, hi: usize) -> bool
+    requires { ⌜ (lo ≤ hi) × (hi ≤ length (now s)) ⌝ }
+    ensures { λ r. ⌜ r ≡ every (zeroAt (now (s .entry))) lo (hi - lo) ⌝ }
+{
+    if hi - lo < 16 {
+        return zero_block_bytes(s, lo, hi);
+    }
+    let last = hi - 16;
+    let mut i = lo;
+    while i < last {
+        let e = i + 16;
+        if !zero_block_bytes(s, i, e) {
+            return false;
+        }
+        i = e;
+    }
+    zero_block_bytes(s, last, hi)
+}
+
 pub fn zero_part_bytes(s: &[u8], lo: usize, hi: usize) -> bool
     requires { ⌜ (lo ≤ hi) × (hi ≤ length (now s)) ⌝ }
     ensures { λ r. ⌜ r ≡ every (zeroAt (now (s .entry))) lo (hi - lo) ⌝ }
@@ -158,5 +178,53 @@ pub fn zero_part_bytes(s: &[u8], lo: usize, hi: usize) -> bool
         }
         i = e;
     }
-    zero_block_bytes(s, i, hi)
+    zero_short_bytes(s, i, hi)
+}
+
+// Whether no byte is 0, the same way.
+fn set_block_bytes(s: &[u8], lo: usize, hi: usize) -> bool
+    requires { ⌜ (lo ≤ hi) × (hi ≤ length (now s)) ⌝ }
+    ensures { λ r. ⌜ r ≡ every (setAt (now (s .entry))) lo (hi - lo) ⌝ }
+{
+    let mut set = true;
+    let mut i = lo;
+    while i < hi {
+        set = set & (s[i] != 0);
+        i += 1;
+    }
+    set
+}
+
+fn set_short_bytes(s: &[u8], lo: usize, hi: usize) -> bool
+    requires { ⌜ (lo ≤ hi) × (hi ≤ length (now s)) ⌝ }
+    ensures { λ r. ⌜ r ≡ every (setAt (now (s .entry))) lo (hi - lo) ⌝ }
+{
+    if hi - lo < 16 {
+        return set_block_bytes(s, lo, hi);
+    }
+    let last = hi - 16;
+    let mut i = lo;
+    while i < last {
+        let e = i + 16;
+        if !set_block_bytes(s, i, e) {
+            return false;
+        }
+        i = e;
+    }
+    set_block_bytes(s, last, hi)
+}
+
+pub fn set_part_bytes(s: &[u8], lo: usize, hi: usize) -> bool
+    requires { ⌜ (lo ≤ hi) × (hi ≤ length (now s)) ⌝ }
+    ensures { λ r. ⌜ r ≡ every (setAt (now (s .entry))) lo (hi - lo) ⌝ }
+{
+    let mut i = lo;
+    while hi - i >= 256 {
+        let e = i + 256;
+        if !set_block_bytes(s, i, e) {
+            return false;
+        }
+        i = e;
+    }
+    set_short_bytes(s, i, hi)
 }

@@ -1,7 +1,7 @@
 -- `free_tree::split` meets its contract. The measure is the number of nodes of the tree. Assumes nothing.
 use Prim.Native.Nat.{ℕ, _<_}
 use native.Mathlib.Omega.{arith}
-use mathlib.Core.Path.{_∙_}
+use mathlib.Core.Path.{_∙_, refl}
 use denote.Ref.{now}
 use Rattle.stored_forms.specs.Tree.{formOne}
 use Rattle.stored_forms.proofs.NodeLaws.{readable-one}
@@ -9,7 +9,8 @@ use borrow.Fn.Kinds.{In}
 use borrow.Fn.PlainCycle.{Measures, is, falls, and}
 use Rattle.free_tree.proofs.Numbers.{falls-below, in-kept}
 use Rattle.free_tree.proofs.StepLaws.{count, at-in, at-small, down-left, down-right}
-use Rattle.free_tree.proofs.PartSteps.{parts-none, parts-left, parts-right}
+use Rattle.free_tree.proofs.PartSteps.{parts-none, parts-left, parts-right, parts-left-none}
+use Rattle.free_tree.proofs.PartSteps.{parts-right-none}
 use Rattle.free_tree.proofs.split.Reads as split
 use Rattle.free_tree.proofs.split.Kinds as split-kinds
 use Rattle.free_tree.proofs.+split.Lts-split as split-lts
@@ -56,14 +57,15 @@ split-right-of-requires t c κs =
 
 split-split-requires : (t : ℕ) → split-lts.Need-split-requires (split-claims t) (split-at t) split.Post
 split-split-requires t c κs =
-    let s = c .before .before .before .before .before .before in
+    let r = c .before .before in
+    let s = r .before .before .before .before .before in
     let (less, down) =
-    down-right readable-one (c .before .before .before .before .if1 .left) (c .before .right-of .ensures) (s .pre .1) in
+    down-right readable-one (r .before .before .before .if1 .left) (r .right-of .ensures) (s .pre .1) in
     (falls-below (s .pre .0) less, down)
 
 split-set-right-requires : (t : ℕ) → split-lts.Need-set-right-requires (split-claims t) (split-at t) split.Post
 split-set-right-requires t c κs =
-    let d = c .before .before .before .before .before in
+    let d = c .before .before .before .before .before .before in
     let z = d .before .before .before .if1 .left in
     let s = d .before .before .before .before .before in
     let made = c .before .before .before .split in
@@ -72,20 +74,39 @@ split-set-right-requires t c κs =
       at-small readable-one (made .ensures tree p .low .tree),
     )
 
+split-same-length : (t : ℕ) → split-lts.Need-same-length (split-claims t) (split-at t) split.Post
+split-same-length t c = refl
+
+split-returns-2 : (t : ℕ) → split-lts.Need-returns-2 (split-claims t) (split-at t) split.Post
+split-returns-2 t c =
+    let d = c .before in
+    parts-right-none readable-one (d .before .before .before .if1 .left) (c .if3 .taken) (d .right-of .ensures)
+    (d .before .before .if2 .taken)
+
 split-left-of-requires : (t : ℕ) → split-lts.Need-left-of-requires (split-claims t) (split-at t) split.Post
 split-left-of-requires t c κs =
     at-in readable-one (c .before .before .if1 .left) (c .before .before .before .before .pre .1)
 
+split-same-length-2 : (t : ℕ) → split-lts.Need-same-length-2 (split-claims t) (split-at t) split.Post
+split-same-length-2 t c = refl
+
+split-returns-3 : (t : ℕ) → split-lts.Need-returns-3 (split-claims t) (split-at t) split.Post
+split-returns-3 t c =
+    let d = c .before in
+    parts-left-none readable-one (d .before .before .before .if1 .left) (c .if4 .taken) (d .left-of .ensures)
+    (d .before .before .if2 .left)
+
 split-split-requires-2 : (t : ℕ) → split-lts.Need-split-requires-2 (split-claims t) (split-at t) split.Post
 split-split-requires-2 t c κs =
-    let s = c .before .before .before .before .before .before in
+    let r = c .before .before in
+    let s = r .before .before .before .before .before in
     let (less, down) =
-    down-left readable-one (c .before .before .before .before .if1 .left) (c .before .left-of .ensures) (s .pre .1) in
+    down-left readable-one (r .before .before .before .if1 .left) (r .left-of .ensures) (s .pre .1) in
     (falls-below (s .pre .0) less, down)
 
 split-set-left-requires : (t : ℕ) → split-lts.Need-set-left-requires (split-claims t) (split-at t) split.Post
 split-set-left-requires t c κs =
-    let d = c .before .before .before .before .before in
+    let d = c .before .before .before .before .before .before in
     let z = d .before .before .before .if1 .left in
     let s = d .before .before .before .before .before in
     let made = c .before .before .before .split2 in
@@ -94,25 +115,25 @@ split-set-left-requires t c κs =
       at-small readable-one (made .ensures tree p .high .tree),
     )
 
-split-same-length : (t : ℕ) → split-lts.Need-same-length (split-claims t) (split-at t) split.Post
-split-same-length t c =
+split-same-length-3 : (t : ℕ) → split-lts.Need-same-length-3 (split-claims t) (split-at t) split.Post
+split-same-length-3 t c =
     c .before .before .set-right .kept .0 ∙ c .before .before .before .before .before .before .split .kept .0
 
-split-returns-2 : (t : ℕ) → split-lts.Need-returns-2 (split-claims t) (split-at t) split.Post
-split-returns-2 t c =
-    let d = c .before .before .before .before .before .before .before .before in
+split-returns-4 : (t : ℕ) → split-lts.Need-returns-4 (split-claims t) (split-at t) split.Post
+split-returns-4 t c =
+    let d = c .before .before .before .before .before .before .before .before .before in
     parts-right readable-one (d .before .before .before .if1 .left)
     (c .before .before .before .before .before .before .split .ensures) (d .right-of .ensures)
     (d .before .before .if2 .taken)
     (c .before .before .set-right .ensures)
 
-split-same-length-2 : (t : ℕ) → split-lts.Need-same-length-2 (split-claims t) (split-at t) split.Post
-split-same-length-2 t c =
+split-same-length-4 : (t : ℕ) → split-lts.Need-same-length-4 (split-claims t) (split-at t) split.Post
+split-same-length-4 t c =
     c .before .before .set-left .kept .0 ∙ c .before .before .before .before .before .before .split2 .kept .0
 
-split-returns-3 : (t : ℕ) → split-lts.Need-returns-3 (split-claims t) (split-at t) split.Post
-split-returns-3 t c =
-    let d = c .before .before .before .before .before .before .before .before in
+split-returns-5 : (t : ℕ) → split-lts.Need-returns-5 (split-claims t) (split-at t) split.Post
+split-returns-5 t c =
+    let d = c .before .before .before .before .before .before .before .before .before in
     parts-left readable-one (d .before .before .before .if1 .left)
     (c .before .before .before .before .before .before .split2 .ensures) (d .left-of .ensures)
     (d .before .before .if2 .left)
@@ -123,12 +144,16 @@ pub +split-spec : {M : Type 1} → statement M
     (split-returns t)
     (split-sub-c t)
     (split-right-of-requires t)
+    (split-same-length t)
+    (split-returns-2 t)
     (split-split-requires t)
     (split-set-right-requires t)
     (split-left-of-requires t)
-    (split-split-requires-2 t)
-    (split-set-left-requires t)
-    (split-same-length t)
-    (split-returns-2 t)
     (split-same-length-2 t)
     (split-returns-3 t)
+    (split-split-requires-2 t)
+    (split-set-left-requires t)
+    (split-same-length-3 t)
+    (split-returns-4 t)
+    (split-same-length-4 t)
+    (split-returns-5 t)

@@ -21,14 +21,14 @@ mul-end c =
     let e = c .past-unit .ensures in
     rw e (omega (arith, past-low (a .rule) (a .r)))
 
-rem-result : tie.Need-rem-result
-rem-result c = search needs
+rest-requires : tie.Need-rest-requires
+rest-requires c κs = search needs
 
 returns : tie.Need-returns
 unfolding fits
 returns c =
     let d = c .before .before .before .before .before .before in
-    rw (d .past-unit .ensures, d .before .before .begin-of .ensures)
+    rw (c .rest .ensures, d .past-unit .ensures, d .before .before .begin-of .ensures)
 
 pub live-fits-spec : {M : Type 1} → statement M
 live-fits-spec =
@@ -38,5 +38,5 @@ live-fits-spec =
     cast-end
     past-unit-requires
     mul-end
-    rem-result
+    rest-requires
     returns)

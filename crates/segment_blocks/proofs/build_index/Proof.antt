@@ -1,122 +1,99 @@
--- `segment_blocks::build_index` meets its contract: the segments before k are right, and the next block is the first
--- of segment k. Assumes nothing.
-use Prim.Native.Nat.{ℕ, _-_}
+-- `segment_blocks::build_index` meets its contract: no block is known anywhere, and then the first segment is stored.
+-- Assumes nothing.
+use Prim.Native.Nat.{ℕ, _*_}
 use native.Mathlib.Omega.{arith}
-use mathlib.Core.Path.{_≡_, _∙_, sym, refl}
+use mathlib.Core.Path.{_≡_, _∙_, sym}
 use borrow.Author.Needs.{needs}
 use lib.IntN.{ℤ}
-use lib.ListN.{length}
-use Rattle.segment_blocks.specs.Upkeep.{Ground, Ready}
-use Rattle.segment_blocks.proofs.BuildLaws.{Passing, pass-start, pass-facing, pass-on, From, build-start}
-use Rattle.segment_blocks.proofs.BuildLaws.{build-on, build-end}
-use Rattle.segment_blocks.proofs.TouchLaws.{Pending}
-use Rattle.segment_blocks.proofs.UpkeepLaws.{sizes-top, sizes-few}
+use lib.ListN.{length, length-set}
+use Rattle.segment_blocks.specs.Upkeep.{OneBlock}
+use Rattle.segment_blocks.proofs.BuildLaws.{Built, zero-at, build-start, build-one}
+use Rattle.segment_blocks.proofs.UpkeepLaws.{sizes-some}
 use Rattle.segment_blocks.proofs.build_index.Statement.{statement}
 use Rattle.segment_blocks.proofs.build_index.Tie as tie
 
-abbrev Inv-loop : tie.InvT-loop
-Inv-loop v t₀ s g w from₀ k₀ t from k =
-    (w ≡ length v) × ((c : ℕ → ℤ) → Ground v c s g → Pending c (length v) s t (From k) × Passing v c g k from)
+mul-wipe-part : tie.Need-mul-wipe-part
+mul-wipe-part c = search needs
 
-abbrev μ-loop : tie.MeasureT-loop
-μ-loop v t₀ s g w from₀ k₀ t from k = s - k
+wipe-part-requires : tie.Need-wipe-part-requires
+wipe-part-requires c κs = search needs
 
-wipe-requires : tie.Need-wipe-requires Inv-loop μ-loop
-wipe-requires c κs = search needs
+mul-fill-from : tie.Need-mul-fill-from
+mul-fill-from c = search needs
 
-loop-holds : tie.Need-loop-holds Inv-loop μ-loop
-loop-holds c =
-    let s = c .before .before .before .before .before in (
-      refl,
-      λ f G. (
-        build-start f (length (s .args .v .now)) (s .args .s) (s .args .t .now) _ (s .pre .1)
-            (c .before .before .wipe .ensures),
-        pass-start _ f _ _ G,
-      ),
+cast-fill-from : tie.Need-cast-fill-from
+cast-fill-from c = search needs
+
+fill-from-requires : tie.Need-fill-from-requires
+fill-from-requires c κs = search needs
+
+cast-raise-most : tie.Need-cast-raise-most
+cast-raise-most c = search needs
+
+-- what the two fills leave
+built : (c : tie.After-raise-most-arg) (f : ℕ → ℤ) (g : ℕ)
+    → let a = c .before .before .before .before .before .before .before .before .before .before .args in
+    OneBlock (a .v .now) f (a .s) g → Built (a .v .now) f (a .s) g (c .before .before .before .fill-from .last .0) 0 0
+built c f g O =
+    let w = c .before .before .before .before .before .before .before in
+    let s = w .before .before .before in
+    build-start _ f _ g (O .ground) (s .args .t .now) _ _ (s .pre .1) (w .wipe-part .ensures)
+    (c .before .before .before .fill-from .ensures)
+
+raise-most-requires : tie.Need-raise-most-requires
+raise-most-requires c κs =
+    let w = c .before .before .before .before .before .before .before in
+    let s = w .before .before .before in
+    let (f, g, O) = s .pre .0 in
+    let filled = c .before .before .before .fill-from .ensures in
+    let zero = zero-at _ f _ g (O .ground) (s .args .t .now) _ _ (s .pre .1) (w .wipe-part .ensures) filled in (
+      (built c f g O .pending .heap, omega arith, omega (arith, sizes-some _ _ _ (O .ground .sizes))),
+      λ j h. omega (arith, zero j h),
     )
 
--- in a turn the segment can be brought up to date
-ready : (c : tie.In-loop Inv-loop μ-loop) (f : ℕ → ℤ)
-    → let a = c .before .before .before .before .before .before .before .args in
-    Ground (a .v .now) f (a .s) (a .g)
-    → Ready (a .v .now) f (c .before .loop .t) (a .s) (a .g) (c .before .loop .k) (c .before .loop .from)
-ready c f G =
-    let (pend, pass) = c .before .loop .inv .1 f G in
-    record { facing = pass-facing _ f _ _ G _ _ pass (c .loop-test .taken); heap = pend .heap; long = pend .long }
+mul-t : tie.Need-mul-t
+mul-t c = search needs
 
-refresh-segment-requires : tie.Need-refresh-segment-requires Inv-loop μ-loop
-refresh-segment-requires c κs =
-    let t = c .before in
-    let (f, G) = t .before .before .before .before .before .before .before .pre .0 in
-    (f, ready t f G)
+mul-t-2 : tie.Need-mul-t-2
+mul-t-2 c = search needs
 
-add-lesser : tie.Need-add-lesser Inv-loop μ-loop
-add-lesser c = search needs
+long : (c : tie.After-raise-most)
+    → let s = c .before .before .before .before .before .before .before .before .before .before .before in
+    length (c .raise-most .last .0) ≡ 3 * s .args .s
+long c =
+    let (f, g, O) = c .before .before .before .before .before .before .before .before .before .before .before .pre .0 in
+    c .raise-most .ensures .same ∙ built (c .before) f g O .pending .long
 
-mul-lesser : tie.Need-mul-lesser Inv-loop μ-loop
-mul-lesser c =
-    let t = c .before .before .before .before in
-    let (f, G) = t .before .before .before .before .before .before .before .pre .0 in
-    omega (arith, sizes-top _ _ _ (G .sizes) (t .before .loop .k) (t .loop-test .taken))
+slice-write-t : tie.Need-slice-write-t
+slice-write-t c =
+    let r = c .before .before in
+    let (f, g, O) = r .before .before .before .before .before .before .before .before .before .before .before .pre .0 in
+    omega (arith, long r, sizes-some _ _ _ (O .ground .sizes))
 
-lesser-requires : tie.Need-lesser-requires Inv-loop μ-loop
-lesser-requires c κs = search needs
-
-block-from-requires : tie.Need-block-from-requires Inv-loop μ-loop
-block-from-requires c κs =
-    let l = c .before .before .before .before .before .before in
-    let (f, G) = l .before .before .before .before .before .before .pre .0 in
-    ((f, l .loop .inv .1 f G .1 .scan), omega (arith, c .lesser .ensures, l .loop .inv .0))
-
-add-k : tie.Need-add-k Inv-loop μ-loop
-add-k c =
-    let t = c .before .before .before .before .before .before in
-    let (f, G) = t .before .before .before .before .before .before .before .pre .0 in
-    omega (arith, sizes-few _ _ _ (G .sizes), t .loop-test .taken)
-
-loop-less : tie.Need-loop-less Inv-loop μ-loop
-loop-less c = search needs
-
-loop-again : tie.Need-loop-again Inv-loop μ-loop
-loop-again c =
-    let e = c .before .lesser .ensures in
-    let r = c .before .before .before .before in
-    let t = r .before .before in
-    let l = t .before in (
-      l .loop .inv .0,
-      λ f G.
-          let (pend, pass) = l .loop .inv .1 f G in
-          let hi = rw (l .loop .inv .0) at e in (
-            build-on f _ _ _ _ _ (t .loop-test .taken) pend (r .refresh-segment .ensures f (ready t f G)),
-            pass-on _ f _ _ G _ _ _ _ pass hi (c .block-from .ensures f (pass .scan)),
-          ),
-    )
-
-same-length : tie.Need-same-length Inv-loop μ-loop
+same-length : tie.Need-same-length
 same-length c =
-    let l = c .before in
-    let s = l .before .before .before .before .before .before in
-    let (f, G) = s .pre .0 in
-    l .loop .inv .1 f G .0 .long ∙ sym (s .pre .1)
+    let r = c .before .before in
+    let asked = r .before .before .before .before .before .before .before .before .before .before .before .pre .1 in
+    length-set (r .raise-most .last .0) _ _ ∙ long r ∙ sym asked
 
-returns : tie.Need-returns Inv-loop μ-loop
-returns c = λ f G. build-end _ f _ _ _ _ G (c .loop-test .left) (c .before .loop .inv .1 f G .0)
+returns : tie.Need-returns
+returns c =
+    let r = c .before .before in
+    λ f g O. build-one _ f _ g O _ (built (r .before) f g O) _ (r .raise-most .ensures)
 
 pub build-index-spec : {M : Type 1} → statement M
 build-index-spec =
     tie.close
     (tie.spec
-    Inv-loop
-    μ-loop
-    wipe-requires
-    loop-holds
-    refresh-segment-requires
-    add-lesser
-    mul-lesser
-    lesser-requires
-    block-from-requires
-    add-k
-    loop-less
-    loop-again
+    mul-wipe-part
+    wipe-part-requires
+    mul-fill-from
+    cast-fill-from
+    fill-from-requires
+    cast-raise-most
+    raise-most-requires
+    mul-t
+    mul-t-2
+    slice-write-t
     same-length
     returns)

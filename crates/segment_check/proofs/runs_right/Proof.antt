@@ -16,29 +16,28 @@ use Rattle.segment_check.proofs.runs_right.Statement.{statement}
 use Rattle.segment_check.proofs.runs_right.Tie as tie
 
 abbrev Inv-loop : tie.InvT-loop
-Inv-loop v used w at₀ at =
-    (w ≡ length v) × (at ≤ w) × (0 < at → at < length v → zeroAt used at ≡ false)
+Inv-loop v used at₀ at =
+    (at ≤ length v) × (0 < at → at < length v → zeroAt used at ≡ false)
     × (every (freeRight v used) 0 (length v) ≡ every (freeRight v used) at (length v - at))
 
 abbrev μ-loop : tie.MeasureT-loop
-μ-loop v used w at₀ at = w - at
+μ-loop v used at₀ at = length v - at
 
 loop-holds : tie.Need-loop-holds Inv-loop μ-loop
 loop-holds c =
     let s = c .before .args in (
-      refl,
       omega arith,
       λ h l. absurd (omega arith),
       ap (every (freeRight (s .v .now) (s .used .now)) 0) (sym (sub-zero (length (s .v .now)))),
     )
 
 skip-requires : tie.Need-skip-requires Inv-loop μ-loop
-skip-requires c κs = let l = c .before in (l .loop .inv .1, omega (arith, l .loop .inv .0, l .before .before .pre))
+skip-requires c κs = let l = c .before in (l .loop .inv .0, l .before .before .pre)
 
 skip-requires-2 : tie.Need-skip-requires-2 Inv-loop μ-loop
 skip-requires-2 c κs =
     let l = c .before .before in
-    (c .skip .ensures .below, omega (arith, l .loop .inv .0, l .before .before .pre))
+    (c .skip .ensures .below, l .before .before .pre)
 
 run-right-requires : tie.Need-run-right-requires Inv-loop μ-loop
 run-right-requires c κs = c .skip2 .ensures .below
@@ -50,7 +49,7 @@ returns c =
     let a = b .before in
     let l = a .before .before in
     let s = l .before .before .args in
-    let (w, low, edge, inv) = l .loop .inv in
+    let (low, edge, inv) = l .loop .inv in
     let p = freeRight (s .v .now) (s .used .now) in
     let n = length (s .v .now) in
     every-stop (every p 0 n) p n (l .loop .at) inv (b .skip2 .result) (r .run-right .result)
@@ -67,7 +66,7 @@ loop-less c =
     let t = a .before in
     let l = t .before in
     let s = l .before .before .args in
-    let (w, low, edge, inv) = l .loop .inv in
+    let (low, edge, inv) = l .loop .inv in
     let grows = turn-grows (s .v .now) (s .used .now) (l .loop .at) (a .skip .result) (b .skip2 .result) edge
     (a .skip .ensures) (b .skip2 .ensures) in
     omega (arith, grows (t .loop-test .taken), b .skip2 .ensures .below)
@@ -79,10 +78,9 @@ loop-again c =
     let a = b .before in
     let l = a .before .before in
     let s = l .before .before .args in
-    let (w, low, edge, inv) = l .loop .inv in
+    let (low, edge, inv) = l .loop .inv in
     let p = freeRight (s .v .now) (s .used .now) in
     let n = length (s .v .now) in (
-      w,
       b .skip2 .ensures .below,
       λ h i. b .skip2 .ensures .stop i,
       every-skip (every p 0 n) p n (l .loop .at) inv (b .skip2 .result) (r .run-right .result)
@@ -99,7 +97,7 @@ returns-2 c =
     let s = l .before .before .args in
     let p = freeRight (s .v .now) (s .used .now) in
     let n = length (s .v .now) in
-    every-end (every p 0 n) p n (l .loop .at) (l .loop .inv .3) (c .loop-test .left)
+    every-end (every p 0 n) p n (l .loop .at) (l .loop .inv .2) (c .loop-test .left)
 
 pub runs-right-spec : {M : Type 1} → statement M
 runs-right-spec =

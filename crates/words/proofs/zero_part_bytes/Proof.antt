@@ -49,11 +49,11 @@ loop-again c =
           (not-false (block .result) (c .if1 .left)),
     )
 
-zero-block-bytes-requires-2 : tie.Need-zero-block-bytes-requires-2 Inv-loop μ-loop
-zero-block-bytes-requires-2 c κs = search needs
+zero-short-bytes-requires : tie.Need-zero-short-bytes-requires Inv-loop μ-loop
+zero-short-bytes-requires c κs = search needs
 
 returns-2 : tie.Need-returns-2 Inv-loop μ-loop
-returns-2 c = c .zero-block-bytes2 .ensures ∙ sym (c .before .before .loop .inv .2)
+returns-2 c = c .zero-short-bytes .ensures ∙ sym (c .before .before .loop .inv .2)
 
 pub zero-part-bytes-spec : {M : Type 1} → statement M
 zero-part-bytes-spec =
@@ -68,5 +68,5 @@ zero-part-bytes-spec =
     returns
     loop-less
     loop-again
-    zero-block-bytes-requires-2
+    zero-short-bytes-requires
     returns-2)

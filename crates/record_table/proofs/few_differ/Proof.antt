@@ -1,10 +1,10 @@
--- `record_table::tickets_differ` meets its contract. Assumes nothing.
+-- `record_table::few_differ` meets its contract. Assumes nothing.
 use mathlib.Core.Path.{_∙_}
-use borrow.Author.Needs.{needs}
 use denote.Ref.{now}
 use Rattle.record_table.proofs.CheckLaws.{new-differ}
-use Rattle.record_table.proofs.tickets_differ.Statement.{statement}
-use Rattle.record_table.proofs.tickets_differ.Tie as tie
+use borrow.Author.Needs.{needs}
+use Rattle.record_table.proofs.few_differ.Statement.{statement}
+use Rattle.record_table.proofs.few_differ.Tie as tie
 
 slice-aggregate-gather : tie.Need-slice-aggregate-gather
 slice-aggregate-gather c = search needs
@@ -15,21 +15,25 @@ gather-requires c κs = search needs
 slice-aggregate-all-new : tie.Need-slice-aggregate-all-new
 slice-aggregate-all-new c = search needs
 
+slice-aggregate-all-new-2 : tie.Need-slice-aggregate-all-new-2
+slice-aggregate-all-new-2 c = search needs
+
 all-new-requires : tie.Need-all-new-requires
 all-new-requires c κs = search needs
 
 returns : tie.Need-returns
 returns c =
-    let tickets = c .before .before .before .gather in
-    let t = now (c .before .before .before .before .before .before .args .table) in
-    c .all-new .ensures ∙ new-differ (tickets .last .0) t (tickets .ensures)
+    let d = c .before .before .before .before .before in
+    let t = now (d .before .before .before .args .table) in
+    c .before .all-new .ensures ∙ new-differ (d .gather .last .0) t (d .gather .ensures)
 
-pub tickets-differ-spec : {M : Type 1} → statement M
-tickets-differ-spec =
+pub few-differ-spec : {M : Type 1} → statement M
+few-differ-spec =
     tie.close
     (tie.spec
     slice-aggregate-gather
     gather-requires
     slice-aggregate-all-new
+    slice-aggregate-all-new-2
     all-new-requires
     returns)

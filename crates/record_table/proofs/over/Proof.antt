@@ -1,0 +1,21 @@
+-- `record_table::over` meets its contract. Assumes nothing.
+use native.Mathlib.Nat.{div-one}
+use mathlib.Core.Path.{sym}
+use borrow.Author.Needs.{needs}
+use Rattle.record_table.proofs.over.Statement.{statement}
+use Rattle.record_table.proofs.over.Tie as tie
+
+returns : tie.Need-returns
+returns c = sym (rw (c .if1 .taken) (div-one (c .before .args .w)))
+
+returns-2 : tie.Need-returns-2
+returns-2 c = rw (c .if2 .taken)
+
+div-result : tie.Need-div-result
+div-result c = search needs
+
+returns-3 : tie.Need-returns-3
+returns-3 c = search needs
+
+pub over-spec : {M : Type 1} → statement M
+over-spec = tie.close (tie.spec returns returns-2 div-result returns-3)

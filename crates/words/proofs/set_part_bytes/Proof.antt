@@ -1,0 +1,72 @@
+-- `words::set_part_bytes` meets its contract. Its invariant: the answer is the test of what is left from i on.
+-- Assumes nothing.
+use Prim.Native.Nat.{_+_, _-_, _≤_}
+use mathlib.Core.Path.{_≡_, refl, sym, _∙_}
+use native.Mathlib.Omega.{arith}
+use borrow.Author.Needs.{needs}
+use Rattle.words.specs.Lists.{setAt}
+use Rattle.words.specs.Counted.{every}
+use Rattle.words.proofs.Tests.{not-true, not-false}
+use Rattle.words.proofs.CountedLaws.{every-skip, every-stop}
+use Rattle.words.proofs.set_part_bytes.Statement.{statement}
+use Rattle.words.proofs.set_part_bytes.Tie as tie
+
+abbrev Inv-loop : tie.InvT-loop
+Inv-loop s lo hi i₀ i = (lo ≤ i) × (i ≤ hi) × (every (setAt s) lo (hi - lo) ≡ every (setAt s) i (hi - i))
+
+abbrev μ-loop : tie.MeasureT-loop
+μ-loop s lo hi i₀ i = hi - i
+
+loop-holds : tie.Need-loop-holds Inv-loop μ-loop
+loop-holds c = (search needs, search needs, refl)
+
+sub-loop : tie.Need-sub-loop Inv-loop μ-loop
+sub-loop c = search needs
+
+add-e : tie.Need-add-e Inv-loop μ-loop
+add-e c = search needs
+
+set-block-bytes-requires : tie.Need-set-block-bytes-requires Inv-loop μ-loop
+set-block-bytes-requires c κs = search needs
+
+returns : tie.Need-returns Inv-loop μ-loop
+returns c =
+    let l = c .before .before .before .loop in
+    let block = c .before .set-block-bytes in
+    every-stop _ _ _ (l .i) (l .inv .2) (l .i + 256) (block .result) (omega arith) (omega arith) (block .ensures)
+    (not-true (block .result) (c .if1 .taken))
+
+loop-less : tie.Need-loop-less Inv-loop μ-loop
+loop-less c = search needs
+
+loop-again : tie.Need-loop-again Inv-loop μ-loop
+loop-again c =
+    let l = c .before .before .before .loop in
+    let block = c .before .set-block-bytes in (
+      search needs,
+      search needs,
+      every-skip _ _ _ (l .i) (l .inv .2) (l .i + 256) (block .result) (omega arith) (omega arith) (block .ensures)
+          (not-false (block .result) (c .if1 .left)),
+    )
+
+set-short-bytes-requires : tie.Need-set-short-bytes-requires Inv-loop μ-loop
+set-short-bytes-requires c κs = search needs
+
+returns-2 : tie.Need-returns-2 Inv-loop μ-loop
+returns-2 c = c .set-short-bytes .ensures ∙ sym (c .before .before .loop .inv .2)
+
+pub set-part-bytes-spec : {M : Type 1} → statement M
+set-part-bytes-spec =
+    tie.close
+    (tie.spec
+    Inv-loop
+    μ-loop
+    loop-holds
+    sub-loop
+    add-e
+    set-block-bytes-requires
+    returns
+    loop-less
+    loop-again
+    set-short-bytes-requires
+    returns-2)

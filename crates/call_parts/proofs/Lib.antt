@@ -3,3 +3,4 @@ pub mod NamedLaws
 pub mod ListLaws
 pub mod GateLaws
 pub mod AskLaws
+pub mod WholeLists

@@ -18,10 +18,12 @@ use Rattle.words.proofs.Tests.{eqb-false, lt-of, not-lt, of-le, of-lt, within-i
 use Rattle.words.proofs.ListLaws.{all-append, all-append-l, all-append-r}
 use Rattle.words.proofs.PlaceLaws.{length-wiped, wiped-in, wiped-out}
 use Rattle.ledger.specs.Runs.{Run, run, covered, Gapped}
-use Rattle.ledger.proofs.RunLaws.{gapped-weaken, gapped-below, runs-unique, addRun, runs-after-release}
+use Rattle.ledger.specs.Runs.{addRun}
+use Rattle.ledger.proofs.RunLaws.{gapped-weaken, gapped-below, runs-unique, runs-after-release}
 use Rattle.stored_forms.specs.Tree.{Tree, leaf, node, inorder, treeOf, formOne, lengthAt}
 use Rattle.stored_forms.proofs.TreeLaws.{inorder-treeOf}
-use Rattle.stored_forms.proofs.NodeLaws.{Within, In, NotFirst, Zeros, readable-one, in-range, covered-in, in-covered}
+use Rattle.stored_forms.specs.Blocks.{Within, In, NotFirst, Zeros}
+use Rattle.stored_forms.proofs.NodeLaws.{readable-one, in-range, covered-in, in-covered}
 use Rattle.stored_forms.proofs.NodeLaws.{nodeWord-zero, holds-stored, stored-holds}
 use Rattle.free_tree.specs.Shapes.{putRun, dropRun, endsAt, beginsAt, linkTo}
 use Rattle.free_tree.specs.Held.{links, cells, NodeCleared, At, Became, NoNode, NoNodeNor, Apart, Room}

@@ -15,10 +15,12 @@ use Rattle.words.proofs.Tests.{and-l, and-r, and-i, not-true, eqb-eq, eqb-same,
 use Rattle.words.proofs.Tests.{within-in}
 use Rattle.words.proofs.ListLaws.{all-append, all-append-l, all-append-r}
 use Rattle.ledger.specs.Runs.{Run, run, covered, Gapped, AreRuns}
-use Rattle.ledger.proofs.RunLaws.{shorten, runs-are, runs-unique, runs-after-grant}
+use Rattle.ledger.specs.Runs.{shorten}
+use Rattle.ledger.proofs.RunLaws.{runs-are, runs-unique, runs-after-grant}
 use Rattle.stored_forms.specs.Tree.{Tree, leaf, node, inorder, treeOf, link, formOne, lengthAt}
 use Rattle.stored_forms.proofs.TreeLaws.{inorder-treeOf}
-use Rattle.stored_forms.proofs.NodeLaws.{readable-one, Within, In, NotFirst, Zeros, Holds, within-le, link-within}
+use Rattle.stored_forms.specs.Blocks.{Within, In, NotFirst, Zeros, Holds}
+use Rattle.stored_forms.proofs.NodeLaws.{readable-one, within-le, link-within}
 use Rattle.stored_forms.proofs.NodeLaws.{in-range, covered-in, in-covered, holds-reads, holds-stored, nodeWord-zero}
 use Rattle.free_tree.specs.Shapes.{insert, delete, dropRun}
 use Rattle.free_tree.specs.Held.{links, cells, Same, NodeCleared, At, Became, NoNode, NoNodeNor, Apart, Room}

@@ -7,7 +7,7 @@ use mathlib.Core.List.{List, _∷_, _++_}
 use lib.ListN.{length, getD}
 use Rattle.words.specs.Lists.{Words}
 use Rattle.ledger.specs.Runs.{Run, covered, Gapped}
-use Rattle.ledger.proofs.RunLaws.{addRun, shorten}
+use Rattle.ledger.specs.Runs.{addRun, shorten}
 use Rattle.stored_forms.specs.Tree.{formOne, treeOf}
 use Rattle.free_tree.specs.Held.{links, cells, At}
 

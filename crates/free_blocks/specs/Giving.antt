@@ -7,7 +7,7 @@ use mathlib.Core.List.{List, _∷_, _++_}
 use Rattle.words.specs.Lists.{Words}
 use Rattle.words.specs.Counted.{within}
 use Rattle.ledger.specs.Runs.{Run, run, covered}
-use Rattle.stored_forms.proofs.NodeLaws.{Zeros}
+use Rattle.stored_forms.specs.Blocks.{Zeros}
 use Rattle.free_blocks.specs.Blocks.{Lies, Changed}
 
 -- From m to m′ the cells from x up to y, one of the free runs rs or none, were taken out, and read zero. The runs that

@@ -8,7 +8,8 @@ use lib.ListN.{length, getD, drop, length-take, length-drop}
 use lib.Seq.{getD-take, getD-drop, ext-getD}
 use Rattle.words.specs.Lists.{Words}
 use Rattle.stored_forms.specs.Tree.{Tree, leaf, node, Form, cellWords}
-use Rattle.stored_forms.proofs.NodeLaws.{Readable, Within, NotFirst, Holds, Zeros, within-le}
+use Rattle.stored_forms.specs.Blocks.{Within, NotFirst, Holds, Zeros}
+use Rattle.stored_forms.proofs.NodeLaws.{Readable, within-le}
 use Rattle.free_tree.specs.Held.{cells, Same}
 
 module _ {F : Form} {bound : ℕ} (readable : Readable F bound) where

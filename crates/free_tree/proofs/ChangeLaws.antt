@@ -13,7 +13,7 @@ use Rattle.words.proofs.ListLaws.{all-imp, all-append, all-append-l, all-append
 use Rattle.ledger.specs.Runs.{Run}
 use Rattle.stored_forms.specs.Tree.{Tree, leaf, node, inorder, Heaped, shorter, noLonger, treeOf}
 use Rattle.stored_forms.proofs.TreeLaws.{tree-unique, inorder-treeOf, heaped-treeOf}
-use Rattle.stored_forms.proofs.NodeLaws.{Within, NotFirst}
+use Rattle.stored_forms.specs.Blocks.{Within, NotFirst}
 use Rattle.free_tree.specs.Shapes.{below, above, standsAbove, insert, join, delete, putRun, dropRun}
 use Rattle.free_tree.specs.Held.{Apart}
 use Rattle.free_tree.proofs.RunOrder.{wider, within-all, putRun-between, beginsElsewhere, dropRun-past}

@@ -11,7 +11,8 @@ use Rattle.words.specs.Lists.{Words}
 use Rattle.words.proofs.Tests.{of-lt, of-ge}
 use Rattle.ledger.specs.Runs.{Run, run}
 use Rattle.stored_forms.specs.Tree.{Tree, leaf, node, Form, lengthAt, leftAt, rightAt}
-use Rattle.stored_forms.proofs.NodeLaws.{Readable, NotFirst}
+use Rattle.stored_forms.specs.Blocks.{NotFirst}
+use Rattle.stored_forms.proofs.NodeLaws.{Readable}
 use Rattle.free_tree.specs.Shapes.{below, above, standsAbove, insert, delete}
 use Rattle.free_tree.specs.Held.{cells, NodePut, LeftSet, RightSet, At, Became, NoNode, NoNodeNor, Beside}
 use Rattle.free_tree.specs.Held.{BothJoined, Parted, Parts, Apart, Room, Inserted, Deleted}

@@ -10,7 +10,7 @@ use Rattle.words.proofs.Tests.{and-i, le-of, of-le, lt-of, of-lt, not-le, of-gt
 use Rattle.words.proofs.ListLaws.{all-imp, all-append}
 use Rattle.ledger.specs.Runs.{Run}
 use Rattle.stored_forms.specs.Tree.{Tree, leaf, node, inorder, Heaped, shorter, noLonger}
-use Rattle.stored_forms.proofs.NodeLaws.{Within}
+use Rattle.stored_forms.specs.Blocks.{Within}
 use Rattle.free_tree.specs.Shapes.{top, joinOver, join}
 use Rattle.free_tree.proofs.RunOrder.{wider}
 

@@ -11,7 +11,8 @@ use Rattle.words.proofs.Tests.{and-i, lt-of, of-lt, not-lt, of-ge}
 use Rattle.words.proofs.ListLaws.{all-append, all-append-l, all-append-r}
 use Rattle.ledger.specs.Runs.{Run}
 use Rattle.stored_forms.specs.Tree.{Tree, leaf, node, inorder, Heaped, noLonger, shorter}
-use Rattle.stored_forms.proofs.NodeLaws.{Within, within-le}
+use Rattle.stored_forms.specs.Blocks.{Within}
+use Rattle.stored_forms.proofs.NodeLaws.{within-le}
 use Rattle.free_tree.specs.Shapes.{below, above}
 use Rattle.free_tree.specs.Held.{Apart}
 use Rattle.free_tree.proofs.RunOrder.{wider, within-all, startsBelow, startsFrom}

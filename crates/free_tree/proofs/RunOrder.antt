@@ -12,7 +12,8 @@ use Rattle.words.proofs.Tests.{and-l, and-r, and-i, not-true}
 use Rattle.words.proofs.ListLaws.{all-append}
 use Rattle.ledger.specs.Runs.{Run}
 use Rattle.stored_forms.specs.Tree.{Tree, leaf, node, inorder}
-use Rattle.stored_forms.proofs.NodeLaws.{Within, within-le}
+use Rattle.stored_forms.specs.Blocks.{Within}
+use Rattle.stored_forms.proofs.NodeLaws.{within-le}
 use Rattle.free_tree.specs.Shapes.{putRun, dropRun, beginsAt}
 
 -- ---- trees in a range of cells

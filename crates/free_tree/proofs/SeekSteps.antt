@@ -11,7 +11,8 @@ use Rattle.words.specs.Lists.{Words, all, firstThat}
 use Rattle.words.proofs.Tests.{and-i, of-le, of-gt}
 use Rattle.ledger.specs.Runs.{Run, run}
 use Rattle.stored_forms.specs.Tree.{Tree, leaf, node, inorder, Form, lengthAt, leftAt, rightAt}
-use Rattle.stored_forms.proofs.TreeLaws.{longEnough, rootFits, leftmost}
+use Rattle.stored_forms.specs.Blocks.{rootFits, leftmost}
+use Rattle.stored_forms.proofs.TreeLaws.{longEnough}
 use Rattle.stored_forms.proofs.NodeLaws.{Readable}
 use Rattle.free_tree.specs.Shapes.{linkTo}
 use Rattle.free_tree.specs.Held.{cells, At, LeftmostFound, RunFound}

@@ -9,7 +9,8 @@ use lib.ListN.{length}
 use Rattle.words.specs.Lists.{Words}
 use Rattle.ledger.specs.Runs.{run}
 use Rattle.stored_forms.specs.Tree.{Tree, leaf, node, Form, cellWords, lengthAt, leftAt, rightAt, link}
-use Rattle.stored_forms.proofs.NodeLaws.{Readable, Within, within-le, link-within, holds-reads}
+use Rattle.stored_forms.specs.Blocks.{Within}
+use Rattle.stored_forms.proofs.NodeLaws.{Readable, within-le, link-within, holds-reads}
 use Rattle.free_tree.specs.Shapes.{nodes}
 use Rattle.free_tree.specs.Held.{cells, Same, NodePut, LeftSet, RightSet, At, Became}
 use Rattle.free_tree.proofs.RunOrder.{wider}

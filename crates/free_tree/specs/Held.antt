@@ -7,8 +7,8 @@ use lib.ListN.{length, getD}
 use Rattle.words.specs.Lists.{Words, firstThat}
 use Rattle.ledger.specs.Runs.{Run}
 use Rattle.stored_forms.specs.Tree.{Tree, leaf, node, inorder, Form, cellWords, lengthAt, leftAt, rightAt, link}
-use Rattle.stored_forms.proofs.TreeLaws.{leftmost}
-use Rattle.stored_forms.proofs.NodeLaws.{Within, NotFirst, Holds, Zeros}
+use Rattle.stored_forms.specs.Blocks.{leftmost}
+use Rattle.stored_forms.specs.Blocks.{Within, NotFirst, Holds, Zeros}
 use Rattle.free_tree.specs.Shapes.{top, join, below, above, insert, delete, linkTo}
 
 -- a link of the first form is half a word

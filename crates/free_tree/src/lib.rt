@@ -7,7 +7,7 @@ ghost use Prim.Native.Nat.{ℕ, _+_, _<_};
 ghost use Rattle.words.specs.Lists.{firstThat};
 ghost use Rattle.ledger.specs.Runs.{Run, run};
 ghost use Rattle.stored_forms.specs.Tree.{Tree, inorder, formOne, lengthAt, leftAt, rightAt};
-ghost use Rattle.stored_forms.proofs.TreeLaws.{leftmost};
+ghost use Rattle.stored_forms.specs.Blocks.{leftmost};
 ghost use Rattle.free_tree.specs.Shapes.{standsAbove, endsAt, beginsAt, linkTo};
 ghost use Rattle.free_tree.specs.Held.{links, cells, NodePut, LeftSet, RightSet, NodeCleared, At, Beside};
 ghost use Rattle.free_tree.specs.Held.{LeftWins, RightWins, LeftJoined, RightJoined, BothJoined, Parts, Room};

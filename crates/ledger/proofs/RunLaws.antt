@@ -22,6 +22,7 @@ use Rattle.ledger.specs.declared.Rule.{Rule}
 use Rattle.ledger.specs.Records.{row, Ledger, isLive, recordOf, full, enter, vacate, member, settle}
 use Rattle.ledger.specs.Units.{span, addressAt, first, past, valid, covers, free}
 use Rattle.ledger.specs.Runs.{Run, run, grow, runsFrom, freeRuns, covered, Gapped, AreRuns}
+use Rattle.ledger.specs.Runs.{addRun, shorten, liveCount}
 use Rattle.ledger.proofs.UnitLaws.{valid-record, span-pos, first-new, covers-of, covers-in, free-not}
 use Rattle.ledger.proofs.UnitLaws.{free-settle, free-enter}
 
@@ -264,11 +265,6 @@ module _ (f : ℕ → Bool) (N : ℕ) where
 
 -- ---- how many free runs there are: each but the first begins where a record ends
 
--- the live records of a ledger
-abbrev pub liveCount : Ledger → ℕ
-liveCount [] = 0
-liveCount (r ∷ L) = cond (isLive r) (suc (liveCount L)) (liveCount L)
-
 count-le : (a b : Bool) (x y : ℕ) → (a ≡ true → b ≡ true) → x ≤ y → cond a (suc x) x ≤ cond b (suc y) y
 count-le true true x y h l = omega arith
 count-le true false x y h l = absurd (false≢true (h refl))
@@ -380,15 +376,6 @@ module _ (ρ : Rule) where
 
 -- ---- the runs after a release
 
--- The runs with units s to s + m, of which none was in a run, made a run: it takes in a run that ends at s and one
--- that begins at s + m, so that no two touch.
-abbrev pub addRun : ℕ → ℕ → List Run → List Run
-addRun s m [] = run s m ∷ []
-addRun s m (r ∷ rs) =
-    cond (ltb (r .start + r .size) s) (r ∷ addRun s m rs)
-    (cond (eqb (r .start + r .size) s) (addRun (r .start) (r .size + m) rs)
-    (cond (eqb (s + m) (r .start)) (run s (m + r .size) ∷ rs) (run s m ∷ r ∷ rs)))
-
 -- runs that end before s stay
 pub addRun-past : (s m : ℕ) (xs ys : List Run) → all (λ r. ltb (r .start + r .size) s) xs ≡ true
     → addRun s m (xs ++ ys) ≡ xs ++ addRun s m ys
@@ -496,10 +483,6 @@ runs-after-release f g N s m a b off h =
     })
 
 -- ---- the runs after a grant
-
--- a run without its first m units, before others: gone where it had no more
-abbrev pub shorten : ℕ → Run → List Run → List Run
-shorten m r rs = cond (eqb m (r .size)) rs (run (r .start + m) (r .size - m) ∷ rs)
 
 module _ (m e : ℕ) (r : Run) (ys : List Run) (part : m ≤ r .size) where
   gapped-shorten : (k : ℕ) → Gapped k e (r ∷ ys) → Gapped (r .start + m) e (shorten m r ys)

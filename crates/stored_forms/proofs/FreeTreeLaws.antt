@@ -24,7 +24,8 @@ use Rattle.ledger.proofs.UnitLaws.{valid-at, covers-of, owned-covered}
 use Rattle.ledger.proofs.RunLaws.{gapped-weaken, runs-are}
 use Rattle.stored_forms.specs.Tree.{inorder, Form, formRule, treeRange, cellRun, freeTree, nodeWord}
 use Rattle.stored_forms.proofs.TreeLaws.{inorder-treeOf}
-use Rattle.stored_forms.proofs.NodeLaws.{Readable, Within, Holds, In, in-range, covered-in, in-covered}
+use Rattle.stored_forms.specs.Blocks.{Within, Holds, In}
+use Rattle.stored_forms.proofs.NodeLaws.{Readable, in-range, covered-in, in-covered}
 use Rattle.stored_forms.proofs.NodeLaws.{gapped-within, holds-stored, stored-holds}
 
 -- ---- runs of units as runs of cells, p to a unit

@@ -17,6 +17,7 @@ use Rattle.ledger.specs.Runs.{Run, covered, Gapped}
 use Rattle.ledger.proofs.RunLaws.{gapped-weaken}
 use Rattle.stored_forms.specs.Tree.{Tree, leaf, node, inorder, Form, formOne, cellWords}
 use Rattle.stored_forms.specs.Tree.{lengthAt, leftAt, rightAt, link, nodeWord}
+use Rattle.stored_forms.specs.Blocks.{Within, In, NotFirst, Zeros, Holds}
 
 -- ---- what is asked of a form
 
@@ -44,33 +45,6 @@ readable-one = record {
 }
 
 -- ---- blocks of a tree
-
--- The blocks are not empty, lie in cells lo up to hi, apart, in the order of the tree.
-abbrev pub Within : ℕ → ℕ → Tree → Type 0
-Within lo hi leaf = lo ≤ hi
-Within lo hi (node a q b) = Within lo (q .start) a × (1 ≤ q .size) × Within (q .start + q .size) hi b
-
--- Cell c lies in a block of the tree.
-abbrev pub In : ℕ → Tree → Type 0
-In c leaf = ⊥
-In c (node a q b) = In c a ⊎ (((q .start ≤ c) × (c < q .start + q .size)) ⊎ In c b)
-
--- Cell c is no block's first.
-abbrev pub NotFirst : ℕ → Tree → Type 0
-NotFirst c leaf = Unit {0}
-NotFirst c (node a q b) = NotFirst c a × (c ≢ q .start) × NotFirst c b
-
--- the words from lo up to hi are zero
-abbrev pub Zeros : Words → ℕ → ℕ → Type 0
-Zeros a lo hi = (k : ℕ) → lo ≤ k → k < hi → getD a k 0 ≡ 0
-
--- The arena has every word of the tree's free blocks: "A free block's first cell is its node. All its other words are
--- zero."
-abbrev pub Holds : Form → Words → Tree → Type 0
-Holds F m leaf = Unit {0}
-Holds F m (node a q b) =
-    (cellWords F m (q .start) ≡ F .node (q .size) (link a) (link b))
-    × Zeros m (F .cell * suc (q .start)) (F .cell * (q .start + q .size)) × Holds F m a × Holds F m b
 
 pub within-le : (t : Tree) (lo hi : ℕ) → Within lo hi t → lo ≤ hi
 within-le leaf lo hi w = w

@@ -17,6 +17,7 @@ use Rattle.ledger.specs.Runs.{Run, freeRuns}
 use Rattle.ledger.proofs.FitLaws.{firstFit, startOf, fit-first}
 use Rattle.stored_forms.specs.Tree.{Tree, leaf, node, addLeft, treeOf, inorder, shorter, noLonger, Heaped}
 use Rattle.stored_forms.specs.Tree.{IsTreeOf, formOne, formRule, cellRun, freeTree}
+use Rattle.stored_forms.specs.Blocks.{rootFits, leftmost}
 
 -- ---- the runs of the tree, from left to right
 
@@ -106,17 +107,6 @@ tree-is rs = record { order = inorder-treeOf rs; heap = heaped-treeOf rs }
 -- a run of at least m cells
 abbrev pub longEnough : ℕ → Run → Bool
 longEnough m r = leb m (r .size)
-
--- the tree has a root, and it is long enough
-abbrev pub rootFits : ℕ → Tree → Bool
-rootFits m leaf = false
-rootFits m (node a q b) = leb m (q .size)
-
--- 01, "Leftmost fit: refuse if the root is too short or absent; go left while the left son is long enough; where that
--- stops is the block."
-abbrev pub leftmost : ℕ → Tree → Option Run
-leftmost m leaf = none
-leftmost m (node a q b) = cond (leb m (q .size)) (cond (rootFits m a) (leftmost m a) (some q)) none
 
 tooShort : ℕ → Run → Bool
 tooShort m r = not (leb m (r .size))

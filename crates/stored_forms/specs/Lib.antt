@@ -1,3 +1,4 @@
 -- What each engine stores of a ledger.
 pub mod Tree
+pub mod Blocks
 pub mod Segments

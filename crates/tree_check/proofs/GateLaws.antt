@@ -16,10 +16,12 @@ use Rattle.ledger.specs.Records.{Ledger, recordAt, slots, recordsOf, isEmpty}
 use Rattle.ledger.specs.Units.{valid, free, owned}
 use Rattle.ledger.specs.Runs.{runsFrom, freeRuns}
 use Rattle.ledger.proofs.RecordLaws.{table-records}
-use Rattle.ledger.proofs.RunLaws.{liveCount, runs-are, runs-unique, runs-live}
+use Rattle.ledger.specs.Runs.{liveCount}
+use Rattle.ledger.proofs.RunLaws.{runs-are, runs-unique, runs-live}
 use Rattle.stored_forms.specs.Tree.{Tree, link, treeOf, formOne, formRule, treeRange, freeTree}
 use Rattle.stored_forms.proofs.TreeLaws.{freeTree-one}
-use Rattle.stored_forms.proofs.NodeLaws.{Holds, readable-one}
+use Rattle.stored_forms.specs.Blocks.{Holds}
+use Rattle.stored_forms.proofs.NodeLaws.{readable-one}
 use Rattle.stored_forms.proofs.FreeTreeLaws.{stamped, of-stamped}
 use Rattle.calls.specs.Pool.{Pool, store, lengths, samePool, stored}
 use Rattle.calls.specs.Engines.{treeEngine, treeEngineOf}

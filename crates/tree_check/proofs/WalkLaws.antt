@@ -17,7 +17,8 @@ use Rattle.ledger.specs.Runs.{Run, run}
 use Rattle.stored_forms.specs.Tree.{Tree, leaf, node, link, treeOf, inorder, noLonger, formOne}
 use Rattle.stored_forms.specs.Tree.{lengthAt, leftAt, rightAt}
 use Rattle.stored_forms.proofs.TreeLaws.{inorder-treeOf, heaped-treeOf, tree-unique}
-use Rattle.stored_forms.proofs.NodeLaws.{Holds, readable-one, holds-reads}
+use Rattle.stored_forms.specs.Blocks.{Holds}
+use Rattle.stored_forms.proofs.NodeLaws.{readable-one, holds-reads}
 use Rattle.tree_check.specs.declared.Seen.{Seen}
 use Rattle.tree_check.specs.Walk.{Says, Shows, heldAt, ahead, under, wrong, Ready, Fine, LiesAt, Passed, Walked}
 use Rattle.tree_check.specs.Walk.{Entered, nothing, partly, wholly}

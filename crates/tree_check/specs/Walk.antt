@@ -9,7 +9,7 @@ use lib.ListN.{length}
 use Rattle.words.specs.Lists.{Words, all, zeroAt}
 use Rattle.ledger.specs.Runs.{Run, run, runsFrom}
 use Rattle.stored_forms.specs.Tree.{Tree, link, treeOf, inorder, Heaped, formOne, leftAt, rightAt}
-use Rattle.stored_forms.proofs.NodeLaws.{Zeros, Holds}
+use Rattle.stored_forms.specs.Blocks.{Zeros, Holds}
 use Rattle.tree_check.specs.declared.Seen.{Seen}
 
 -- A flag that says a fact, both ways.

@@ -12,7 +12,7 @@ ghost use Rattle.words.specs.Lists.{all, isZero};
 ghost use Rattle.words.specs.Counted.{every};
 ghost use Rattle.ledger.specs.Records.{slots, recordsOf};
 ghost use Rattle.ledger.specs.Runs.{run};
-ghost use Rattle.ledger.proofs.RunLaws.{liveCount};
+ghost use Rattle.ledger.specs.Runs.{liveCount};
 ghost use Rattle.calls.specs.Pool.{lengths, stored};
 ghost use Rattle.calls.specs.Engines.{treeEngine};
 ghost use Rattle.tree_check.specs.Walk.{Says, heldAt, closed, ahead, Ready, Fine, wrong, Walked, Shows};

@@ -18,12 +18,15 @@ use Rattle.ledger.specs.Records.{Ledger, isLive, slots, row, recordsOf, tableOf
 use Rattle.ledger.specs.Units.{span, addressAt, past, valid, owns, owned}
 use Rattle.ledger.specs.Runs.{Run, covered, freeRuns}
 use Rattle.ledger.proofs.UnitLaws.{span-pos, owned-enter, past-new}
-use Rattle.ledger.proofs.RunLaws.{shorten, freeRuns-enter}
+use Rattle.ledger.specs.Runs.{shorten}
+use Rattle.ledger.proofs.RunLaws.{freeRuns-enter}
 use Rattle.ledger.proofs.FitLaws.{startOf}
 use Rattle.stored_forms.specs.Tree.{Tree, formOne, formRule, freeTree, treeOf, link}
-use Rattle.stored_forms.proofs.TreeLaws.{longEnough, leftmost, leftmost-first, leftmost-lowest, inorder-treeOf}
+use Rattle.stored_forms.specs.Blocks.{leftmost}
+use Rattle.stored_forms.proofs.TreeLaws.{longEnough, leftmost-first, leftmost-lowest, inorder-treeOf}
 use Rattle.stored_forms.proofs.TreeLaws.{heaped-treeOf, freeTree-one}
-use Rattle.stored_forms.proofs.NodeLaws.{Holds, link-within}
+use Rattle.stored_forms.specs.Blocks.{Holds}
+use Rattle.stored_forms.proofs.NodeLaws.{link-within}
 use Rattle.free_tree.specs.Shapes.{linkTo}
 use Rattle.free_tree.specs.Held.{links, cells, LeftmostFound}
 use Rattle.free_blocks.proofs.TakeLaws.{take-in}

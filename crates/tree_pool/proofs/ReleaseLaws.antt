@@ -15,10 +15,12 @@ use Rattle.ledger.specs.Records.{Ledger, emptyRow, recordsOf, tableOf, slots, r
 use Rattle.ledger.specs.Units.{span, first, past, valid, free}
 use Rattle.ledger.specs.Runs.{Run, covered, freeRuns}
 use Rattle.ledger.proofs.UnitLaws.{Fitted, valid-record, valid-settle, owned-settle, covers-in, free-not}
-use Rattle.ledger.proofs.RunLaws.{runs-are, addRun, freeRuns-settle}
+use Rattle.ledger.specs.Runs.{addRun}
+use Rattle.ledger.proofs.RunLaws.{runs-are, freeRuns-settle}
 use Rattle.stored_forms.specs.Tree.{formOne, formRule, freeTree, treeOf, link}
 use Rattle.stored_forms.proofs.TreeLaws.{freeTree-one}
-use Rattle.stored_forms.proofs.NodeLaws.{Holds, link-within}
+use Rattle.stored_forms.specs.Blocks.{Holds}
+use Rattle.stored_forms.proofs.NodeLaws.{link-within}
 use Rattle.free_tree.specs.Held.{cells}
 use Rattle.free_blocks.specs.Blocks.{Changed, Gives, Given}
 use Rattle.calls.specs.Pool.{Pool, sound}

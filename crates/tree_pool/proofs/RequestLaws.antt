@@ -1,31 +1,22 @@
 -- The requests of a list on a tree pool: one act as code and machine leave it, and the whole list call. Assumes
 -- nothing.
-use Prim.Native.Nat.{_%_, _≤_}
 use mathlib.Core.Path.{_≡_, refl, sym, ap, _∙_}
-use mathlib.Core.Logic.{_≢_}
-use mathlib.Core.Bool.{true, false, _&&_, false≢true}
+use mathlib.Core.Bool.{true, false}
 use mathlib.Core.List.{[], _∷_}
 use Rattle.words.specs.Lists.{Words}
-use Rattle.words.proofs.Tests.{and-l, and-r, eqb-eq, le-of}
-use lib.Dec.{eqb, leb}
-use lib.ListN.{length}
-use Rattle.calls.specs.Pool.{Pool, store, lengths, sound}
-use Rattle.calls.specs.Step.{Act, bad, list, done, grant, numberOf, poolAfter, listSuits, Outcome, refusedWhole}
+use Rattle.calls.specs.Pool.{Pool, store, sound}
+use Rattle.calls.specs.Step.{Act, list, done, grant, poolAfter, listSuits}
 use Rattle.calls.specs.Step.{perform, step}
 use Rattle.calls.specs.Engines.{treeEngineOf, treeEngine}
-use Rattle.calls.proofs.ActLaws.{act-by, Way, eight, one, runs, way, step-sound}
+use Rattle.calls.proofs.ActLaws.{act-by, step-sound}
 use Rattle.calls.proofs.Demand2.{act-sound}
 use Rattle.calls.proofs.Engines.{tree-laws}
-use Rattle.call_parts.proofs.AskLaws.{RefusedBy, refused-by}
+use Rattle.call_parts.proofs.WholeLists.{unsuited-list}
 use Rattle.tree_pool.specs.declared.Head.{Head}
 use Rattle.tree_pool.specs.declared.Outcome as code
 use Rattle.tree_pool.specs.Promises.{poolOf, handed, left, acted, ran, refusedWith}
 
 -- ---- one request
-
-pub bad-refused : (p : Pool) → RefusedBy treeEngine p bad 9
-unfolding numberOf
-bad-refused p = refused-by treeEngine p bad 9 refl refl
 
 -- no act changes the shape, or gives the tree pool an index
 same-rest : (p : Pool) (a : Act)
@@ -50,31 +41,11 @@ acted-sound p act q e ok = ap (sound treeEngine) e ∙ act-sound treeEngine tree
 
 -- ---- the call
 
--- what a list that suits has
-pub suited-lengths : (rs bs : Words) → listSuits rs bs ≡ true → (length rs % 4 ≡ 0) × (length rs ≤ length bs)
-suited-lengths rs bs e =
-    let four = eqb (length rs % 4) 0 in
-    let few = leb (length rs) 4096 in
-    let room = leb (length rs) (length bs) in (
-      eqb-eq (length rs % 4) 0 (and-l four few (and-l (four && few) room e)),
-      le-of (length rs) (length bs) (and-r (four && few) room e),
-    )
-
 module _ (h : Head) (a t rs bs : Words) where
   pub list-unsuited : listSuits rs bs ≡ false → (o : code.Outcome) → o ≡ refusedWith h 8
       → handed o a t (bs ∷ []) ≡ left (step treeEngine (list rs bs) (poolOf h a t))
   list-unsuited e o is =
-      ap (λ (y : code.Outcome). handed y a t (bs ∷ [])) is
-      ∙ ap left (sym (by (step treeEngine (list rs bs) (poolOf h a t))
-      (way treeEngine (list rs bs) (poolOf h a t) refl)))
-    where
-      suited : (lengths treeEngine (poolOf h a t) && listSuits rs bs) ≢ true
-      suited k = false≢true (sym e ∙ and-r (lengths treeEngine (poolOf h a t)) (listSuits rs bs) k)
-
-      by : (o : Outcome) → Way treeEngine (list rs bs) (poolOf h a t) o → o ≡ refusedWhole (list rs bs) (poolOf h a t) 8
-      by o (eight k x) = x
-      by o (one k b x) = absurd (suited k)
-      by o (runs k b x) = absurd (suited k)
+      ap (λ (y : code.Outcome). handed y a t (bs ∷ [])) is ∙ ap left (sym (unsuited-list treeEngine (poolOf h a t) rs bs e))
 
   pub list-left : listSuits rs bs ≡ true → sound treeEngine (poolOf h a t) ≡ true
       → (o : code.Outcome) (b u c : Words) → o .answer ≡ done → (poolOf (o .head) b u, c) ≡ ran rs bs (poolOf h a t)

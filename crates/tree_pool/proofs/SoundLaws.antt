@@ -13,7 +13,8 @@ use Rattle.ledger.proofs.UnitLaws.{owned-covered}
 use Rattle.ledger.proofs.RunLaws.{runs-are}
 use Rattle.stored_forms.specs.Tree.{formOne, formRule, freeTree, link}
 use Rattle.stored_forms.proofs.TreeLaws.{freeTree-one}
-use Rattle.stored_forms.proofs.NodeLaws.{readable-one, Holds, Within}
+use Rattle.stored_forms.specs.Blocks.{Holds, Within}
+use Rattle.stored_forms.proofs.NodeLaws.{readable-one}
 use Rattle.stored_forms.proofs.FreeTreeLaws.{tree-within, of-stamped}
 use Rattle.free_blocks.specs.Blocks.{Lies}
 use Rattle.calls.specs.Pool.{Pool, store, sound}

@@ -9,7 +9,8 @@ use Rattle.words.specs.Lists.{Words}
 use Rattle.ledger.specs.Records.{Ledger, tableOf}
 use Rattle.ledger.specs.Units.{valid, owned}
 use Rattle.stored_forms.specs.Tree.{formOne, formRule, freeTree, link}
-use Rattle.stored_forms.proofs.NodeLaws.{readable-one, Holds}
+use Rattle.stored_forms.specs.Blocks.{Holds}
+use Rattle.stored_forms.proofs.NodeLaws.{readable-one}
 use Rattle.stored_forms.proofs.FreeTreeLaws.{stamped}
 use Rattle.calls.specs.Pool.{Pool, wordCount, store}
 use Rattle.calls.specs.Engines.{treeEngineOf, treeEngine}

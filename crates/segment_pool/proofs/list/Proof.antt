@@ -9,7 +9,8 @@ use Rattle.segment_pool.specs.Promises.{segmentPool}
 use Rattle.calls.specs.Step.{list}
 use Rattle.call_parts.proofs.GateLaws.{gate-sound}
 use Rattle.segment_pool.proofs.ActedLaws.{gate-left}
-use Rattle.segment_pool.proofs.RequestLaws.{suited-lengths, list-unsuited, list-left}
+use Rattle.segment_pool.proofs.RequestLaws.{list-unsuited, list-left}
+use Rattle.call_parts.proofs.WholeLists.{suited-lengths}
 use Rattle.segment_pool.proofs.list.Statement.{statement}
 use Rattle.segment_pool.proofs.list.Tie as tie
 

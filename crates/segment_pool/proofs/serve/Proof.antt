@@ -9,7 +9,8 @@ use Rattle.calls.specs.Step.{bad}
 use Rattle.call_parts.specs.declared.Request.{Request}
 use Rattle.call_parts.specs.Parts.{actOf}
 use Rattle.segment_pool.proofs.ActedLaws.{refused-left}
-use Rattle.segment_pool.proofs.RequestLaws.{bad-refused}
+use Rattle.calls.specs.Engines.{segmentEngine}
+use Rattle.call_parts.proofs.WholeLists.{bad-refused}
 use Rattle.segment_pool.proofs.serve.Statement.{statement}
 use Rattle.segment_pool.proofs.serve.Tie as tie
 
@@ -71,7 +72,7 @@ returns-3 : tie.Need-returns-3
 returns-3 c =
     let s = c .before .before .before .before .before in
     refused-left (s .args .head) (s .args .s) (now (s .args .arena)) (now (s .args .table)) (now (s .args .index))
-    bad (c .refused-with .result) 9 (c .refused-with .ensures) (bad-refused (pool s))
+    bad (c .refused-with .result) 9 (c .refused-with .ensures) (bad-refused segmentEngine (pool s))
     ∙ ap (λ (x : Request). acted (actOf x) (pool s)) (sym (c .before .enum-told .given .1))
 
 pub serve-spec : {M : Type 1} → statement M

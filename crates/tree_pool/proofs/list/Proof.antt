@@ -8,7 +8,8 @@ use Rattle.calls.specs.Engines.{treeEngine}
 use Rattle.call_parts.proofs.GateLaws.{gate-sound}
 use Rattle.tree_pool.specs.Promises.{poolOf}
 use Rattle.tree_pool.proofs.ActedLaws.{gate-left}
-use Rattle.tree_pool.proofs.RequestLaws.{suited-lengths, list-unsuited, list-left}
+use Rattle.tree_pool.proofs.RequestLaws.{list-unsuited, list-left}
+use Rattle.call_parts.proofs.WholeLists.{suited-lengths}
 use Rattle.tree_pool.proofs.list.Statement.{statement}
 use Rattle.tree_pool.proofs.list.Tie as tie
 

@@ -7,7 +7,8 @@ use Rattle.call_parts.specs.declared.Request.{Request}
 use Rattle.call_parts.specs.Parts.{actOf}
 use Rattle.tree_pool.specs.Promises.{poolOf, acted}
 use Rattle.tree_pool.proofs.ActedLaws.{refused-left}
-use Rattle.tree_pool.proofs.RequestLaws.{bad-refused}
+use Rattle.calls.specs.Engines.{treeEngine}
+use Rattle.call_parts.proofs.WholeLists.{bad-refused}
 use Rattle.tree_pool.proofs.serve.Statement.{statement}
 use Rattle.tree_pool.proofs.serve.Tie as tie
 
@@ -63,7 +64,7 @@ returns-3 c =
     let a = now (s .args .arena) in
     let t = now (s .args .table) in
     refused-left bad (s .args .head) a t (c .refused-with .result) 9 (c .refused-with .ensures)
-    (bad-refused (poolOf (s .args .head) a t))
+    (bad-refused treeEngine (poolOf (s .args .head) a t))
     ∙ ap (λ (x : Request). acted (actOf x) (poolOf (s .args .head) a t)) (sym (c .before .enum-told .given .1))
 
 pub serve-spec : {M : Type 1} → statement M

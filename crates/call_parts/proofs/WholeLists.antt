@@ -1,0 +1,45 @@
+-- A list call as a whole, over any engine: what a list that suits has, a list that does not, and the shape that no act
+-- changes. Assumes nothing.
+use Prim.Native.Nat.{_%_, _≤_}
+use mathlib.Core.Path.{_≡_, refl, sym, _∙_}
+use mathlib.Core.Logic.{_≢_}
+use mathlib.Core.Bool.{true, false, _&&_, false≢true}
+use lib.Dec.{eqb, leb}
+use lib.ListN.{length}
+use Rattle.words.specs.Lists.{Words}
+use Rattle.words.proofs.Tests.{and-l, and-r, eqb-eq, le-of}
+use Rattle.calls.specs.Pool.{Pool, Engine, store, lengths}
+use Rattle.calls.specs.Step.{Act, bad, list, grant, numberOf, poolAfter, listSuits, Outcome, refusedWhole, step}
+use Rattle.calls.proofs.ActLaws.{act-by, Way, eight, one, runs, way}
+use Rattle.call_parts.proofs.AskLaws.{RefusedBy, refused-by}
+
+pub suited-lengths : (rs bs : Words) → listSuits rs bs ≡ true → (length rs % 4 ≡ 0) × (length rs ≤ length bs)
+suited-lengths rs bs e =
+    let four = eqb (length rs % 4) 0 in
+    let few = leb (length rs) 4096 in
+    let room = leb (length rs) (length bs) in (
+      eqb-eq (length rs % 4) 0 (and-l four few (and-l (four && few) room e)),
+      le-of (length rs) (length bs) (and-r (four && few) room e),
+    )
+
+module _ (E : Engine) where
+  pub bad-refused : (p : Pool) → RefusedBy E p bad 9
+  unfolding numberOf
+  bad-refused p = refused-by E p bad 9 refl refl
+
+  pub same-shape : (p : Pool) (a : Act) → poolAfter E p a .shape ≡ p .shape
+  unfolding store grant
+  same-shape =
+      act-by E (λ (p : Pool) (a : Act) (q : Pool). q .shape ≡ p .shape) (λ p a. refl) (λ p n k h. refl) (λ p r h. refl)
+
+  pub unsuited-list : (p : Pool) (rs bs : Words) → listSuits rs bs ≡ false
+      → step E (list rs bs) p ≡ refusedWhole (list rs bs) p 8
+  unsuited-list p rs bs e = by (step E (list rs bs) p) (way E (list rs bs) p refl)
+    where
+      suited : (lengths E p && listSuits rs bs) ≢ true
+      suited k = false≢true (sym e ∙ and-r (lengths E p) (listSuits rs bs) k)
+
+      by : (o : Outcome) → Way E (list rs bs) p o → o ≡ refusedWhole (list rs bs) p 8
+      by o (eight k x) = x
+      by o (one k b x) = absurd (suited k)
+      by o (runs k b x) = absurd (suited k)

@@ -82,7 +82,7 @@ pub fn empty_slot(table: &[u32]) -> Found
 
 // ---- the unit rule
 
-// How often so many words go into w. The units of this house are spared the division.
+// How often so many words go into w. The units in use, 1 and 2, are spared a division by a variable.
 fn over(w: usize, unit: usize) -> usize
     requires { ⌜ 0 < unit ⌝ }
     ensures { λ q. ⌜ q ≡ w / unit ⌝ }

@@ -64,6 +64,10 @@ Landed = Standing × Bytes × Bytes × ℕ
 abbrev pub landed : Bytes → ℕ → Fed Standing → Landed
 landed out at f = (f .state, f .kept, sets out at (f .said), at + length (f .said))
 
+-- the start of a session: before P, nothing kept, nothing answered
+abbrev pub begun : Turn
+begun = record { stage = Before; kept = 0; at = 0; from = 0 }
+
 -- what the rest of a chunk will have made
 abbrev pub ahead : Turn → Bytes → Words → Words → Bytes → Bytes → Landed
 ahead t line arena table chunk out =

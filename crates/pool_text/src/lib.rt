@@ -23,7 +23,7 @@ ghost use Rattle.text.specs.Fields.{Wrote};
 ghost use Rattle.text.specs.Lines.{feed, finish};
 ghost use Rattle.pool_text.specs.Meaning.{begins, sizesOf, askOf, giveOf, requestOf, opened, firstLine};
 ghost use Rattle.pool_text.specs.Meaning.{refusalLine, answerLine, serve};
-ghost use Rattle.pool_text.specs.Session.{standingOf, Lent, Became, Going, ahead, landed, mostAnswer};
+ghost use Rattle.pool_text.specs.Session.{begun, standingOf, Lent, Became, Going, ahead, landed, mostAnswer};
 
 // ---- what a line asks
 
@@ -285,6 +285,18 @@ pub struct Turn {
     pub kept: usize,
     pub at: usize,
     pub from: usize,
+}
+
+// The start of a session: before P, nothing kept, nothing answered.
+pub fn start() -> Turn
+    ensures { λ r. ⌜ r ≡ begun ⌝ }
+{
+    Turn {
+        stage: Stage::Before,
+        kept: 0,
+        at: 0,
+        from: 0,
+    }
 }
 
 // As far as the end of the next line, or of the chunk.

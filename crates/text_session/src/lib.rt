@@ -219,12 +219,7 @@ fn converse(
         × (length (now out) ≡ 65536) ⌝ }
     requires { ⌜ (0 < piece) × (piece ≤ 512) ⌝ }
 {
-    let mut turn = Turn {
-        stage: Stage::Before,
-        kept: 0,
-        at: 0,
-        from: 0,
-    };
+    let mut turn = pool_text::start();
     let mut more = true;
     let mut reads = u64::MAX;
     while more & (reads > 0) {

@@ -1,13 +1,14 @@
 -- `text_session::converse` meets its contract: between two reads all is as lent, and a count of reads falls. Assumes
 -- nothing.
 use native.Mathlib.Omega.{arith}
-use mathlib.Core.Path.{_≡_, _∙_, refl}
+use mathlib.Core.Path.{_≡_, _∙_, refl, sym, subst}
 use borrow.Author.Needs.{needs}
 use Prim.Native.Nat.{ℕ, _<_, _≤_}
 use mathlib.Core.Bool.{Bool, true, _&&_}
 use lib.Dec.{ltb}
 use lib.ListN.{length}
 use Rattle.words.proofs.Tests.{and-r, lt-of}
+use Rattle.pool_text.specs.declared.Turn.{Turn}
 use Rattle.text_session.specs.Between.{Between}
 use Rattle.text_session.proofs.converse.Statement.{statement}
 use Rattle.text_session.proofs.converse.Tie as tie
@@ -22,11 +23,20 @@ abbrev μ-loop : tie.MeasureT-loop
 reads-left : (more : Bool) (n : ℕ) → (more && ltb 0 n) ≡ true → 0 < n
 reads-left more n e = lt-of 0 n (and-r more (ltb 0 n) e)
 
+start-requires : tie.Need-start-requires Inv-loop μ-loop
+start-requires c κs = search needs
+
 loop-holds : tie.Need-loop-holds Inv-loop μ-loop
 loop-holds c =
-    let s = c .before .before .before .before .before in
+    let s = c .before .before .before .before .before .before in
     let l = s .pre .0 in
-    (((l .1, l .2, refl), l .0, omega arith, l .3, omega arith), s .pre .1 .0, s .pre .1 .1, refl)
+    let held : Turn → Type 0 =
+        λ (t : Turn). Between t (s .args .line .now) (s .args .arena .now) (s .args .table .now) (s .args .out .now) in (
+      subst held (sym (c .start .ensures)) ((l .1, l .2, refl), l .0, omega arith, l .3, omega arith),
+      s .pre .1 .0,
+      s .pre .1 .1,
+      refl,
+    )
 
 read-once-requires : tie.Need-read-once-requires Inv-loop μ-loop
 read-once-requires c κs =
@@ -78,6 +88,7 @@ converse-spec =
     (tie.spec
     Inv-loop
     μ-loop
+    start-requires
     loop-holds
     read-once-requires
     sub-reads

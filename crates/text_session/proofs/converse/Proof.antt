@@ -31,7 +31,7 @@ loop-holds c =
     let s = c .before .before .before .before .before .before in
     let l = s .pre .0 in
     let held : Turn → Type 0 =
-        λ (t : Turn). Between t (s .args .line .now) (s .args .arena .now) (s .args .table .now) (s .args .out .now) in (
+    λ (t : Turn). Between t (s .args .line .now) (s .args .arena .now) (s .args .table .now) (s .args .out .now) in (
       subst held (sym (c .start .ensures)) ((l .1, l .2, refl), l .0, omega arith, l .3, omega arith),
       s .pre .1 .0,
       s .pre .1 .1,

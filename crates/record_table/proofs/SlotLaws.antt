@@ -1,21 +1,23 @@
 -- Laws of the slots that a search finds. Assumes nothing.
-use Prim.Native.Nat.{ℕ, zero, suc, _+_, _-_, _≤_, _<_}
+use Prim.Native.Nat.{ℕ, zero, suc, _+_, _-_, _*_, _≤_, _<_}
 use native.Mathlib.Nat.{sub-zero, not-suc-le-zero, le-of-suc-le-suc}
+use native.Mathlib.Decide.{ℕ-discrete, decLt}
 use native.Mathlib.Omega.{arith}
 use mathlib.Core.Path.{_≡_, refl, sym, ap, _∙_}
 use mathlib.Core.Logic.{_≢_}
-use mathlib.Core.Bool.{Bool, true, false, not, and-false}
+use mathlib.Core.Bool.{Bool, true, false, not, _||_, and-false}
 use mathlib.Core.Option.{Option, none, some}
 use mathlib.Core.List.{[], _∷_}
 use lib.Dec.{eqb}
 use lib.ListN.{length, getD, set}
 use Rattle.words.specs.Lists.{Words, firstThat}
 use Rattle.words.specs.Counted.{lowest}
-use Rattle.words.proofs.Tests.{false-of, eqb-ne, absurd-some}
-use Rattle.words.proofs.CountedLaws.{lowest-some, lowest-none, lowest-nothing, lowest-here, lowest-next, lowest-end}
+use Rattle.words.proofs.Tests.{false-of, or-l, or-r, eqb-ne, eqb-false, absurd-some}
+use Rattle.words.proofs.CountedLaws.{lowest-some, lowest-none, lowest-nothing, lowest-here, lowest-next, lowest-skip}
+use Rattle.words.proofs.CountedLaws.{lowest-end}
 use Rattle.ledger.specs.declared.Row.{Row}
 use Rattle.ledger.specs.declared.Rule.{Rule}
-use Rattle.ledger.specs.Records.{Ledger, emptyRow, recordAt, recordsOf, slots, hasTicket, recordOf, full, enter}
+use Rattle.ledger.specs.Records.{Ledger, emptyRow, recordAt, recordsOf, slots, hasTicket, recordOf, full, enter, isEmpty}
 use Rattle.ledger.specs.Records.{vacate, member, settle}
 use Rattle.ledger.specs.Units.{valid}
 use Rattle.ledger.proofs.RecordLaws.{length-records, record-at, has-ticket, record-ticket}
@@ -23,7 +25,7 @@ use Rattle.ledger.proofs.RecordLaws.{settle-slot, enter-slot, full-none}
 use Rattle.ledger.proofs.UnitLaws.{valid-apart}
 use Rattle.record_table.specs.declared.Found.{Found}
 use Rattle.record_table.specs.declared.Found.the-variants.{At, Nothing}
-use Rattle.record_table.specs.Slots.{found, ticketAt, emptyAt, ticketSlot, emptySlot}
+use Rattle.record_table.specs.Slots.{found, ticketAt, emptyAt, ticketSlot, emptySlot, Without, Reached}
 
 -- ---- a search by a test f of records, which has come to slot i of the table
 
@@ -52,8 +54,103 @@ module _ (f : Row → Bool) (t : Words) where
       left = lowest-next (slotThat f t) (testAt f t) (slots t) i (s .left) h (ap f (record-at t i h) ∙ e);
     }
 
+    -- a block in which no slot passes
+    pub search-skip : (e : ℕ) → i ≤ e → e ≤ slots t → ((j : ℕ) → i ≤ j → j < e → f (recordAt t j) ≡ false)
+        → Searched f t e
+    search-skip e h l off = record {
+      upto = l;
+      left = lowest-skip (slotThat f t) (testAt f t) (slots t) i (s .left) e h l
+          (λ j a b. ap f (record-at t j (omega arith)) ∙ off j a b);
+    }
+
     pub search-end : slots t ≤ i → Nothing ≡ found (slotThat f t)
     search-end h = ap found (lowest-end (slotThat f t) (testAt f t) (slots t) i (s .left) h)
+
+-- ---- a scan of the slots from i on, which has come to slot k
+
+pub record Scanned (f : Row → Bool) (t : Words) (i k : ℕ) : Type 0 where
+  pub above : i ≤ k
+  pub below : k ≤ slots t
+  pub passed : (j : ℕ) → i ≤ j → j < k → f (recordAt t j) ≡ false
+
+module _ (f : Row → Bool) (t : Words) (i : ℕ) where
+  pub scan-start : i ≤ slots t → Scanned f t i i
+  scan-start h = record { above = omega arith; below = h; passed = λ j a b. absurd (omega arith) }
+
+  module _ (k : ℕ) (s : Scanned f t i k) where
+    pub scan-next : k < slots t → f (recordAt t k) ≡ false → Scanned f t i (k + 1)
+    scan-next h off = record {
+      above = omega (arith, s .above);
+      below = omega arith;
+      passed = λ j a b. go j a b (ℕ-discrete j k);
+    }
+      where
+        go : (j : ℕ) → i ≤ j → j < k + 1 → Dec (j ≡ k) → f (recordAt t j) ≡ false
+        go j a b (yes q) = ap (λ n. f (recordAt t n)) q ∙ off
+        go j a b (no q) = s .passed j a (omega arith)
+
+    pub scan-here : f (recordAt t k) ≡ true → Reached f t i k
+    scan-here on = record { above = s .above; below = s .below; passed = s .passed; here = λ h. on }
+
+    pub scan-end : slots t ≤ k → Reached f t i k
+    scan-end h = record { above = s .above; below = s .below; passed = s .passed; here = λ l. absurd (omega arith) }
+
+-- a search whose first i slots don't pass, by what a scan from there reached
+module _ (f : Row → Bool) (t : Words) (i k : ℕ) (off : (j : ℕ) → 0 ≤ j → j < i → f (recordAt t j) ≡ false)
+    (r : Reached f t i k) where
+  come : Searched f t k
+  come =
+      let low : i ≤ slots t = omega (arith, r .above, r .below) in
+      search-skip f t i (search-skip f t 0 (search-start f t) i (omega arith) low off) k (r .above) (r .below)
+      (r .passed)
+
+  pub reach-here : k < slots t → At k ≡ found (slotThat f t)
+  reach-here h = search-here f t k come h (r .here h)
+
+  pub reach-end : slots t ≤ k → Nothing ≡ found (slotThat f t)
+  reach-end h = search-end f t k come h
+
+-- ---- slots without a ticket
+
+module _ (t : Words) (x : ℕ) where
+  pub without-none : Without t x 0 0
+  without-none j a b = absurd (omega arith)
+
+  pub without-next : (i : ℕ) → Without t x 0 i → Without t x i (i + 4) → Without t x 0 (i + 4)
+  without-next i low four j a b = go (decLt j i)
+    where
+      go : Dec (j < i) → recordAt t j .ticket ≢ x
+      go (yes h) = low j a h
+      go (no h) = four j (omega arith) b
+
+  -- by the four tests
+  pub without-four : (i : ℕ) → (((eqb (getD t (3 * i) 0) x || eqb (getD t (3 * i + 3) 0) x)
+      || eqb (getD t (3 * i + 6) 0) x) || eqb (getD t (3 * i + 9) 0) x) ≡ false → Without t x i (i + 4)
+  without-four i h j a b e = go (ℕ-discrete j i) (ℕ-discrete j (i + 1)) (ℕ-discrete j (i + 2))
+    where
+      at : ℕ → Bool
+      at k = eqb (getD t k 0) x
+
+      differs : (k : ℕ) → 3 * j ≡ k → at k ≡ false → ⊥
+      differs k q off = eqb-false (getD t k 0) x off (ap (λ n. getD t n 0) (sym q) ∙ e)
+
+      three : ((at (3 * i) || at (3 * i + 3)) || at (3 * i + 6)) ≡ false
+      three = or-l ((at (3 * i) || at (3 * i + 3)) || at (3 * i + 6)) (at (3 * i + 9)) h
+
+      two : (at (3 * i) || at (3 * i + 3)) ≡ false
+      two = or-l (at (3 * i) || at (3 * i + 3)) (at (3 * i + 6)) three
+
+      go : Dec (j ≡ i) → Dec (j ≡ i + 1) → Dec (j ≡ i + 2) → ⊥
+      go (yes q) _ _ = differs (3 * i) (omega arith) (or-l (at (3 * i)) (at (3 * i + 3)) two)
+      go (no _) (yes q) _ = differs (3 * i + 3) (omega arith) (or-r (at (3 * i)) (at (3 * i + 3)) two)
+      go (no _) (no _) (yes q) =
+          differs (3 * i + 6) (omega arith) (or-r (at (3 * i) || at (3 * i + 3)) (at (3 * i + 6)) three)
+      go (no p) (no q) (no r) =
+          differs (3 * i + 9) (omega arith)
+          (or-r ((at (3 * i) || at (3 * i + 3)) || at (3 * i + 6)) (at (3 * i + 9)) h)
+
+pub without-empty : (t : Words) (i e : ℕ) → Without t 0 i e → (j : ℕ) → i ≤ j → j < e → isEmpty (recordAt t j) ≡ false
+without-empty t i e h j a b = rw (eqb-ne (recordAt t j .ticket) 0 (h j a b))
 
 -- ---- the slot that was found
 

@@ -2,15 +2,16 @@
 use ledger::Row;
 use ledger::Rule;
 ghost use mathlib.Core.Path.{_≡_};
-ghost use mathlib.Core.Bool.{true};
+ghost use mathlib.Core.Bool.{true, false};
 ghost use Prim.Native.Nat.{_+_, _/_, _-_, _%_, _≤_, _<_};
 ghost use lib.ListN.{length, set};
 ghost use Rattle.words.specs.Lists.{all, pairwise, isZero, zeroAt};
 ghost use Rattle.words.specs.Counted.{every};
 ghost use Rattle.words.specs.Places.{wiped};
-ghost use Rattle.ledger.specs.Records.{recordWords, recordAt, slots, recordsOf, tableOf, isEmpty};
+ghost use mathlib.Core.Logic.{_≢_};
+ghost use Rattle.ledger.specs.Records.{recordWords, recordAt, slots, recordsOf, tableOf, isEmpty, hasTicket};
 ghost use Rattle.ledger.specs.Units.{span, first, past, fits, valid};
-ghost use Rattle.record_table.specs.Slots.{ticketSlot, emptySlot};
+ghost use Rattle.record_table.specs.Slots.{ticketSlot, emptySlot, Without, Reached};
 ghost use Rattle.record_table.specs.Checks.{rowOk, differ, unlike, newAt, Gathered, Noted};
 ghost use Rattle.record_table.specs.Checks.{beside, Inside, AllInside, Marks, room, marked};
 
@@ -43,6 +44,50 @@ pub fn write_row(table: &mut [u32], i: usize, r: Row)
     table[3 * i + 2] = r.words;
 }
 
+// ---- the searches, four slots at a time
+
+// Whether one of the tickets from slot i up to slot i + 4 is x.
+fn is_met(table: &[u32], x: u32, i: usize) -> bool
+    requires { ⌜ i + 4 ≤ slots (now table) ⌝ }
+    ensures { λ r. ⌜ (r ≡ false → Without (now (table .entry)) x i (i + 4)) ⌝ }
+{
+    (table[3 * i] == x)
+        | (table[3 * i + 3] == x)
+        | (table[3 * i + 6] == x)
+        | (table[3 * i + 9] == x)
+}
+
+// So many slots, from the first on, have another ticket: all of them, or all but the last few, or up to the four
+// among which one has ticket x.
+fn passed(table: &[u32], x: u32) -> usize
+    ensures { λ r. ⌜ (r ≤ slots (now (table .entry))) × Without (now (table .entry)) x 0 r ⌝ }
+{
+    let n = table.len() / 3;
+    let mut i = 0;
+    while n - i >= 4 {
+        if is_met(table, x, i) {
+            return i;
+        }
+        i += 4;
+    }
+    i
+}
+
+// The lowest slot with this ticket from slot i on, or the number of slots.
+fn ticket_from(table: &[u32], ticket: u32, i: usize) -> usize
+    requires { ⌜ (i ≤ slots (now table)) × (ticket ≢ 0) ⌝ }
+    ensures { λ r. ⌜ Reached (hasTicket ticket) (now (table .entry)) i r ⌝ }
+{
+    let mut k = i;
+    while k < table.len() / 3 {
+        if table[3 * k] == ticket {
+            return k;
+        }
+        k += 1;
+    }
+    k
+}
+
 // The lowest slot with this ticket. Ticket 0 is no record's, though it stands in every empty slot.
 pub fn find_slot(table: &[u32], ticket: u32) -> Found
     ensures { λ r. ⌜ r ≡ ticketSlot ticket (recordsOf (now (table .entry))) ⌝ }
@@ -50,12 +95,10 @@ pub fn find_slot(table: &[u32], ticket: u32) -> Found
     if ticket == 0 {
         return Found::Nothing;
     }
-    let mut i = 0;
-    while i < table.len() / 3 {
-        if table[3 * i] == ticket {
-            return Found::At(i);
-        }
-        i += 1;
+    let i = passed(table, ticket);
+    let k = ticket_from(table, ticket, i);
+    if k < table.len() / 3 {
+        return Found::At(k);
     }
     Found::Nothing
 }
@@ -66,16 +109,29 @@ pub fn is_empty(r: Row) -> bool
     (r.ticket == 0) & (r.address == 0) & (r.words == 0)
 }
 
+// The lowest empty slot from slot i on, or the number of slots.
+fn empty_from(table: &[u32], i: usize) -> usize
+    requires { ⌜ i ≤ slots (now table) ⌝ }
+    ensures { λ r. ⌜ Reached isEmpty (now (table .entry)) i r ⌝ }
+{
+    let mut k = i;
+    while k < table.len() / 3 {
+        if is_empty(read_row(table, k)) {
+            return k;
+        }
+        k += 1;
+    }
+    k
+}
+
 // The lowest empty slot.
 pub fn empty_slot(table: &[u32]) -> Found
     ensures { λ r. ⌜ r ≡ emptySlot (recordsOf (now (table .entry))) ⌝ }
 {
-    let mut i = 0;
-    while i < table.len() / 3 {
-        if is_empty(read_row(table, i)) {
-            return Found::At(i);
-        }
-        i += 1;
+    let i = passed(table, 0);
+    let k = empty_from(table, i);
+    if k < table.len() / 3 {
+        return Found::At(k);
     }
     Found::Nothing
 }
@@ -164,7 +220,7 @@ fn live_fits(rule: Rule, words: usize, next: u32, r: Row) -> bool
 }
 
 // A slot by itself. An empty one is spared the divisions.
-fn row_fits(rule: Rule, words: usize, next: u32, r: Row) -> bool
+pub fn row_fits(rule: Rule, words: usize, next: u32, r: Row) -> bool
     requires { ⌜ 0 < rule .unit ⌝ }
     ensures { λ b. ⌜ b ≡ rowOk rule words next r ⌝ }
 {
@@ -217,7 +273,7 @@ fn unlike_later(ids: &[u32], n: usize, i: usize) -> bool
 
 // A ticket's place among m residues; the numbers in use here are spared the division. Tickets follow one another, so
 // those alive together rarely share one.
-fn residue(ticket: u32, m: usize) -> usize
+pub fn residue(ticket: u32, m: usize) -> usize
     requires { ⌜ 0 < m ⌝ }
     ensures { λ r. ⌜ (r ≡ ticket % m) × (r < m) ⌝ }
 {

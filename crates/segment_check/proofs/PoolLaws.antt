@@ -6,29 +6,29 @@ use mathlib.Core.Path.{_≡_, refl, sym, _∙_}
 use lib.IntN.{ℤ}
 use lib.ListN.{length}
 use Rattle.words.specs.Lists.{Words}
-use Rattle.ledger.specs.Records.{recordsOf}
+use Rattle.ledger.specs.Records.{Ledger}
 use Rattle.stored_forms.specs.Segments.{segmentIndex}
 use Rattle.segment_index.specs.Index.{indexOf}
 use Rattle.segment_blocks.specs.Upkeep.{Ground}
-use Rattle.segment_places.specs.Stores.{arenaOf}
 use Rattle.segment_places.proofs.ChangeLaws.{controls, index-view, stored-blocks}
-use Rattle.segment_check.specs.Right.{Says, Mapped, Measured}
+use Rattle.segment_check.specs.Right.{Says, Measured, Laid}
 
 -- a fact that is not so is no part of one that is
 pub says-not : {P Q : Type 0} (a : Bool) → a ≡ false → Says a P → Says false (P × Q)
 says-not a e s = ((λ h. absurd (false≢true h)), (λ (p, q). sym e ∙ s .1 p))
 
-module _ (v : List ℤ) (t m table : Words) (s g : ℕ) (K : Mapped v m table) (M : Measured v t s g)
-    (right : v ≡ arenaOf (recordsOf table) v) where
-  pub pool-ground : Ground v (controls (recordsOf table) (length v)) s g
-  pool-ground = record {
-    sizes = M .sizes;
-    blocks = stored-blocks (K .next) (recordsOf table) v (K .good) v v refl right;
-  }
+-- the index of an arena that is right
+module _ (v : List ℤ) (t : Words) (s g : ℕ) (M : Measured v t s g) (L : Ledger) (next : ℕ) (laid : Laid v L next) where
+  pub laid-ground : Ground v (controls L (length v)) s g
+  laid-ground = record { sizes = M .sizes; blocks = stored-blocks next L v (laid .0) v v refl (laid .1) }
 
-  pub pool-says : (b : Bool) → Says b (t ≡ indexOf (controls (recordsOf table) (length v)) (length v) s)
-      → Says b ((v ≡ arenaOf (recordsOf table) v) × (t ≡ segmentIndex s (length v) (recordsOf table)))
-  pool-says b says = (
-    (λ h. (right, says .0 h ∙ sym (index-view s (length v) (recordsOf table)))),
-    (λ (p, q). says .1 (q ∙ index-view s (length v) (recordsOf table))),
+  pub index-laid : (b : Bool) → Says b (t ≡ indexOf (controls L (length v)) (length v) s)
+      → Says b (t ≡ segmentIndex s (length v) L)
+  index-laid b says = (
+    (λ h. says .0 h ∙ sym (index-view s (length v) L)),
+    (λ q. says .1 (q ∙ index-view s (length v) L)),
   )
+
+-- where one fact is so, a flag for another says both
+pub says-both : {P Q : Type 0} (b : Bool) → P → Says b Q → Says b (P × Q)
+says-both b p s = ((λ h. (p, s .0 h)), (λ (x, q). s .1 q))

@@ -10,12 +10,13 @@ use lib.ListN.{length, getD}
 use Rattle.words.specs.Counted.{every}
 use Rattle.words.specs.Lists.{Words, zeroAt}
 use Rattle.words.specs.Signed.{zeroAtZ}
-use Rattle.ledger.specs.Records.{isEmpty, recordsOf}
+use Rattle.ledger.specs.Records.{Ledger, isEmpty, recordsOf}
 use Rattle.ledger.specs.Units.{valid, free}
 use Rattle.ledger.specs.declared.Row.{Row}
 use Rattle.stored_forms.specs.Segments.{segmentRule, segmentSize, largest, firstBlock, opens, freeFrom}
 use Rattle.control_words.specs.Control.{freeSize}
 use Rattle.segment_blocks.specs.Upkeep.{Sizes}
+use Rattle.segment_places.specs.Stores.{arenaOf}
 
 -- a flag that says a fact, both ways
 abbrev pub Says : Bool → Type 0 → Type 0
@@ -75,3 +76,7 @@ segmentRight c W s t k =
 pub record Measured (v : List ℤ) (t : Words) (s g : ℕ) : Type 0 where
   pub sizes : Sizes (length v) s g
   pub long : length t ≡ 3 * s
+
+-- the arena is the stored form of a valid ledger
+abbrev pub Laid : List ℤ → Ledger → ℕ → Type 0
+Laid v L next = (valid segmentRule (length v) next L ≡ true) × (v ≡ arenaOf L v)

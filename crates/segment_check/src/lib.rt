@@ -18,14 +18,14 @@ ghost use lib.IntN.{ℤ};
 ghost use lib.ListN.{length};
 ghost use Rattle.words.specs.Lists.{all, zeroAt};
 ghost use Rattle.words.specs.Counted.{every};
-ghost use Rattle.ledger.specs.Records.{recordsOf, isEmpty};
+ghost use Rattle.ledger.specs.Records.{Ledger, recordsOf, isEmpty};
 ghost use Rattle.ledger.specs.Units.{valid};
 ghost use Rattle.stored_forms.specs.Segments.{segmentRule, segmentIndex};
 ghost use Rattle.segment_index.specs.Index.{indexOf};
 ghost use Rattle.segment_blocks.specs.Upkeep.{Ground, Facing};
 ghost use Rattle.segment_places.specs.Stores.{arenaOf};
 ghost use Rattle.segment_check.specs.Right.{Says, heldRight, freeRight, runRight, Alike, Skips, Mapped};
-ghost use Rattle.segment_check.specs.Right.{nodeRight, segmentRight, Measured};
+ghost use Rattle.segment_check.specs.Right.{nodeRight, segmentRight, Measured, Laid};
 
 // ---- the arena
 
@@ -204,6 +204,18 @@ fn index_right(v: &[i32], t: &[u32], s: usize, g: usize) -> bool
     (t[0] == 0) & nodes_right(t, s) & segments_right(v, t, s, g)
 }
 
+// Whether the index is that of the ledger whose stored form the arena is.
+pub fn index_stored(v: &[i32], t: &[u32], s: usize, g: usize) -> bool
+    requires { ⌜ ((L : Ledger) × (next : ℕ) × Laid (now v) L next) ⌝ }
+    requires { ⌜ Measured (now v) (now t) s g ⌝ }
+    ensures { λ r. ⌜
+        ((L : Ledger) → (next : ℕ) → Laid (now (v .entry)) L next
+        → Says r (now (t .entry) ≡ segmentIndex s (length (now (v .entry))) L))
+        ⌝ }
+{
+    index_right(v, t, s, g)
+}
+
 // Whether arena and index are the stored form of the table's ledger.
 pub fn pool_right(v: &[i32], t: &[u32], used: &[u8], table: &[u32], s: usize, g: usize) -> bool
     requires { ⌜ Mapped (now v) (now used) (now table) ⌝ }
@@ -216,5 +228,5 @@ pub fn pool_right(v: &[i32], t: &[u32], used: &[u8], table: &[u32], s: usize, g:
     if !arena_right(v, used, table) {
         return false;
     }
-    index_right(v, t, s, g)
+    index_stored(v, t, s, g)
 }

@@ -91,26 +91,17 @@ pub not-stored : (S next : ℕ) (v : List ℤ) (t x : Words) (b : Bool)
 unfolding stored segmentEngine
 not-stored S next v t x b e off = let bad = sym e ∙ off in sym (rw (length-map v, bad))
 
--- a valid table whose free units are those of the map
-pub record Checked (S next : ℕ) (v : List ℤ) (t x used : Words) : Type 0 where
+-- right lengths and a valid table
+pub record Valid (S next : ℕ) (v : List ℤ) (t x : Words) : Type 0 where
   pub fit : InRange S v t x
   pub good : valid segmentRule (length v) next (recordsOf t) ≡ true
-  pub marks : Marks segmentRule used (recordsOf t)
 
-pub check-passes : {S next : ℕ} {v : List ℤ} {t x used : Words} (b : Bool) → InRange S v t x
-    → b ≡ valid segmentRule (length v) next (recordsOf t) → (b ≡ true → Marks segmentRule used (recordsOf t))
-    → b ≡ true → Checked S next v t x used
-check-passes b fit e marks ok = record { fit = fit; good = sym e ∙ ok; marks = marks ok }
-
-module _ {S next : ℕ} {v : List ℤ} {t x used : Words} (k : Checked S next v t x used) where
+module _ {S next : ℕ} {v : List ℤ} {t x : Words} (k : Valid S next v t x) where
   abbrev L : Ledger
   L = recordsOf t
 
   abbrev p : Pool
   p = segmentPool S next v t x
-
-  pub mapped : length v ≤ length used → Mapped v used t
-  mapped l = record { next = next; good = k .good; long = l; marks = k .marks }
 
   pub measured : Measured v x S (segmentSize (length v) S)
   measured = record {
@@ -139,6 +130,12 @@ module _ {S next : ℕ} {v : List ℤ} {t x used : Words} (k : Checked S next v 
         index = index i;
       }
 
+  store-index : p ≡ store segmentEngine L next p → x ≡ segmentIndex S (length v) L
+  unfolding store segmentEngine
+  store-index e =
+      let n : length (asWords v) ≡ length v = length-map v (ofZ w32) in
+      ap (λ (q : Pool). q .index) e ∙ ap (λ m. segmentIndex S m L) n
+
   store-right : Ranged v → p ≡ store segmentEngine L next p → Right
   unfolding store segmentEngine
   store-right fits e =
@@ -146,7 +143,7 @@ module _ {S next : ℕ} {v : List ℤ} {t x used : Words} (k : Checked S next v 
         words-arena next L v (k .good) (k .fit .most) fits
             (ap (λ (q : Pool). q .arena) e
             ∙ ap (λ m. stamp (owned segmentRule L) (segmentWord m L) (asWords v)) n),
-        ap (λ (q : Pool). q .index) e ∙ ap (λ m. segmentIndex S m L) n,
+        store-index e,
       )
 
   stored-same : stored segmentEngine p ≡ samePool p (store segmentEngine L next p)
@@ -155,10 +152,32 @@ module _ {S next : ℕ} {v : List ℤ} {t x used : Words} (k : Checked S next v 
       let good : valid segmentRule (length (asWords v)) next L ≡ true = rw (length-map v) (k .good) in
       rw good
 
-  pub stored-is : Ranged v → (r : Bool) → Says r Right
+  stored-by : (r : Bool) → (r ≡ true → Right) → (p ≡ store segmentEngine L next p → r ≡ true)
       → r ≡ stored segmentEngine (segmentPool S next v t x)
-  stored-is fits r says =
+  stored-by r from to =
       let q = store segmentEngine L next p in
       bool-iff r (stored segmentEngine p)
-      (λ e. stored-same ∙ ap (samePool p) (sym (right-store (says .0 e))) ∙ same-pool-same p)
-      (λ e. says .1 (store-right fits (same-pool-eq p q (sym stored-same ∙ e))))
+      (λ e. stored-same ∙ ap (samePool p) (sym (right-store (from e))) ∙ same-pool-same p)
+      (λ e. to (same-pool-eq p q (sym stored-same ∙ e)))
+
+  pub stored-is : Ranged v → (r : Bool) → Says r Right → r ≡ stored segmentEngine (segmentPool S next v t x)
+  stored-is fits r says = stored-by r (says .0) (λ e. says .1 (store-right fits e))
+
+  -- where the arena is right, the index decides
+  pub stored-index : v ≡ arenaOf L v → (r : Bool) → Says r (x ≡ segmentIndex S (length v) L)
+      → r ≡ stored segmentEngine (segmentPool S next v t x)
+  stored-index right r says = stored-by r (λ e. (right, says .0 e)) (λ e. says .1 (store-index e))
+
+-- and free units that are those of the map
+pub record Checked (S next : ℕ) (v : List ℤ) (t x used : Words) : Type 0 where
+  pub known : Valid S next v t x
+  pub marks : Marks segmentRule used (recordsOf t)
+
+pub check-passes : {S next : ℕ} {v : List ℤ} {t x used : Words} (b : Bool) → InRange S v t x
+    → b ≡ valid segmentRule (length v) next (recordsOf t) → (b ≡ true → Marks segmentRule used (recordsOf t))
+    → b ≡ true → Checked S next v t x used
+check-passes b fit e marks ok = record { known = record { fit = fit; good = sym e ∙ ok }; marks = marks ok }
+
+pub mapped : {S next : ℕ} {v : List ℤ} {t x used : Words} → Checked S next v t x used → length v ≤ length used
+    → Mapped v used t
+mapped {next = next} k l = record { next = next; good = k .known .good; long = l; marks = k .marks }

@@ -85,28 +85,8 @@ fn is_stored_over(
     segment_check::pool_right(arena, index, used, table, s as usize, g)
 }
 
-// A map is wiped whole, so that a small pool gets a small one.
-fn is_stored_small(s: u32, next: u32, arena: &[i32], table: &[u32], index: &[u32]) -> bool
-    requires { ⌜ lengths segmentEngine (segmentPool s next (now arena) (now table) (now index)) ≡ true ⌝ }
-    requires { ⌜ length (now arena) ≤ 128 ⌝ }
-    ensures { λ r. ⌜ r
-        ≡ stored segmentEngine (segmentPool s next (now (arena .entry)) (now (table .entry)) (now (index .entry))) ⌝ }
-{
-    let mut used: [u8; 128] = [0; 128];
-    is_stored_over(s, next, arena, table, index, &mut used)
-}
-
-fn is_stored_middle(s: u32, next: u32, arena: &[i32], table: &[u32], index: &[u32]) -> bool
-    requires { ⌜ lengths segmentEngine (segmentPool s next (now arena) (now table) (now index)) ≡ true ⌝ }
-    requires { ⌜ length (now arena) ≤ 2048 ⌝ }
-    ensures { λ r. ⌜ r
-        ≡ stored segmentEngine (segmentPool s next (now (arena .entry)) (now (table .entry)) (now (index .entry))) ⌝ }
-{
-    let mut used: [u8; 2048] = [0; 2048];
-    is_stored_over(s, next, arena, table, index, &mut used)
-}
-
-fn is_stored_large(s: u32, next: u32, arena: &[i32], table: &[u32], index: &[u32]) -> bool
+// The exact check, with every unit marked. It is what refuses a pool.
+fn is_stored_marked(s: u32, next: u32, arena: &[i32], table: &[u32], index: &[u32]) -> bool
     requires { ⌜ lengths segmentEngine (segmentPool s next (now arena) (now table) (now index)) ≡ true ⌝ }
     ensures { λ r. ⌜ r
         ≡ stored segmentEngine (segmentPool s next (now (arena .entry)) (now (table .entry)) (now (index .entry))) ⌝ }
@@ -115,19 +95,18 @@ fn is_stored_large(s: u32, next: u32, arena: &[i32], table: &[u32], index: &[u32
     is_stored_over(s, next, arena, table, index, &mut used)
 }
 
-// Whether head and lent memory are the stored form of a ledger.
+// Whether head and lent memory are the stored form of a ledger. Blocks that lie side by side are found quickly, and
+// then the index decides; only where they don't is every unit marked.
 fn is_stored(s: u32, next: u32, arena: &[i32], table: &[u32], index: &[u32]) -> bool
     requires { ⌜ lengths segmentEngine (segmentPool s next (now arena) (now table) (now index)) ≡ true ⌝ }
     ensures { λ r. ⌜ r
         ≡ stored segmentEngine (segmentPool s next (now (arena .entry)) (now (table .entry)) (now (index .entry))) ⌝ }
 {
-    if arena.len() <= 128 {
-        return is_stored_small(s, next, arena, table, index);
+    if segment_tiles::is_tiled(next, arena, table) {
+        let g = segment_index::segment_size(arena.len(), s as usize);
+        return segment_check::index_stored(arena, index, s as usize, g);
     }
-    if arena.len() <= 2048 {
-        return is_stored_middle(s, next, arena, table, index);
-    }
-    is_stored_large(s, next, arena, table, index)
+    is_stored_marked(s, next, arena, table, index)
 }
 
 // The number of the tests that stand before every call: 8, 1, or 0 for a sound pool.

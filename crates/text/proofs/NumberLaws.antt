@@ -1,7 +1,7 @@
 -- Laws of numbers in text: a step of reading, and the digits that are written. Assumes nothing.
 use Prim.Native.Nat.{ℕ, zero, suc, _+_, _-_, _*_, _/_, _%_, _^_, _≤_, _<_}
 use mathlib.Core.Path.{_≡_, ap, _∙_}
-use mathlib.Core.List.{[], _∷_, _++_}
+use mathlib.Core.List.{[], _∷_, _++_, append-assoc}
 use native.Mathlib.Numerals.{add-one}
 use native.Mathlib.Nat.{pow-suc}
 use native.Mathlib.Omega.{arith}
@@ -9,7 +9,7 @@ use lib.ListN.{length, getD, drop, drop-of-length-le, length-append}
 use lib.Seq.{drop-cons}
 use borrow.Author.Tests.{lt-ltb, le-ltb}
 use Rattle.text.specs.declared.Number.the-variants.{Value, Bad}
-use Rattle.text.specs.Numbers.{Bytes, largest, valueFrom, decimal, decimalOf}
+use Rattle.text.specs.Numbers.{Bytes, largest, valueFrom, decimal, decimalOf, lastTwo}
 
 -- a step of the loop that reads digits
 module _ (acc i : ℕ) (s : Bytes) (h : i < length s) where
@@ -65,3 +65,24 @@ length-small n h = ap length (decimal-small n h)
 
 pub length-large : (n : ℕ) → 10 ≤ n → n ≤ largest → length (decimalOf n) ≡ length (decimalOf (n / 10)) + 1
 length-large n h b = ap length (decimal-large n h b) ∙ length-append (decimalOf (n / 10)) ((48 + n % 10) ∷ [])
+
+-- ---- two digits at a time
+
+pub decimal-two : (n : ℕ) → 10 ≤ n → n < 100 → decimalOf n ≡ lastTwo n
+decimal-two n h l =
+    let tens : n / 10 % 10 ≡ n / 10 = omega arith in
+    rw (decimal-large n h (omega arith), decimal-small (n / 10) (omega arith), tens)
+
+pub decimal-more : (n : ℕ) → 100 ≤ n → n ≤ largest → decimalOf n ≡ decimalOf (n / 100) ++ lastTwo n
+decimal-more n h b =
+    let hundreds : n / 10 / 10 ≡ n / 100 = omega arith in
+    let tens = decimal-large (n / 10) (omega arith) (omega arith) in
+    decimal-large n (omega arith) b
+    ∙ ap (λ (d : Bytes). d ++ (48 + n % 10) ∷ []) (tens ∙ ap (λ m. decimalOf m ++ (48 + n / 10 % 10) ∷ []) hundreds)
+    ∙ append-assoc (decimalOf (n / 100)) ((48 + n / 10 % 10) ∷ []) ((48 + n % 10) ∷ [])
+
+pub length-two : (n : ℕ) → 10 ≤ n → n < 100 → length (decimalOf n) ≡ 2
+length-two n h l = ap length (decimal-two n h l)
+
+pub length-more : (n : ℕ) → 100 ≤ n → n ≤ largest → length (decimalOf n) ≡ length (decimalOf (n / 100)) + 2
+length-more n h b = ap length (decimal-more n h b) ∙ length-append (decimalOf (n / 100)) (lastTwo n)

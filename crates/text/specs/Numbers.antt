@@ -39,3 +39,7 @@ decimal (suc k) n = cond (ltb n 10) ((48 + n) ∷ []) (decimal k (n / 10) ++ (48
 -- the digits of a number below 10 ^ 10
 unfoldable pub decimalOf : ℕ → Bytes
 decimalOf n = decimal 10 n
+
+-- the last two digits of n
+abbrev pub lastTwo : ℕ → Bytes
+lastTwo n = (48 + n / 10 % 10) ∷ (48 + n % 10) ∷ []

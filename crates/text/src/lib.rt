@@ -3,7 +3,7 @@ ghost use mathlib.Core.Path.{_≡_};
 ghost use mathlib.Core.List.{[], _∷_};
 ghost use Prim.Native.Nat.{_+_, _<_, _≤_};
 ghost use lib.ListN.{length, take, drop};
-ghost use Rattle.text.specs.Numbers.{valueOf, valueFrom, decimalOf};
+ghost use Rattle.text.specs.Numbers.{lastTwo, valueOf, valueFrom, decimalOf};
 ghost use Rattle.text.specs.Fields.{tabIn, two, three, pairOf, tripleOf, fieldsOf, lineOf, Wrote};
 ghost use Rattle.text.specs.Lines.{keep, run};
 
@@ -61,7 +61,17 @@ fn wide(b: u8) -> u64
     b as u64
 }
 
-// Writes the digits of n at `at`, and answers the place after them.
+// Writes two digits, and answers the place after them.
+fn put_two(out: &mut [u8], at: usize, n: u32) -> usize
+    requires { ⌜ at + 2 ≤ length (now out) ⌝ }
+    ensures { λ r. ⌜ Wrote (now (out .entry)) (now (out .exit)) at r (lastTwo n) ⌝ }
+{
+    out[at] = 48 + (n / 10 % 10) as u8;
+    out[at + 1] = 48 + (n % 10) as u8;
+    at + 2
+}
+
+// Writes the digits of n at `at`, two by two, and answers the place after them.
 pub fn put_number(out: &mut [u8], at: usize, n: u32) -> usize
     requires { ⌜ at + length (decimalOf n) ≤ length (now out) ⌝ }
     ensures { λ r. ⌜ Wrote (now (out .entry)) (now (out .exit)) at r (decimalOf n) ⌝ }
@@ -70,9 +80,11 @@ pub fn put_number(out: &mut [u8], at: usize, n: u32) -> usize
         out[at] = 48 + n as u8;
         return at + 1;
     }
-    let e = put_number(out, at, n / 10);
-    out[e] = 48 + (n % 10) as u8;
-    e + 1
+    if n < 100 {
+        return put_two(out, at, n);
+    }
+    let e = put_number(out, at, n / 100);
+    put_two(out, e, n)
 }
 
 // ---- fields

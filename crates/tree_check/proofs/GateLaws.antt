@@ -103,84 +103,95 @@ pub not-stored : (root next : ℕ) (m t : Words) (b : Bool) → b ≡ valid (for
 unfolding stored treeEngine treeEngineOf
 not-stored root next m t b e off = let bad = sym e ∙ off in sym (rw bad)
 
--- a valid table whose free units are those of the map
-pub record Checked (next : ℕ) (m t used : Words) : Type 0 where
+-- right lengths and a valid table
+pub record Valid (next : ℕ) (m t : Words) : Type 0 where
   pub fit : InRange m t
   pub good : valid (formRule formOne) (length m) next (recordsOf t) ≡ true
-  pub marks : Marks (formRule formOne) used (recordsOf t)
 
-pub check-passes : {next : ℕ} {m t used : Words} (b : Bool) → InRange m t
-    → b ≡ valid (formRule formOne) (length m) next (recordsOf t)
-    → (b ≡ true → Marks (formRule formOne) used (recordsOf t))
-    → b ≡ true → Checked next m t used
-check-passes b fit e marks ok = record { fit = fit; good = sym e ∙ ok; marks = marks ok }
-
-module _ {next : ℕ} {m t used : Words} (k : Checked next m t used) where
-  abbrev ρ : Rule
-  ρ = formRule formOne
-
+module _ {next : ℕ} {m t : Words} (k : Valid next m t) (root : ℕ) where
   abbrev L : Ledger
   L = recordsOf t
 
   abbrev T : Tree
   T = freeTree formOne (length m) L
 
-  -- the map's runs are the ledger's
-  units-runs : ahead used (length m / 2) 0 ≡ freeRuns ρ (length m) L
-  unfolding freeRuns formOne
-  units-runs =
-      let N = length m / 2 in
-      let runs = runs-are (free ρ L) N in
-      ap (runsFrom (zeroAt used) 0) (sub-zero N)
-      ∙ runs-unique (zeroAt used) N (runsFrom (free ρ L) 0 N)
-      (record { gapped = runs .gapped; cover = λ u b. runs .cover u b ∙ sym (k .marks u) })
-
-  pub allowance : length (ahead used (length m / 2) 0) ≤ liveCount (recordsOf t) + 1
-  allowance = let few = runs-live ρ (length m) L in rw units-runs (omega arith)
-
-  tree-is : treeOf (ahead used (length m / 2) 0) ≡ T
-  tree-is = ap treeOf units-runs ∙ sym (freeTree-one (length m) L)
+  abbrev p : Pool
+  p = treePool root next m t
 
   whole : length m % formOne .unit ≡ 0
   unfolding formOne
   whole = k .fit .even
 
-  module _ (root : ℕ) where
-    abbrev p : Pool
-    p = treePool root next m t
+  -- the tree of the ledger's free runs in the arena is what the stored form says of it, both ways
+  holds-store : (link T ≡ root) × Holds formOne m T → p ≡ store treeEngine L next p
+  unfolding store treeEngine treeEngineOf
+  holds-store h =
+      let keeps : (i : ℕ) → i < length m → owned (formRule formOne) L i ≡ true → getD m i 0 ≡ getD m i 0 =
+      λ i l o. refl in
+      let arena = stamped formOne 65536 readable-one (length m) whole L next (k .good) m m refl refl keeps (h .1) in
+      let table = table-records t (k .fit .threes) in
+      λ i. record {
+        head = record { root = sym (h .0) i ∷ []; next = next };
+        shape = 0;
+        arena = arena i;
+        table = sym table i;
+        index = [];
+      }
 
-    -- the tree of the ledger's free runs in the arena is what the stored form says of it, both ways
-    holds-store : (link T ≡ root) × Holds formOne m T → p ≡ store treeEngine L next p
-    unfolding store treeEngine treeEngineOf
-    holds-store h =
-        let keeps : (i : ℕ) → i < length m → owned ρ L i ≡ true → getD m i 0 ≡ getD m i 0 = λ i l o. refl in
-        let arena = stamped formOne 65536 readable-one (length m) whole L next (k .good) m m refl refl keeps (h .1) in
-        let table = table-records t (k .fit .threes) in
-        λ i. record {
-          head = record { root = sym (h .0) i ∷ []; next = next };
-          shape = 0;
-          arena = arena i;
-          table = sym table i;
-          index = [];
-        }
+  store-holds : p ≡ store treeEngine L next p → (link T ≡ root) × Holds formOne m T
+  unfolding store treeEngine treeEngineOf
+  store-holds e =
+      let arena = ap (λ (q : Pool). q .arena) e in (
+        sym (ap (λ (q : Pool). getD (q .head .root) 0 0) e),
+        of-stamped formOne 65536 readable-one (length m) whole L next (k .good) m m refl arena .2,
+      )
 
-    store-holds : p ≡ store treeEngine L next p → (link T ≡ root) × Holds formOne m T
-    unfolding store treeEngine treeEngineOf
-    store-holds e =
-        let arena = ap (λ (q : Pool). q .arena) e in (
-          sym (ap (λ (q : Pool). getD (q .head .root) 0 0) e),
-          of-stamped formOne 65536 readable-one (length m) whole L next (k .good) m m refl arena .2,
-        )
+  stored-same : stored treeEngine p ≡ samePool p (store treeEngine L next p)
+  unfolding stored treeEngine treeEngineOf
+  stored-same = let good = k .good in rw good
 
-    stored-same : stored treeEngine p ≡ samePool p (store treeEngine L next p)
-    unfolding stored treeEngine treeEngineOf
-    stored-same = let good = k .good in rw good
+  pub shown-stored : (link T ≡ root) × Holds formOne m T → true ≡ stored treeEngine (treePool root next m t)
+  shown-stored h = sym (stored-same ∙ ap (samePool p) (sym (holds-store h)) ∙ same-pool-same p)
 
-    pub stored-is : (r : Bool) → Says r (Shows m used (length m / 2) root)
-        → r ≡ stored treeEngine (treePool root next m t)
-    stored-is r says =
-        let shown : Tree → Type 0 = λ t. (link t ≡ root) × Holds formOne m t in
-        let q = store treeEngine L next p in
-        bool-iff r (stored treeEngine p)
-        (λ e. stored-same ∙ ap (samePool p) (sym (holds-store (subst shown tree-is (says .0 e)))) ∙ same-pool-same p)
-        (λ e. says .1 (subst shown (sym tree-is) (store-holds (same-pool-eq p q (sym stored-same ∙ e)))))
+  pub stored-shown : stored treeEngine (treePool root next m t) ≡ true → (link T ≡ root) × Holds formOne m T
+  stored-shown e = store-holds (same-pool-eq p (store treeEngine L next p) (sym stored-same ∙ e))
+
+-- and free units that are those of the map
+pub record Checked (next : ℕ) (m t used : Words) : Type 0 where
+  pub known : Valid next m t
+  pub marks : Marks (formRule formOne) used (recordsOf t)
+
+pub check-passes : {next : ℕ} {m t used : Words} (b : Bool) → InRange m t
+    → b ≡ valid (formRule formOne) (length m) next (recordsOf t)
+    → (b ≡ true → Marks (formRule formOne) used (recordsOf t))
+    → b ≡ true → Checked next m t used
+check-passes b fit e marks ok = record { known = record { fit = fit; good = sym e ∙ ok }; marks = marks ok }
+
+module _ {next : ℕ} {m t used : Words} (k : Checked next m t used) where
+  abbrev ρ : Rule
+  ρ = formRule formOne
+
+  -- the map's runs are the ledger's
+  units-runs : ahead used (length m / 2) 0 ≡ freeRuns ρ (length m) (recordsOf t)
+  unfolding freeRuns formOne
+  units-runs =
+      let N = length m / 2 in
+      let f = free ρ (recordsOf t) in
+      let runs = runs-are f N in
+      ap (runsFrom (zeroAt used) 0) (sub-zero N)
+      ∙ runs-unique (zeroAt used) N (runsFrom f 0 N)
+      (record { gapped = runs .gapped; cover = λ u b. runs .cover u b ∙ sym (k .marks u) })
+
+  pub allowance : length (ahead used (length m / 2) 0) ≤ liveCount (recordsOf t) + 1
+  allowance = let few = runs-live ρ (length m) (recordsOf t) in rw units-runs (omega arith)
+
+  tree-is : treeOf (ahead used (length m / 2) 0) ≡ freeTree formOne (length m) (recordsOf t)
+  tree-is = ap treeOf units-runs ∙ sym (freeTree-one (length m) (recordsOf t))
+
+  pub stored-is : (root : ℕ) (r : Bool) → Says r (Shows m used (length m / 2) root)
+      → r ≡ stored treeEngine (treePool root next m t)
+  stored-is root r says =
+      let shown : Tree → Type 0 = λ t. (link t ≡ root) × Holds formOne m t in
+      bool-iff r (stored treeEngine (treePool root next m t))
+      (λ e. sym (shown-stored (k .known) root (subst shown tree-is (says .0 e))))
+      (λ e. says .1 (subst shown (sym tree-is) (stored-shown (k .known) root e)))

@@ -199,26 +199,8 @@ fn is_stored_over(root: u32, next: u32, arena: &[u32], table: &[u32], used: &mut
     tree_ok(arena, used, words / 2, root as usize, allowed)
 }
 
-// A map is wiped whole, so that a small pool gets a small one.
-fn is_stored_small(root: u32, next: u32, arena: &[u32], table: &[u32]) -> bool
-    requires { ⌜ lengths treeEngine (treePool root next (now arena) (now table)) ≡ true ⌝ }
-    requires { ⌜ length (now arena) ≤ 128 ⌝ }
-    ensures { λ r. ⌜ r ≡ stored treeEngine (treePool root next (now (arena .entry)) (now (table .entry))) ⌝ }
-{
-    let mut used: [u8; 64] = [0; 64];
-    is_stored_over(root, next, arena, table, &mut used)
-}
-
-fn is_stored_middle(root: u32, next: u32, arena: &[u32], table: &[u32]) -> bool
-    requires { ⌜ lengths treeEngine (treePool root next (now arena) (now table)) ≡ true ⌝ }
-    requires { ⌜ length (now arena) ≤ 2048 ⌝ }
-    ensures { λ r. ⌜ r ≡ stored treeEngine (treePool root next (now (arena .entry)) (now (table .entry))) ⌝ }
-{
-    let mut used: [u8; 1024] = [0; 1024];
-    is_stored_over(root, next, arena, table, &mut used)
-}
-
-fn is_stored_large(root: u32, next: u32, arena: &[u32], table: &[u32]) -> bool
+// The exact check, with every unit marked. It is what refuses a pool.
+fn is_stored_marked(root: u32, next: u32, arena: &[u32], table: &[u32]) -> bool
     requires { ⌜ lengths treeEngine (treePool root next (now arena) (now table)) ≡ true ⌝ }
     ensures { λ r. ⌜ r ≡ stored treeEngine (treePool root next (now (arena .entry)) (now (table .entry))) ⌝ }
 {
@@ -226,18 +208,16 @@ fn is_stored_large(root: u32, next: u32, arena: &[u32], table: &[u32]) -> bool
     is_stored_over(root, next, arena, table, &mut used)
 }
 
-// Whether head and lent memory are the stored form of a ledger.
+// Whether head and lent memory are the stored form of a ledger. Records and free blocks that lie side by side are
+// found quickly; only where they don't is every unit marked.
 pub fn is_stored(root: u32, next: u32, arena: &[u32], table: &[u32]) -> bool
     requires { ⌜ lengths treeEngine (treePool root next (now arena) (now table)) ≡ true ⌝ }
     ensures { λ r. ⌜ r ≡ stored treeEngine (treePool root next (now (arena .entry)) (now (table .entry))) ⌝ }
 {
-    if arena.len() <= 128 {
-        return is_stored_small(root, next, arena, table);
+    if tree_tiles::is_tiled(root, next, arena, table) {
+        return true;
     }
-    if arena.len() <= 2048 {
-        return is_stored_middle(root, next, arena, table);
-    }
-    is_stored_large(root, next, arena, table)
+    is_stored_marked(root, next, arena, table)
 }
 
 // The number of the tests that stand before every call: 8, 1, or 0 for a sound pool.

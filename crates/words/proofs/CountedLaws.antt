@@ -194,7 +194,26 @@ lowest-more p n i h =
     let z : n - i ≡ suc (n - (i + 1)) = omega arith in
     ap (lowest p i) z ∙ ap (λ j. choose i (lowest p j (n - (i + 1))) (p i)) (sym (add-one i))
 
+-- d numbers that do not pass
+lowest-past : (p : ℕ → Bool) (i n d : ℕ) → ((j : ℕ) → i ≤ j → j < i + d → p j ≡ false)
+    → lowest p i (d + n) ≡ lowest p (i + d) n
+lowest-past p i n zero off = let z : i + 0 ≡ i = omega arith in rw (z, zero-add)
+lowest-past p i n (suc d) off =
+    let up : suc d + n ≡ suc (d + n) = omega arith in
+    let on : suc i + d ≡ i + suc d = omega arith in
+    ap (lowest p i) up
+    ∙ ap (choose i (lowest p (suc i) (d + n))) (off i (omega arith) (omega arith))
+    ∙ lowest-past p (suc i) n d (λ j a b. off j (omega arith) (omega arith))
+    ∙ ap (λ k. lowest p k n) on
+
 module _ (r : Option ℕ) (p : ℕ → Bool) (n i : ℕ) (inv : r ≡ lowest p i (n - i)) where
+  pub lowest-skip : (e : ℕ) → i ≤ e → e ≤ n → ((j : ℕ) → i ≤ j → j < e → p j ≡ false) → r ≡ lowest p e (n - e)
+  lowest-skip e h l off =
+      let all : n - i ≡ e - i + (n - e) = omega arith in
+      let at : i + (e - i) ≡ e = omega arith in
+      inv ∙ ap (lowest p i) all ∙ lowest-past p i (n - e) (e - i) (λ j a b. off j a (omega arith))
+      ∙ ap (λ k. lowest p k (n - e)) at
+
   pub lowest-end : n ≤ i → none ≡ r
   lowest-end h = let z : n - i ≡ 0 = omega arith in sym (inv ∙ rw z)
 

@@ -1,77 +1,40 @@
--- `record_table::find_slot` meets its contract: at slot i the answer is that of the search from i on. Assumes nothing.
-use Prim.Native.Nat.{_-_}
+-- `record_table::find_slot` meets its contract: the slots that were passed do not pass, and the scan goes on from there.
+-- Assumes nothing.
 use native.Mathlib.Omega.{arith}
+use borrow.Author.Needs.{needs}
 use denote.Ref.{now}
-use Rattle.ledger.specs.Records.{slots, recordAt, recordsOf, hasTicket}
+use Rattle.ledger.specs.Records.{recordAt, recordsOf, hasTicket}
 use Rattle.record_table.specs.Slots.{ticketSlot}
-use Rattle.record_table.proofs.SlotLaws.{Searched, search-start, search-here, search-next, search-end}
-use Rattle.record_table.proofs.SlotLaws.{ticket-zero, has-same, has-other}
+use Rattle.record_table.proofs.SlotLaws.{reach-here, reach-end, ticket-zero, has-other}
 use Rattle.record_table.proofs.find_slot.Statement.{statement}
 use Rattle.record_table.proofs.find_slot.Tie as tie
 
-abbrev Inv-loop : tie.InvT-loop
-Inv-loop table ticket i₀ i = Searched (hasTicket ticket) table i
+returns : tie.Need-returns
+returns c = let a = c .before .before .args in ticket-zero (a .ticket) (recordsOf (now (a .table))) (c .if1 .taken)
 
-abbrev μ-loop : tie.MeasureT-loop
-μ-loop table ticket i₀ i = slots table - i
+passed-requires : tie.Need-passed-requires
+passed-requires c κs = search needs
 
-returns : tie.Need-returns Inv-loop μ-loop
-returns c = ticket-zero (c .before .args .ticket) (recordsOf (now (c .before .args .table))) (c .if1 .taken)
+ticket-from-requires : tie.Need-ticket-from-requires
+ticket-from-requires c κs = search needs
 
-loop-holds : tie.Need-loop-holds Inv-loop μ-loop
-loop-holds c = search-start (hasTicket (c .before .args .ticket)) (now (c .before .args .table))
-
-mul-if2 : tie.Need-mul-if2 Inv-loop μ-loop
-mul-if2 c = omega arith
-
-mul-if2-2 : tie.Need-mul-if2-2 Inv-loop μ-loop
-mul-if2-2 c = omega arith
-
-shared-slice-read-if2 : tie.Need-shared-slice-read-if2 Inv-loop μ-loop
-shared-slice-read-if2 c = omega arith
-
-returns-2 : tie.Need-returns-2 Inv-loop μ-loop
+returns-2 : tie.Need-returns-2
 unfolding ticketSlot
 returns-2 c =
     let a = c .before .before .before .before .before .args in
-    let l = c .before .before .before .loop in
-    let some-ticket = c .before .before .before .before .if1 .left in
-    search-here (hasTicket (a .ticket)) (now (a .table)) (l .i) (l .inv) (omega arith)
-    (has-same (a .ticket) (recordAt (now (a .table)) (l .i)) some-ticket (c .if2 .taken))
+    let k = c .before .ticket-from in
+    let p = c .before .before .passed in
+    reach-here (hasTicket (a .ticket)) (now (a .table)) (p .result) (k .result)
+    (λ j lo hi. has-other (a .ticket) (recordAt (now (a .table)) j) (p .ensures .1 j lo hi)) (k .ensures) (c .if2 .taken)
 
-add-i : tie.Need-add-i Inv-loop μ-loop
-add-i c = omega arith
-
-loop-less : tie.Need-loop-less Inv-loop μ-loop
-loop-less c = omega arith
-
-loop-again : tie.Need-loop-again Inv-loop μ-loop
-loop-again c =
-    let a = c .before .before .before .before .before .args in
-    let l = c .before .before .before .loop in
-    search-next (hasTicket (a .ticket)) (now (a .table)) (l .i) (l .inv) (omega arith)
-    (has-other (a .ticket) (recordAt (now (a .table)) (l .i)) (c .if2 .left))
-
-returns-3 : tie.Need-returns-3 Inv-loop μ-loop
+returns-3 : tie.Need-returns-3
 unfolding ticketSlot
 returns-3 c =
-    let a = c .before .before .before .args in
-    let l = c .before .loop in
-    search-end (hasTicket (a .ticket)) (now (a .table)) (l .i) (l .inv) (omega arith)
+    let a = c .before .before .before .before .before .args in
+    let k = c .before .ticket-from in
+    let p = c .before .before .passed in
+    reach-end (hasTicket (a .ticket)) (now (a .table)) (p .result) (k .result)
+    (λ j lo hi. has-other (a .ticket) (recordAt (now (a .table)) j) (p .ensures .1 j lo hi)) (k .ensures) (omega (arith, c .if2 .left))
 
 pub find-slot-spec : {M : Type 1} → statement M
-find-slot-spec =
-    tie.close
-    (tie.spec
-    Inv-loop
-    μ-loop
-    returns
-    loop-holds
-    mul-if2
-    mul-if2-2
-    shared-slice-read-if2
-    returns-2
-    add-i
-    loop-less
-    loop-again
-    returns-3)
+find-slot-spec = tie.close (tie.spec returns passed-requires ticket-from-requires returns-2 returns-3)

@@ -50,7 +50,7 @@ ranged-requires c κs = search needs
 
 segment-size-requires : tie.Need-segment-size-requires
 segment-size-requires c κs =
-    let fit = checked (c .before) .fit in
+    let fit = checked (c .before) .known .fit in
     (power-pos (start (c .before) .args .s) (fit .power), omega (arith, fit .most))
 
 pool-right-requires : tie.Need-pool-right-requires
@@ -62,7 +62,7 @@ pool-right-requires c κs =
     let size = e .before .before .before .table-check .kept .1 .1 .1 .1 .0 in (
       mapped k (omega arith),
       subst (λ (g : ℕ). Measured (now (s .args .arena)) (now (s .args .index)) (s .args .s) g)
-          (sym (c .before .segment-size .ensures)) (measured k),
+          (sym (c .before .segment-size .ensures)) (measured (k .known)),
     )
 
 same-length-2 : tie.Need-same-length-2
@@ -71,7 +71,8 @@ same-length-2 c = c .before .before .before .before .before .before .before .tab
 returns-2 : tie.Need-returns-2
 returns-2 c =
     let r = c .before .before .before in
-    stored-is (checked (r .before)) (r .ranged .ensures) (c .pool-right .result) (c .pool-right .ensures)
+    let k = checked (r .before) in
+    stored-is (k .known) (r .ranged .ensures) (c .pool-right .result) (c .pool-right .ensures)
 
 pub is-stored-over-spec : {M : Type 1} → statement M
 is-stored-over-spec =

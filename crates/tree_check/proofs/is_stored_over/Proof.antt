@@ -52,8 +52,8 @@ add-allowed c = search needs
 tree-ok-requires : tie.Need-tree-ok-requires
 tree-ok-requires c κs =
     let known = checked (c .before .before) in
-    let most = known .fit .most in
-    let even = known .fit .even in
+    let most = known .known .fit .most in
+    let even = known .known .fit .even in
     let long = start (c .before .before) .pre .1 .0 in
     let size = c .before .before .before .before .before .table-check .kept .1 .1 .1 .1 .0 in
     let live = c .before .count-live .ensures .0 in

@@ -1,10 +1,10 @@
--- `tree_check::is_stored_large` meets its contract: no arena is longer. Assumes nothing.
+-- `tree_check::is_stored_marked` meets its contract: no arena is longer. Assumes nothing.
 use mathlib.Core.Path.{refl}
 use borrow.Author.Needs.{needs}
 use denote.Ref.{now}
 use Rattle.tree_check.proofs.GateLaws.{in-range}
-use Rattle.tree_check.proofs.is_stored_large.Statement.{statement}
-use Rattle.tree_check.proofs.is_stored_large.Tie as tie
+use Rattle.tree_check.proofs.is_stored_marked.Statement.{statement}
+use Rattle.tree_check.proofs.is_stored_marked.Tie as tie
 
 slice-aggregate-is-stored-over : tie.Need-slice-aggregate-is-stored-over
 slice-aggregate-is-stored-over c = search needs
@@ -19,5 +19,5 @@ is-stored-over-requires c κs =
 returns : tie.Need-returns
 returns c = search needs
 
-pub is-stored-large-spec : {M : Type 1} → statement M
-is-stored-large-spec = tie.close (tie.spec slice-aggregate-is-stored-over is-stored-over-requires returns)
+pub is-stored-marked-spec : {M : Type 1} → statement M
+is-stored-marked-spec = tie.close (tie.spec slice-aggregate-is-stored-over is-stored-over-requires returns)

@@ -1,0 +1,68 @@
+-- `record_table::empty_from` meets its contract. Its invariant: no slot from i up to k passes. Assumes nothing.
+use Prim.Native.Nat.{_-_}
+use native.Mathlib.Omega.{arith}
+use mathlib.Core.Path.{_∙_, sym, ap}
+use borrow.Author.Needs.{needs}
+use denote.Ref.{now}
+use Rattle.ledger.specs.Records.{slots, isEmpty}
+use Rattle.record_table.proofs.SlotLaws.{Scanned, scan-start, scan-next, scan-here, scan-end}
+use Rattle.record_table.proofs.empty_from.Statement.{statement}
+use Rattle.record_table.proofs.empty_from.Tie as tie
+
+abbrev Inv-loop : tie.InvT-loop
+Inv-loop table i k₀ k = Scanned isEmpty table i k
+
+abbrev μ-loop : tie.MeasureT-loop
+μ-loop table i k₀ k = slots table - k
+
+loop-holds : tie.Need-loop-holds Inv-loop μ-loop
+loop-holds c =
+    let a = c .before .args in
+    scan-start isEmpty (now (a .table)) (a .i) (search needs)
+
+read-row-requires : tie.Need-read-row-requires Inv-loop μ-loop
+read-row-requires c κs = search needs
+
+is-empty-requires : tie.Need-is-empty-requires Inv-loop μ-loop
+is-empty-requires c κs = search needs
+
+returns : tie.Need-returns Inv-loop μ-loop
+returns c =
+    let a = c .before .before .before .before .before .before .args in
+    let l = c .before .before .before .before .loop in
+    scan-here isEmpty (now (a .table)) (a .i) (l .k) (l .inv)
+    (ap isEmpty (sym (c .before .before .read-row .ensures)) ∙ sym (c .before .is-empty .ensures) ∙ c .if1 .taken)
+
+add-k : tie.Need-add-k Inv-loop μ-loop
+add-k c = search needs
+
+loop-less : tie.Need-loop-less Inv-loop μ-loop
+loop-less c = search needs
+
+loop-again : tie.Need-loop-again Inv-loop μ-loop
+loop-again c =
+    let a = c .before .before .before .before .before .before .args in
+    let l = c .before .before .before .before .loop in
+    scan-next isEmpty (now (a .table)) (a .i) (l .k) (l .inv) (omega arith)
+    (ap isEmpty (sym (c .before .before .read-row .ensures)) ∙ sym (c .before .is-empty .ensures) ∙ c .if1 .left)
+
+returns-2 : tie.Need-returns-2 Inv-loop μ-loop
+returns-2 c =
+    let a = c .before .before .before .args in
+    let l = c .before .loop in
+    scan-end isEmpty (now (a .table)) (a .i) (l .k) (l .inv) (omega arith)
+
+pub empty-from-spec : {M : Type 1} → statement M
+empty-from-spec =
+    tie.close
+    (tie.spec
+    Inv-loop
+    μ-loop
+    loop-holds
+    read-row-requires
+    is-empty-requires
+    returns
+    add-k
+    loop-less
+    loop-again
+    returns-2)

@@ -1,0 +1,4 @@
+-- The laws of blocks that lie side by side.
+pub mod LaidLaws
+pub mod StoredLaws
+pub mod HeadLaws

@@ -1,0 +1,66 @@
+-- Blocks that lie side by side in the segment pool's arena, and the map of the words at which held ones begin: a byte
+-- for each word, not 0 where a record's block begins. Assumes nothing.
+use Prim.Native.Nat.{ℕ, _+_, _≤_, _<_}
+use mathlib.Core.Bool.{Bool, true, false, cond}
+use mathlib.Core.List.{List}
+use mathlib.Core.Path.{_≡_}
+use lib.Dec.{ltb}
+use lib.IntN.{ℤ, pos, natAbs}
+use lib.ListN.{length, getD}
+use Rattle.words.specs.Lists.{Words, all, zeroAt}
+use Rattle.words.specs.Counted.{every}
+use Rattle.ledger.specs.Records.{recordAt, recordsOf, isEmpty}
+use Rattle.ledger.specs.Units.{first, valid}
+use Rattle.ledger.specs.Runs.{Run, Gapped, covered}
+use Rattle.stored_forms.specs.Segments.{segmentRule}
+use Rattle.segment_places.specs.Stores.{arenaOf}
+use Rattle.segment_check.specs.Right.{runRight, heldRight}
+use Rattle.tiling.specs.Tiles.{Noted, Joins, Entered, total}
+
+-- how many words from k on the map and the control word there say are held
+abbrev pub heldFrom : List ℤ → Words → ℕ → ℕ
+heldFrom v map k = cond (zeroAt map k) 0 (natAbs (getD v k (pos 0)))
+
+-- the words of a run are those of a free block
+abbrev pub blockRight : List ℤ → Run → Bool
+blockRight v r = runRight v (r .start) (r .start + r .size)
+
+-- a run ends before a word
+abbrev pub endsBefore : ℕ → Run → Bool
+endsBefore at r = ltb (r .start + r .size) at
+
+-- Blocks lie side by side in the first `at` words: free ones, of so many words together and no two of them side by
+-- side, and held ones. `after` is false if the last one is held, or none is there.
+pub record Laid (v : List ℤ) (map : Words) (at free : ℕ) (after : Bool) : Type 0 where
+  pub runs : List Run
+  pub gapped : Gapped 0 at runs
+  pub ends : after ≡ false → all (endsBefore at) runs ≡ true
+  pub sum : total runs ≡ free
+  pub words : all (blockRight v) runs ≡ true
+  pub rest : (u : ℕ) → u < at → covered runs u ≡ false → (k : ℕ) × (k ≤ u) × (u < k + heldFrom v map k)
+
+-- Each byte of the map that is not 0 stands for one of the first i records of a table: its block begins there, and the
+-- control word has its size.
+abbrev pub Heads : List ℤ → Words → Words → ℕ → Type 0
+Heads v t map i =
+    (k : ℕ) → zeroAt map k ≡ false
+    → (j : ℕ) × (j < i) × (isEmpty (recordAt t j) ≡ false) × (first segmentRule (recordAt t j) ≡ k)
+    × (natAbs (getD v k (pos 0)) ≡ recordAt t j .words + 1)
+
+-- slot i may follow those before it with u words, its control word is right, and it stands in the map
+pub record Joined (v : List ℤ) (next : ℕ) (t map seen : Words) (m i u : ℕ) : Type 0 where
+  pub joins : Joins segmentRule (length v) next t i u
+  pub right : heldRight v (recordAt t i) ≡ true
+  pub noted : Noted m seen t (i + 1)
+  pub heads : Heads v t map (i + 1)
+
+-- so it is with each of the first i slots, and they have so many words together
+pub record Headed (v : List ℤ) (next : ℕ) (t map seen : Words) (m i held : ℕ) : Type 0 where
+  pub entered : Entered segmentRule (length v) next t i held
+  pub right : every (λ j. heldRight v (recordAt t j)) 0 i ≡ true
+  pub noted : Noted m seen t i
+  pub heads : Heads v t map i
+
+-- the table holds a valid ledger, and the arena is its stored form
+abbrev pub Stored : ℕ → List ℤ → Words → Type 0
+Stored next v t = (valid segmentRule (length v) next (recordsOf t) ≡ true) × (v ≡ arenaOf (recordsOf t) v)

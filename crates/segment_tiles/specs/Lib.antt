@@ -1,0 +1,2 @@
+-- Blocks that lie side by side in the segment pool's arena.
+pub mod Laid

@@ -1,0 +1,4 @@
+-- The laws of what specs/ defines.
+pub mod SumLaws
+pub mod TileLaws
+pub mod EnterLaws

@@ -1,0 +1,2 @@
+-- Tiles, and records that have been entered one after another.
+pub mod Tiles

@@ -1,0 +1,72 @@
+-- Tiles: held and free blocks that lie side by side from unit 0 to the last. A pool's blocks do, and such tiles are
+-- quicker to find than to mark every unit: if the free tiles and the records together have as many units as the
+-- arena, no two records share one and the free tiles are the free runs (proofs/TileLaws). Assumes nothing.
+use Prim.Native.Nat.{ℕ, zero, suc, _+_, _%_, _≤_, _<_}
+use mathlib.Core.Path.{_≡_}
+use mathlib.Core.Bool.{Bool, true, false, cond, not}
+use mathlib.Core.List.{List, [], _∷_}
+use lib.Dec.{eqb}
+use Rattle.words.specs.Lists.{Words, isZero, zeroAt}
+use Rattle.words.specs.Counted.{every}
+use Rattle.ledger.specs.declared.Row.{Row}
+use Rattle.ledger.specs.declared.Rule.{Rule}
+use Rattle.ledger.specs.Records.{Ledger, recordAt, isEmpty}
+use Rattle.ledger.specs.Units.{span, free}
+use Rattle.ledger.specs.Runs.{Run, Gapped, covered}
+use Rattle.record_table.specs.Checks.{rowOk, differ}
+
+-- ---- the records, slot after slot
+
+-- f 0 and so on up to f (n - 1), together
+abbrev pub sumTo : (ℕ → ℕ) → ℕ → ℕ
+sumTo f zero = 0
+sumTo f (suc n) = sumTo f n + f n
+
+-- the units of a record, none where it is empty
+abbrev pub unitsOf : Rule → Row → ℕ
+unitsOf ρ r = cond (isEmpty r) 0 (span ρ (r .words))
+
+-- the ticket of slot i is none of the earlier ones
+abbrev pub newAt : Words → ℕ → Bool
+newAt t i = every (λ j. differ (recordAt t j) (recordAt t i)) 0 i
+
+-- the ticket of slot j is not x
+abbrev pub otherThan : Words → ℕ → ℕ → Bool
+otherThan t x j = not (eqb (recordAt t j .ticket) x)
+
+-- the residue, by m, of each of the first i tickets is noted where the ticket is not 0
+abbrev pub Noted : ℕ → Words → Words → ℕ → Type 0
+Noted m seen t i =
+    (j : ℕ) → j < i → isZero (recordAt t j .ticket) ≡ false → zeroAt seen (recordAt t j .ticket % m) ≡ false
+
+-- slot i fits by itself in an arena of W words, its ticket is none of the earlier ones, and it has u units
+abbrev pub Joins : Rule → ℕ → ℕ → Words → ℕ → ℕ → Type 0
+Joins ρ W next t i u =
+    (rowOk ρ W next (recordAt t i) ≡ true) × (newAt t i ≡ true) × (u ≡ unitsOf ρ (recordAt t i))
+
+-- The first i slots of a table: each fits by itself in an arena of W words, no ticket stands twice, and they have so
+-- many units together.
+pub record Entered (ρ : Rule) (W next : ℕ) (t : Words) (i held : ℕ) : Type 0 where
+  pub fit : every (λ j. rowOk ρ W next (recordAt t j)) 0 i ≡ true
+  pub new : every (newAt t) 0 i ≡ true
+  pub sum : held ≡ sumTo (λ j. unitsOf ρ (recordAt t j)) i
+
+-- ---- tiles
+
+-- s says of a unit how many from it on are held, or 0 where it knows of none
+abbrev pub Spans : Rule → Ledger → (ℕ → ℕ) → Type 0
+Spans ρ L s = (k u : ℕ) → k ≤ u → u < k + s k → free ρ L u ≡ false
+
+-- each unit from lo up to hi is among those that s says something of
+abbrev pub Paved : (ℕ → ℕ) → ℕ → ℕ → Type 0
+Paved s lo hi = (u : ℕ) → lo ≤ u → u < hi → (k : ℕ) × (k ≤ u) × (u < k + s k)
+
+-- the units of some runs together
+abbrev pub total : List Run → ℕ
+total [] = 0
+total (r ∷ rs) = r .size + total rs
+
+-- runs with gaps between them among the first N units, and every other unit is held
+pub record Tiled (ρ : Rule) (L : Ledger) (N : ℕ) (rs : List Run) : Type 0 where
+  pub gapped : Gapped 0 N rs
+  pub held : (u : ℕ) → u < N → covered rs u ≡ false → free ρ L u ≡ false

@@ -1,0 +1,6 @@
+-- The laws of the walk over tiles, of the map that it goes by, and of what both say together.
+pub mod MapLaws
+pub mod PaveLaws
+pub mod ReadLaws
+pub mod WalkLaws
+pub mod StoredLaws

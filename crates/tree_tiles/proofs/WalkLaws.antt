@@ -1,0 +1,175 @@
+-- The walk of the tree over tiles: one law for each way through it. Assumes nothing.
+use Prim.Native.Nat.{ℕ, suc, _+_, _≤_, _<_}
+use native.Mathlib.Decide.{decLe}
+use native.Mathlib.Omega.{arith}
+use mathlib.Core.Path.{_≡_, refl, sym, _∙_, subst}
+use mathlib.Core.Bool.{true, false, false≢true}
+use mathlib.Core.List.{_∷_}
+use Rattle.words.specs.Lists.{Words, all}
+use Rattle.words.specs.Counted.{within}
+use Rattle.words.proofs.Tests.{and-i, or-l, or-r, of-le, of-lt, lt-of, within-in}
+use Rattle.words.proofs.ListLaws.{all-imp, all-append}
+use Rattle.ledger.specs.Runs.{Run, run, Gapped, covered}
+use Rattle.stored_forms.specs.Tree.{Tree, leaf, node, inorder, noLonger, formOne}
+use Rattle.stored_forms.specs.Tree.{lengthAt, leftAt, rightAt}
+use Rattle.tiling.proofs.TileLaws.{covered-append, total-append}
+use Rattle.tree_tiles.specs.declared.Laid.{Laid}
+use Rattle.tree_tiles.specs.Maps.{spanAt}
+use Rattle.tree_tiles.specs.Lay.{earliest, under, Ready, right, Placed, Found, Walked}
+use Rattle.tree_tiles.proofs.PaveLaws.{gapped-join}
+use Rattle.tree_tiles.proofs.ReadLaws.{cell-reads}
+
+-- runs shorter than a limit are shorter than every limit that is no less
+under-imp : (y z : ℕ) → y ≤ z → (r : Run) → under y r ≡ true → under z r ≡ true
+under-imp y z h r e = of-lt (r .size) z (omega (arith, lt-of (r .size) y e))
+
+-- "shorter than one more" is "no longer"
+under-longer : (q r : Run) → under (q .size + 1) r ≡ true → noLonger q r ≡ true
+under-longer q r e = of-le (r .size) (q .size) (omega (arith, lt-of (r .size) (q .size + 1) e))
+
+-- ---- the ways through the walk
+
+module _ {m map : Words} {N : ℕ} where
+  -- no tree at the link 0
+  pub none-found : {l limit k before : ℕ} → l ≡ 0 → k ≤ N → before ≤ k
+      → Found m map N l limit k before k before
+  none-found e h f = record {
+    tree = leaf;
+    linked = sym e;
+    holds = tt;
+    heaped = tt;
+    short = refl;
+    gapped = tt;
+    onward = omega arith;
+    inside = h;
+    size = omega arith;
+    few = f;
+    paved = λ u a b c. absurd (omega arith);
+  }
+
+  -- where there is no left part
+  pub way-none : {l limit k allowed before : ℕ} → l ≡ 0 → k ≤ N → before ≤ k
+      → Walked m map N l limit k allowed before (right k allowed before)
+  way-none e h f = record { left = omega arith; found = λ x. none-found e h f }
+
+  pub way-stopped : {l limit k allowed before : ℕ} {r : Laid} (n : ℕ) → (r .ok ≡ false) × (r .left ≡ n)
+      → n ≤ allowed → Walked m map N l limit k allowed before r
+  way-stopped n s h =
+      let off = s .0 in
+      let left = s .1 in
+      record { left = omega arith; found = λ e. absurd (false≢true (sym off ∙ e)) }
+
+  module _ {c z lf rt limit k before next sum last free : ℕ} (ready : Ready m map N) (ez : z ≡ lengthAt formOne m c)
+      (el : lf ≡ leftAt formOne m c) (er : rt ≡ rightAt formOne m c) (x : Found m map N lf z k before next sum)
+      (p : Placed m map N next limit c z) (y : Found m map N rt (z + 1) (c + z) (sum + z) last free) where
+    abbrev q : Run
+    q = run c z
+
+    abbrev a : Tree
+    a = x .tree
+
+    abbrev b : Tree
+    b = y .tree
+
+    -- a unit in none of the runs lies before the node, or behind it
+    join-paved : (u : ℕ) → k ≤ u → u < last → covered (inorder (node a q b)) u ≡ false
+        → (j : ℕ) × (j ≤ u) × (u < j + spanAt map j)
+    join-paved u lo hi e =
+        let parts = sym (covered-append (inorder a) (q ∷ inorder b) u) ∙ e in
+        let left = or-l (covered (inorder a) u) (covered (q ∷ inorder b) u) parts in
+        let behind = or-r (covered (inorder a) u) (covered (q ∷ inorder b) u) parts in
+        let own = or-l (within c (c + z) u) (covered (inorder b) u) behind in
+        let right = or-r (within c (c + z) u) (covered (inorder b) u) behind in
+        go left own right (decLe next u) (decLe c u) (decLe (c + z) u)
+      where
+        go : covered (inorder a) u ≡ false → within c (c + z) u ≡ false → covered (inorder b) u ≡ false
+            → Dec (next ≤ u) → Dec (c ≤ u) → Dec (c + z ≤ u) → (j : ℕ) × (j ≤ u) × (u < j + spanAt map j)
+        go left own right (no s) d f = x .paved u lo (omega arith) left
+        go left own right (yes s) (no d) f = p .paved u s (omega arith)
+        go left own right (yes s) (yes d) (no f) = absurd (false≢true (sym own ∙ within-in c (c + z) u d (omega arith)))
+        go left own right (yes s) (yes d) (yes f) = y .paved u f hi right
+
+    -- the sons' trees and the node make the tree
+    pub joined : Found m map N (suc c) limit k before last free
+    unfolding formOne
+    joined =
+        let apart = p .apart in
+        let some = p .some in
+        let inside = p .inside in
+        let short = p .short in
+        let on-left = x .onward in
+        let on-right = y .onward in
+        let sum-left = x .size in
+        let sum-right = y .size in
+        let past : earliest (c + z) ≡ suc (c + z) = omega arith in
+        let rest = subst (λ j. Gapped j last (inorder b)) past (y .gapped) in
+        let behind : Gapped (earliest next) last (q ∷ inorder b) = (apart, some, on-right, rest) in
+        record {
+          tree = node a q b;
+          linked = refl;
+          holds = (
+            cell-reads m c (omega (arith, ready .cells)) ∙ cc (ez, el, er, x .linked, y .linked),
+            (λ i lo hi. p .clear i (omega arith) hi),
+            x .holds,
+            y .holds,
+          );
+          heaped = (
+            x .short,
+            all-imp (under (z + 1)) (noLonger q) (under-longer q) (inorder b) (y .short),
+            x .heaped,
+            y .heaped,
+          );
+          short =
+              all-append (under limit) (inorder a) (q ∷ inorder b)
+              (all-imp (under z) (under limit) (under-imp z limit (omega arith)) (inorder a) (x .short))
+              (and-i (under limit q) (all (under limit) (inorder b)) (of-lt z limit short)
+              (all-imp (under (z + 1)) (under limit) (under-imp (z + 1) limit (omega arith)) (inorder b) (y .short)));
+          gapped =
+              gapped-join (earliest k) next last (inorder a) (q ∷ inorder b) (omega arith) (omega arith) (x .gapped)
+              behind;
+          onward = omega arith;
+          inside = y .inside;
+          size = omega (arith, total-append (inorder a) (q ∷ inorder b));
+          few = y .few;
+          paved = join-paved;
+        }
+
+-- ---- the way to the right
+
+-- A walk from the link l has come to the link `at`: what lies there makes a whole with what lies behind.
+pub record Going (m map : Words) (N l limit k allowed before at below next left sum : ℕ) : Type 0 where
+  pub inside : next ≤ N
+  pub few : sum ≤ next
+  pub fewer : left ≤ allowed
+  pub rest : (end free : ℕ) → Found m map N at below next sum end free → Found m map N l limit k before end free
+
+module _ {m map : Words} {N l limit k allowed before : ℕ} where
+  pub going-start : k ≤ N → before ≤ k → Going m map N l limit k allowed before l limit k allowed before
+  going-start h f = record { inside = h; few = f; fewer = omega arith; rest = λ end free x. x }
+
+  module _ {at below next left sum : ℕ} (g : Going m map N l limit k allowed before at below next left sum) where
+    -- past the left part and the node at cell c
+    pub going-next : {c z lf rt from s : ℕ} (n : ℕ) → Ready m map N → at ≡ suc c → z ≡ lengthAt formOne m c
+        → lf ≡ leftAt formOne m c → rt ≡ rightAt formOne m c → Found m map N lf z next sum from s
+        → Placed m map N from below c z → n ≤ left
+        → Going m map N l limit k allowed before rt (z + 1) (c + z) n (s + z)
+    going-next {c} n ready at-cell ez el er x p h =
+        let few = x .few in
+        let apart = p .apart in
+        let fewer = g .fewer in
+        record {
+          inside = p .inside;
+          few = omega arith;
+          fewer = omega arith;
+          rest = λ end free y.
+              g .rest end free
+              (subst (λ j. Found m map N j below next sum end free) (sym at-cell) (joined ready ez el er x p y));
+        }
+
+    pub way-end : {r : Laid} → at ≡ 0 → r ≡ right next left sum → Walked m map N l limit k allowed before r
+    way-end e is =
+        let fewer = g .fewer in
+        subst (λ (r : Laid). Walked m map N l limit k allowed before r) (sym is) (record {
+          left = fewer;
+          found = λ x. g .rest next sum (none-found e (g .inside) (g .few));
+        })

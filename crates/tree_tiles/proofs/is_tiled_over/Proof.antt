@@ -1,0 +1,87 @@
+-- `tree_tiles::is_tiled_over` meets its contract, from what the map, the walk and the last two tests say. Assumes
+-- nothing.
+use native.Mathlib.Omega.{arith}
+use mathlib.Core.Bool.{false≢true}
+use borrow.Author.Needs.{needs}
+use Rattle.words.proofs.Tests.{not-false}
+use Rattle.tree_tiles.proofs.StoredLaws.{tiles-say}
+use Rattle.tree_tiles.proofs.is_tiled_over.Statement.{statement}
+use Rattle.tree_tiles.proofs.is_tiled_over.Tie as tie
+
+map-rows-requires : tie.Need-map-rows-requires
+map-rows-requires c κs = search needs
+
+same-length : tie.Need-same-length
+same-length c = search needs
+
+same-length-2 : tie.Need-same-length-2
+same-length-2 c = search needs
+
+returns : tie.Need-returns
+returns c e = absurd (false≢true e)
+
+add-allowed : tie.Need-add-allowed
+add-allowed c = search needs
+
+add-walk : tie.Need-add-walk
+add-walk c = search needs
+
+walk-requires : tie.Need-walk-requires
+walk-requires c κs = search needs
+
+same-length-3 : tie.Need-same-length-3
+same-length-3 c = search needs
+
+same-length-4 : tie.Need-same-length-4
+same-length-4 c = search needs
+
+returns-2 : tie.Need-returns-2
+returns-2 c e = absurd (false≢true e)
+
+add-whole : tie.Need-add-whole
+add-whole c =
+    let w = c .before .before in
+    let r = w .before .before .before .before .before .before .before in
+    let s = r .before .before .before .before .before .before .before in
+    let found = w .walk .ensures .found (not-false _ (c .if2 .left)) in
+    let few = found .few in
+    let inside = found .inside in
+    let held = w .before .before .if1 .left in
+    let most = s .pre .0 .0 in
+    omega arith
+
+is-paved-requires : tie.Need-is-paved-requires
+is-paved-requires c κs = search needs
+
+same-length-5 : tie.Need-same-length-5
+same-length-5 c = search needs
+
+same-length-6 : tie.Need-same-length-6
+same-length-6 c = search needs
+
+returns-3 : tie.Need-returns-3
+returns-3 c e =
+    let w = c .before .before .before .before in
+    let r = w .before .before .before .before .before .before .before in
+    let found = w .walk .ensures .found (not-false _ (c .before .before .if2 .left)) in
+    tiles-say (c .is-paved .result) (r .map-rows .ensures (w .before .before .if1 .left)) found (c .is-paved .ensures) e
+
+pub is-tiled-over-spec : {M : Type 1} → statement M
+is-tiled-over-spec =
+    tie.close
+    (tie.spec
+    map-rows-requires
+    same-length
+    same-length-2
+    returns
+    add-allowed
+    add-walk
+    walk-requires
+    same-length-3
+    same-length-4
+    returns-2
+    add-whole
+    is-paved-requires
+    same-length-5
+    same-length-6
+    returns-3)

@@ -1,0 +1,138 @@
+-- `tree_tiles::map_rows` meets its contract: before slot i the earlier ones are entered and in the map. Assumes
+-- nothing.
+use Prim.Native.Nat.{_-_}
+use native.Mathlib.Omega.{arith}
+use mathlib.Core.Path.{_≡_, _∙_, refl, ap}
+use denote.Ref.{now}
+use lib.ListN.{length}
+use Rattle.ledger.specs.Records.{slots}
+use Rattle.ledger.specs.declared.Row.{Row}
+use Rattle.tree_tiles.specs.Maps.{cellRule, noted}
+use Rattle.tree_tiles.proofs.MapLaws.{Mapping, map-start, map-next, map-end, place-inside}
+use Rattle.tree_tiles.proofs.map_rows.Statement.{statement}
+use Rattle.tree_tiles.proofs.map_rows.Tie as tie
+
+abbrev Inv-loop : tie.InvT-loop
+Inv-loop next table words map₀ seen₀ m rule held₀ i₀ map seen held i =
+    (length map ≡ length map₀) × (length seen ≡ length seen₀) × Mapping words next table m map seen held i
+
+abbrev μ-loop : tie.MeasureT-loop
+μ-loop next table words map₀ seen₀ m rule held₀ i₀ map seen held i = slots table - i
+
+loop-holds : tie.Need-loop-holds Inv-loop μ-loop
+loop-holds c =
+    let s = c .before .before .before in
+    (refl, refl, map-start (now (s .args .map)) (now (s .args .seen)) (s .pre .1 .0))
+
+enter-row-requires : tie.Need-enter-row-requires Inv-loop μ-loop
+enter-row-requires c κs =
+    let l = c .before .before .loop in
+    let s = c .before .before .before .before .before .before in
+    let size = l .inv .1 in
+    (omega arith, omega (arith, s .pre .0), omega arith, s .pre .1 .1, size ∙ s .pre .1 .2, l .inv .2 .residues)
+
+add-result : tie.Need-add-result Inv-loop μ-loop
+add-result c =
+    let s = c .before .before .before .before .before .before .before .before .before .before in
+    omega (arith, s .pre .0)
+
+same-length : tie.Need-same-length Inv-loop μ-loop
+same-length c = c .before .before .before .before .before .before .loop .inv .0
+
+same-length-2 : tie.Need-same-length-2 Inv-loop μ-loop
+same-length-2 c =
+    let l = c .before .before .before .before .before .before .loop in
+    c .before .before .before .enter-row .kept .1 .1 .1 .1 .1 .0 ∙ l .inv .1
+
+returns : tie.Need-returns Inv-loop μ-loop
+returns c = λ e. absurd (omega arith)
+
+read-row-requires : tie.Need-read-row-requires Inv-loop μ-loop
+read-row-requires c κs = omega (arith, c .before .before .before .before .before .before .loop-test .taken)
+
+note-row-requires : tie.Need-note-row-requires Inv-loop μ-loop
+note-row-requires c κs =
+    let u = c .before .before .before .before .before in
+    let l = u .before .before .before .loop in
+    let s = u .before .before .before .before .before .before .before in
+    let size = l .inv .0 in
+    let most = s .pre .0 in
+    let few = c .before .before .if1 .left in
+    let joins = u .enter-row .ensures few .0 in (
+      omega arith,
+      omega arith,
+      λ e. rw (c .read-row .ensures) (place-inside (s .args .words) (s .args .next) _ _ e (joins .0) (joins .2) (l .map)
+          (omega arith)),
+    )
+
+add-held : tie.Need-add-held Inv-loop μ-loop
+add-held c =
+    let l = c .before .before .before .before .before .before .before .before .before .before .before .loop in
+    let s = c .before .before .before .before .before .before .before .before .before .before .before .before .before
+    .before .before in
+    let few = c .before .before .before .before .before .if1 .left in
+    let low = l .inv .2 .low in
+    let upto = l .inv .2 .upto in
+    let most = s .pre .0 in
+    omega arith
+
+add-i : tie.Need-add-i Inv-loop μ-loop
+add-i c =
+    let d = c .before .before .before .before .before .before .before .before .before .before in
+    omega (arith, d .loop-test .taken)
+
+loop-less : tie.Need-loop-less Inv-loop μ-loop
+loop-less c =
+    let d = c .before .before .before .before .before .before .before .before .before .before in
+    omega (arith, d .loop-test .taken)
+
+loop-again : tie.Need-loop-again Inv-loop μ-loop
+loop-again c =
+    let n = c .before .before in
+    let r = n .before in
+    let few = r .before .before .if1 .left in
+    let u = r .before .before .before .before .before in
+    let t = u .before .before in
+    let l = t .before .loop in
+    let s = t .before .before .before .before .before in
+    let most = s .pre .0 in
+    let size = l .inv .0 in
+    let (joins, residues) = u .enter-row .ensures few in (
+      n .note-row .kept .0 ∙ l .inv .0,
+      u .enter-row .kept .1 .1 .1 .1 .1 .0 ∙ l .inv .1,
+      map-next (u .enter-row .result) (n .note-row .last .0) (u .enter-row .last .1 .1 .1 .1 .1 .0) (l .inv .2)
+          (omega (arith, t .loop-test .taken)) few (omega arith) (omega arith) joins residues
+          (n .note-row .ensures
+          ∙ ap (λ (x : Row). noted cellRule x (u .enter-row .result) (l .map)) (r .read-row .ensures)),
+    )
+
+same-length-3 : tie.Need-same-length-3 Inv-loop μ-loop
+same-length-3 c = c .before .loop .inv .0
+
+same-length-4 : tie.Need-same-length-4 Inv-loop μ-loop
+same-length-4 c = c .before .loop .inv .1
+
+returns-2 : tie.Need-returns-2 Inv-loop μ-loop
+returns-2 c = λ e. map-end (c .before .loop .inv .2) (omega (arith, c .loop-test .left))
+
+pub map-rows-spec : {M : Type 1} → statement M
+map-rows-spec =
+    tie.close
+    (tie.spec
+    Inv-loop
+    μ-loop
+    loop-holds
+    enter-row-requires
+    add-result
+    same-length
+    same-length-2
+    returns
+    read-row-requires
+    note-row-requires
+    add-held
+    add-i
+    loop-less
+    loop-again
+    same-length-3
+    same-length-4
+    returns-2)

@@ -1,0 +1,336 @@
+// A quick test that a tree pool is stored right: its free blocks and its records lie side by side like tiles. Where it
+// says yes, the pool is; where it says no, the exact check decides.
+use free_tree::left_of;
+use free_tree::length_of;
+use free_tree::right_of;
+use ledger::Row;
+use ledger::Rule;
+ghost use mathlib.Core.Path.{_≡_};
+ghost use mathlib.Core.Bool.{true, false};
+ghost use mathlib.Core.Logic.{_≢_};
+ghost use Prim.Native.Nat.{_*_, _<_, _≤_};
+ghost use lib.ListN.{length};
+ghost use Rattle.words.specs.Lists.{all, isZero};
+ghost use Rattle.ledger.specs.Records.{slots};
+ghost use Rattle.ledger.specs.Units.{first};
+ghost use Rattle.tiling.specs.Tiles.{Paved};
+ghost use Rattle.tree_tiles.specs.Maps.{spanAt, noted, Mapped, Shown};
+ghost use Rattle.tree_tiles.specs.Lay.{Ready, right, Placed, Walked};
+
+// ---- the map, which has at a record's first unit its units, 0 elsewhere
+
+// Whether records lead from unit lo to unit hi, without a unit left over.
+fn is_paved(map: &[u16], lo: usize, hi: usize) -> bool
+    requires { ⌜ hi ≤ length (now map) ⌝ }
+    ensures { λ b. ⌜ (b ≡ true → (lo ≤ hi) × Paved (spanAt (now (map .entry))) lo hi) ⌝ }
+{
+    let mut k = lo;
+    while k < hi {
+        let n = map[k] as usize;
+        if n == 0 {
+            return false;
+        }
+        k += n;
+    }
+    k == hi
+}
+
+// Writes a record's units at its first unit. An empty record has none, though its address is unit 0's.
+fn note_row(map: &mut [u16], rule: Rule, r: Row, n: usize)
+    requires { ⌜ (0 < rule .unit) × (n < 65536) × (n ≢ 0 → first rule r < length (now map)) ⌝ }
+    ensures { λ _. ⌜ now (map .exit) ≡ noted rule r n (now (map .entry)) ⌝ }
+{
+    if n == 0 {
+        return;
+    }
+    let at = record_table::first_unit(rule, r);
+    map[at] = n as u16;
+}
+
+// Enters all slots, and the records in a map that is all zero. Their units together, or more than the arena's words if
+// a slot may not be entered.
+fn map_rows(
+    next: u32,
+    table: &[u32],
+    words: usize,
+    map: &mut [u16],
+    seen: &mut [u8],
+    m: usize,
+) -> usize
+    requires { ⌜ (slots (now table) ≤ 256) × (words ≤ 16384) × (words ≤ 2 * length (now map)) ⌝ }
+    requires { ⌜ (all isZero (now map) ≡ true) × (0 < m) × (length (now seen) ≡ m) ⌝ }
+    ensures { λ r. ⌜ (r ≤ words → Mapped words next (now (table .entry)) r (now (map .exit))) ⌝ }
+{
+    let rule = Rule { unit: 2, lead: 0 };
+    let mut held: usize = 0;
+    let mut i = 0;
+    while i < table.len() / 3 {
+        let n = tiling::enter_row(rule, words, next, table, i, &mut *seen, m);
+        if words < n {
+            return words + 1;
+        }
+        note_row(&mut *map, rule, record_table::read_row(table, i), n);
+        held += n;
+        i += 1;
+    }
+    held
+}
+
+// ---- the walk
+
+// What a walk of a part of the tree answers: whether all is well, the unit past the last block seen, how many more
+// nodes may be entered, and the units of the free blocks so far.
+pub struct Laid {
+    pub ok: bool,
+    pub next: usize,
+    pub left: usize,
+    pub free: usize,
+}
+
+// A walk that found nothing wrong.
+fn walked_to(next: usize, left: usize, free: usize) -> Laid
+    ensures { λ r. ⌜ r ≡ right next left free ⌝ }
+{
+    Laid {
+        ok: true,
+        next,
+        left,
+        free,
+    }
+}
+
+// A walk that found something wrong.
+fn stopped(left: usize) -> Laid
+    ensures { λ r. ⌜ (r .ok ≡ false) × (r .left ≡ left) ⌝ }
+{
+    Laid {
+        ok: false,
+        next: 0,
+        left,
+        free: 0,
+    }
+}
+
+// Whether the node of z cells at cell c is the next tile behind records that begin at unit k, shorter than the limit,
+// with zeros behind its two words. Free blocks that touch are none, but nothing lies before unit 0.
+fn node_ok(
+    arena: &[u32],
+    map: &[u16],
+    units: usize,
+    k: usize,
+    limit: usize,
+    c: usize,
+    z: usize,
+) -> bool
+    requires { ⌜ Ready (now arena) (now map) units ⌝ }
+    requires { ⌜ c < units ⌝ }
+    ensures { λ r. ⌜ (r ≡ true → Placed (now (arena .entry)) (now (map .entry)) units k limit c z) ⌝ }
+{
+    if limit <= z {
+        return false;
+    }
+    if z == 0 {
+        return false;
+    }
+    if units - c < z {
+        return false;
+    }
+    if c <= k {
+        if k != 0 {
+            return false;
+        }
+    }
+    is_paved(map, k, c) & words::zero_part(arena, 2 * c + 2, 2 * (c + z))
+}
+
+// Left part, node, right part: whether the blocks of the tree at the link, each shorter than the limit, are tiles from
+// unit k on, with records between them. Nodes to the left have to be shorter than their father, those to the right no
+// longer. Each node takes one of the allowance, and the right part gets what the left part left of it. The loop goes
+// to the right, and only a left part that is there costs a call.
+fn walk(
+    arena: &[u32],
+    map: &[u16],
+    units: usize,
+    link: usize,
+    limit: usize,
+    k: usize,
+    allowed: usize,
+    free: usize,
+) -> Laid
+    requires { ⌜ Ready (now arena) (now map) units ⌝ }
+    requires { ⌜ (k ≤ units) × (free ≤ k) ⌝ }
+    ensures { λ r. ⌜ Walked (now (arena .entry)) (now (map .entry)) units link limit k allowed free r ⌝ }
+{
+    let mut at = link;
+    let mut below = limit;
+    let mut next = k;
+    let mut left = allowed;
+    let mut sum = free;
+    while at != 0 {
+        if left == 0 {
+            return stopped(left);
+        }
+        if units < at {
+            return stopped(left);
+        }
+        let c = at - 1;
+        let z = length_of(arena, c) as usize;
+        let lower = left_of(arena, c);
+        let mut part = walked_to(next, left - 1, sum);
+        if lower != 0 {
+            part = walk(arena, map, units, lower, z, next, left - 1, sum);
+        }
+        left = part.left;
+        let from = part.next;
+        if !part.ok {
+            return stopped(left);
+        }
+        if !node_ok(arena, map, units, from, below, c, z) {
+            return stopped(left);
+        }
+        at = right_of(arena, c);
+        below = z + 1;
+        next = c + z;
+        sum = part.free + z;
+    }
+    walked_to(next, left, sum)
+}
+
+// ---- the whole test
+
+// Whether records and free blocks are tiles, by a map that comes in all zero and m residues of tickets: they lead from
+// the first unit to the last, and have as many units together as the arena. A pool of n records has at most n + 1
+// free runs, so the walk is allowed no more nodes.
+fn is_tiled_over(
+    root: u32,
+    next: u32,
+    arena: &[u32],
+    table: &[u32],
+    map: &mut [u16],
+    seen: &mut [u8],
+    m: usize,
+) -> bool
+    requires { ⌜ (length (now arena) ≤ 16384) × (slots (now table) ≤ 256) ⌝ }
+    requires { ⌜ (length (now arena) ≤ 2 * length (now map)) × (all isZero (now map) ≡ true) ⌝ }
+    requires { ⌜ (0 < m) × (length (now seen) ≡ m) ⌝ }
+    ensures { λ r. ⌜ (r ≡ true → Shown root next (now (arena .entry)) (now (table .entry))) ⌝ }
+{
+    let words = arena.len();
+    let held = map_rows(next, table, words, &mut *map, &mut *seen, m);
+    if words < held {
+        return false;
+    }
+    let units = words / 2;
+    let allowed = table.len() / 3 + 1;
+    let walked = walk(arena, map, units, root as usize, units + 1, 0, allowed, 0);
+    let end = walked.next;
+    let sum = walked.free;
+    if !walked.ok {
+        return false;
+    }
+    let whole = sum + held;
+    is_paved(map, end, units) & (whole == units)
+}
+
+// The residues and the map are wiped whole, so that a small pool gets small ones.
+fn is_tiled_few(root: u32, next: u32, arena: &[u32], table: &[u32], map: &mut [u16]) -> bool
+    requires { ⌜ (length (now arena) ≤ 16384) × (slots (now table) ≤ 256) ⌝ }
+    requires { ⌜ (length (now arena) ≤ 2 * length (now map)) × (all isZero (now map) ≡ true) ⌝ }
+    ensures { λ r. ⌜ (r ≡ true → Shown root next (now (arena .entry)) (now (table .entry))) ⌝ }
+{
+    let mut seen: [u8; 128] = [0; 128];
+    is_tiled_over(root, next, arena, table, &mut *map, &mut seen, 128)
+}
+
+fn is_tiled_many(root: u32, next: u32, arena: &[u32], table: &[u32], map: &mut [u16]) -> bool
+    requires { ⌜ (length (now arena) ≤ 16384) × (slots (now table) ≤ 256) ⌝ }
+    requires { ⌜ (length (now arena) ≤ 2 * length (now map)) × (all isZero (now map) ≡ true) ⌝ }
+    ensures { λ r. ⌜ (r ≡ true → Shown root next (now (arena .entry)) (now (table .entry))) ⌝ }
+{
+    let mut seen: [u8; 2048] = [0; 2048];
+    is_tiled_over(root, next, arena, table, &mut *map, &mut seen, 2048)
+}
+
+fn is_tiled_by(root: u32, next: u32, arena: &[u32], table: &[u32], map: &mut [u16]) -> bool
+    requires { ⌜ (length (now arena) ≤ 16384) × (slots (now table) ≤ 256) ⌝ }
+    requires { ⌜ (length (now arena) ≤ 2 * length (now map)) × (all isZero (now map) ≡ true) ⌝ }
+    ensures { λ r. ⌜ (r ≡ true → Shown root next (now (arena .entry)) (now (table .entry))) ⌝ }
+{
+    if table.len() / 3 <= 16 {
+        return is_tiled_few(root, next, arena, table, map);
+    }
+    is_tiled_many(root, next, arena, table, map)
+}
+
+fn is_tiled_64(root: u32, next: u32, arena: &[u32], table: &[u32]) -> bool
+    requires { ⌜ (length (now arena) ≤ 128) × (slots (now table) ≤ 256) ⌝ }
+    ensures { λ r. ⌜ (r ≡ true → Shown root next (now (arena .entry)) (now (table .entry))) ⌝ }
+{
+    let mut map: [u16; 64] = [0; 64];
+    is_tiled_by(root, next, arena, table, &mut map)
+}
+
+fn is_tiled_256(root: u32, next: u32, arena: &[u32], table: &[u32]) -> bool
+    requires { ⌜ (length (now arena) ≤ 512) × (slots (now table) ≤ 256) ⌝ }
+    ensures { λ r. ⌜ (r ≡ true → Shown root next (now (arena .entry)) (now (table .entry))) ⌝ }
+{
+    let mut map: [u16; 256] = [0; 256];
+    is_tiled_by(root, next, arena, table, &mut map)
+}
+
+fn is_tiled_1024(root: u32, next: u32, arena: &[u32], table: &[u32]) -> bool
+    requires { ⌜ (length (now arena) ≤ 2048) × (slots (now table) ≤ 256) ⌝ }
+    ensures { λ r. ⌜ (r ≡ true → Shown root next (now (arena .entry)) (now (table .entry))) ⌝ }
+{
+    let mut map: [u16; 1024] = [0; 1024];
+    is_tiled_by(root, next, arena, table, &mut map)
+}
+
+fn is_tiled_2048(root: u32, next: u32, arena: &[u32], table: &[u32]) -> bool
+    requires { ⌜ (length (now arena) ≤ 4096) × (slots (now table) ≤ 256) ⌝ }
+    ensures { λ r. ⌜ (r ≡ true → Shown root next (now (arena .entry)) (now (table .entry))) ⌝ }
+{
+    let mut map: [u16; 2048] = [0; 2048];
+    is_tiled_by(root, next, arena, table, &mut map)
+}
+
+fn is_tiled_4096(root: u32, next: u32, arena: &[u32], table: &[u32]) -> bool
+    requires { ⌜ (length (now arena) ≤ 8192) × (slots (now table) ≤ 256) ⌝ }
+    ensures { λ r. ⌜ (r ≡ true → Shown root next (now (arena .entry)) (now (table .entry))) ⌝ }
+{
+    let mut map: [u16; 4096] = [0; 4096];
+    is_tiled_by(root, next, arena, table, &mut map)
+}
+
+fn is_tiled_8192(root: u32, next: u32, arena: &[u32], table: &[u32]) -> bool
+    requires { ⌜ (length (now arena) ≤ 16384) × (slots (now table) ≤ 256) ⌝ }
+    ensures { λ r. ⌜ (r ≡ true → Shown root next (now (arena .entry)) (now (table .entry))) ⌝ }
+{
+    let mut map: [u16; 8192] = [0; 8192];
+    is_tiled_by(root, next, arena, table, &mut map)
+}
+
+// Whether records and free blocks are tiles. If they are, the table holds a valid ledger and the arena the tree of its
+// free runs; if not, nothing is said.
+pub fn is_tiled(root: u32, next: u32, arena: &[u32], table: &[u32]) -> bool
+    requires { ⌜ (length (now arena) ≤ 16384) × (slots (now table) ≤ 256) ⌝ }
+    ensures { λ r. ⌜ (r ≡ true → Shown root next (now (arena .entry)) (now (table .entry))) ⌝ }
+{
+    let words = arena.len();
+    if words <= 128 {
+        return is_tiled_64(root, next, arena, table);
+    }
+    if words <= 512 {
+        return is_tiled_256(root, next, arena, table);
+    }
+    if words <= 2048 {
+        return is_tiled_1024(root, next, arena, table);
+    }
+    if words <= 4096 {
+        return is_tiled_2048(root, next, arena, table);
+    }
+    if words <= 8192 {
+        return is_tiled_4096(root, next, arena, table);
+    }
+    is_tiled_8192(root, next, arena, table)
+}

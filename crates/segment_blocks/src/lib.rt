@@ -45,10 +45,20 @@ pub fn block_before(v: &[i32], from: usize, p: usize) -> usize
     at
 }
 
-// The leaf of a segment: the largest weight of the blocks that begin from `from` up to hi.
-pub fn leaf_from(v: &[i32], from: usize, hi: usize) -> u32
+// What a sweep over blocks answers: the largest weight, and where the first block past them begins.
+pub struct Swept {
+    pub most: u32,
+    pub next: usize,
+}
+
+// The blocks that begin from `from`, where one does, up to hi. The next one begins at or past hi; it is the arena's
+// end where there is none.
+pub fn sweep(v: &[i32], from: usize, hi: usize) -> Swept
     requires { ⌜ ((c : ℕ → ℤ) × Scan (now v) c from × (hi ≤ length (now v))) ⌝ }
-    ensures { λ r. ⌜ ((c : ℕ → ℤ) → Scan (now (v .entry)) c from → r ≡ largest c from (hi - from)) ⌝ }
+    ensures { λ r. ⌜
+        ((c : ℕ → ℤ) → Scan (now (v .entry)) c from
+        → (r .most ≡ largest c from (hi - from)) × Reaches (now (v .entry)) c from hi (r .next))
+        ⌝ }
 {
     let mut most: u32 = 0;
     let mut at = from;
@@ -56,7 +66,16 @@ pub fn leaf_from(v: &[i32], from: usize, hi: usize) -> u32
         most = larger(most, weight_at(v, at));
         at += size_at(v, at);
     }
-    most
+    Swept { most, next: at }
+}
+
+// The leaf of a segment: the largest weight of the blocks that begin from `from` up to hi.
+pub fn leaf_from(v: &[i32], from: usize, hi: usize) -> u32
+    requires { ⌜ ((c : ℕ → ℤ) × Scan (now v) c from × (hi ≤ length (now v))) ⌝ }
+    ensures { λ r. ⌜ ((c : ℕ → ℤ) → Scan (now (v .entry)) c from → r ≡ largest c from (hi - from)) ⌝ }
+{
+    let swept = sweep(v, from, hi);
+    swept.most
 }
 
 // The first-block word of a segment that ends at hi: w where no block begins before that.
@@ -123,19 +142,6 @@ pub fn reindex(
     refresh_segment(v, t, s, g, ka, from);
     refresh_if(kp != ka, v, t, s, g, kp, end);
     refresh_if((0 < y) & ((ke != ka) & (ke != kp)), v, t, s, g, ke, end);
-}
-
-// The first block at or past hi, from a block at `from` on; the arena's end where there is none.
-pub fn block_from(v: &[i32], from: usize, hi: usize) -> usize
-    requires { ⌜ ((c : ℕ → ℤ) × Scan (now v) c from) ⌝ }
-    requires { ⌜ hi ≤ length (now v) ⌝ }
-    ensures { λ r. ⌜ ((c : ℕ → ℤ) → Scan (now (v .entry)) c from → Reaches (now (v .entry)) c from hi r) ⌝ }
-{
-    let mut at = from;
-    while at < hi {
-        at += size_at(v, at);
-    }
-    at
 }
 
 // The words from lo on get the value x.

@@ -67,10 +67,14 @@ pub record Mapped (v : List ℤ) (m table : Words) : Type 0 where
 abbrev pub nodeRight : Words → ℕ → Bool
 nodeRight t i = eqb (getD t i 0) (max (getD t (2 * i) 0) (getD t (2 * i + 1) 0))
 
+-- the two words of segment k are these
+abbrev pub twoRight : Words → ℕ → ℕ → ℕ → ℕ → Bool
+twoRight t s k most first = eqb most (getD t (s + k) 0) && eqb first (getD t (2 * s + k) 0)
+
 unfoldable pub segmentRight : (ℕ → ℤ) → ℕ → ℕ → Words → ℕ → Bool
 segmentRight c W s t k =
-    eqb (largest c (k * segmentSize W s) (segmentSize W s)) (getD t (s + k) 0)
-    && eqb (firstBlock c W (k * segmentSize W s) (segmentSize W s)) (getD t (2 * s + k) 0)
+    twoRight t s k (largest c (k * segmentSize W s) (segmentSize W s))
+    (firstBlock c W (k * segmentSize W s) (segmentSize W s))
 
 -- the lengths under which the pool is checked
 pub record Measured (v : List ℤ) (t : Words) (s g : ℕ) : Type 0 where

@@ -5,9 +5,8 @@ use control_words::size_at;
 use ledger::Row;
 use record_table::is_empty;
 use record_table::read_row;
-use segment_blocks::block_from;
 use segment_blocks::first_from;
-use segment_blocks::leaf_from;
+use segment_blocks::sweep;
 use segment_index::larger;
 use segment_index::lesser;
 use words::zero_part_signed;
@@ -22,10 +21,10 @@ ghost use Rattle.ledger.specs.Records.{Ledger, recordsOf, isEmpty};
 ghost use Rattle.ledger.specs.Units.{valid};
 ghost use Rattle.stored_forms.specs.Segments.{segmentRule, segmentIndex};
 ghost use Rattle.segment_index.specs.Index.{indexOf};
-ghost use Rattle.segment_blocks.specs.Upkeep.{Ground, Facing};
+ghost use Rattle.segment_blocks.specs.Upkeep.{Ground};
 ghost use Rattle.segment_places.specs.Stores.{arenaOf};
 ghost use Rattle.segment_check.specs.Right.{Says, heldRight, freeRight, runRight, Alike, Skips, Mapped};
-ghost use Rattle.segment_check.specs.Right.{nodeRight, segmentRight, Measured, Laid};
+ghost use Rattle.segment_check.specs.Right.{nodeRight, twoRight, segmentRight, Measured, Laid};
 
 // ---- the arena
 
@@ -158,17 +157,12 @@ fn nodes_right(t: &[u32], s: usize) -> bool
     ok
 }
 
-fn segment_right(v: &[i32], t: &[u32], s: usize, g: usize, k: usize, from: usize) -> bool
-    requires { ⌜ ((c : ℕ → ℤ) × Facing (now v) c s g k from) ⌝ }
-    requires { ⌜ length (now t) ≡ 3 * s ⌝ }
-    ensures { λ r. ⌜
-        ((c : ℕ → ℤ) → Facing (now (v .entry)) c s g k from
-        → r ≡ segmentRight c (length (now (v .entry))) s (now (t .entry)) k)
-        ⌝ }
+// The two words of segment k.
+fn segment_right(t: &[u32], s: usize, k: usize, most: u32, first: u32) -> bool
+    requires { ⌜ (k < s) × (length (now t) ≡ 3 * s) ⌝ }
+    ensures { λ r. ⌜ r ≡ twoRight (now (t .entry)) s k most first ⌝ }
 {
-    let w = v.len();
-    let hi = lesser((k + 1) * g, w);
-    (leaf_from(v, from, hi) == t[s + k]) & (first_from(from, hi, w) == t[2 * s + k])
+    (most == t[s + k]) & (first == t[2 * s + k])
 }
 
 // Every segment, in one pass over the blocks.
@@ -185,8 +179,11 @@ fn segments_right(v: &[i32], t: &[u32], s: usize, g: usize) -> bool
     let mut from: usize = 0;
     let mut k: usize = 0;
     while k < s {
-        ok = ok & segment_right(v, t, s, g, k, from);
-        from = block_from(v, from, lesser((k + 1) * g, w));
+        let hi = lesser((k + 1) * g, w);
+        let swept = sweep(v, from, hi);
+        let most = swept.most;
+        ok = ok & segment_right(t, s, k, most, first_from(from, hi, w));
+        from = swept.next;
         k += 1;
     }
     ok

@@ -3,7 +3,7 @@
 use Prim.Native.Nat.{ℕ, _-_}
 use native.Mathlib.Omega.{arith}
 use mathlib.Core.Bool.{_&&_}
-use mathlib.Core.Path.{_≡_, ap, refl}
+use mathlib.Core.Path.{_≡_, ap, ap₂, refl, _∙_}
 use borrow.Author.Needs.{needs}
 use lib.IntN.{ℤ}
 use lib.ListN.{length}
@@ -11,8 +11,8 @@ use Rattle.words.specs.Counted.{every}
 use Rattle.words.proofs.CountedLaws.{flag-start, flag-next, flag-end}
 use Rattle.segment_blocks.specs.Upkeep.{Ground}
 use Rattle.segment_blocks.proofs.BuildLaws.{Passing, pass-start, pass-facing, pass-on}
-use Rattle.segment_blocks.proofs.UpkeepLaws.{sizes-top, sizes-few}
-use Rattle.segment_check.specs.Right.{segmentRight}
+use Rattle.segment_blocks.proofs.UpkeepLaws.{sizes-top, sizes-few, leaf-right, first-right}
+use Rattle.segment_check.specs.Right.{twoRight, segmentRight}
 use Rattle.segment_check.proofs.segments_right.Statement.{statement}
 use Rattle.segment_check.proofs.segments_right.Tie as tie
 
@@ -28,34 +28,38 @@ abbrev μ-loop : tie.MeasureT-loop
 loop-holds : tie.Need-loop-holds Inv-loop μ-loop
 loop-holds c = (refl, λ f G. (pass-start _ f _ _ G, flag-start (segmentRight f _ _ _) (c .before .args .s)))
 
-segment-right-requires : tie.Need-segment-right-requires Inv-loop μ-loop
-segment-right-requires c κs =
-    let l = c .before in
-    let s = l .before .before in
-    let (f, G) = s .pre .0 in
-    ((f, pass-facing _ f _ _ G _ _ (l .loop .inv .1 f G .0) (c .loop-test .taken)), s .pre .1)
-
 add-lesser : tie.Need-add-lesser Inv-loop μ-loop
 add-lesser c = search needs
 
 mul-lesser : tie.Need-mul-lesser Inv-loop μ-loop
 mul-lesser c =
-    let t = c .before in
-    let (f, G) = t .before .before .before .pre .0 in
-    omega (arith, sizes-top _ _ _ (G .sizes) (t .before .loop .k) (t .loop-test .taken))
+    let l = c .before in
+    let (f, G) = l .before .before .pre .0 in
+    omega (arith, sizes-top _ _ _ (G .sizes) (l .loop .k) (c .loop-test .taken))
 
 lesser-requires : tie.Need-lesser-requires Inv-loop μ-loop
 lesser-requires c κs = search needs
 
-block-from-requires : tie.Need-block-from-requires Inv-loop μ-loop
-block-from-requires c κs =
+sweep-requires : tie.Need-sweep-requires Inv-loop μ-loop
+sweep-requires c κs =
+    let l = c .before .before in
+    let (f, G) = l .before .before .pre .0 in
+    (f, l .loop .inv .1 f G .0 .scan, omega (arith, c .lesser .ensures, l .loop .inv .0))
+
+first-from-requires : tie.Need-first-from-requires Inv-loop μ-loop
+first-from-requires c κs =
     let l = c .before .before .before in
     let (f, G) = l .before .before .pre .0 in
-    ((f, l .loop .inv .1 f G .0 .scan), omega (arith, c .lesser .ensures, l .loop .inv .0))
+    let most = G .sizes .most in
+    let inside = l .loop .inv .1 f G .0 .scan .inside in
+    (omega arith, omega (arith, l .loop .inv .0))
+
+segment-right-requires : tie.Need-segment-right-requires Inv-loop μ-loop
+segment-right-requires c κs = search needs
 
 add-k : tie.Need-add-k Inv-loop μ-loop
 add-k c =
-    let t = c .before .before .before in
+    let t = c .before .before .before .before in
     let (f, G) = t .before .before .before .pre .0 in
     omega (arith, sizes-few _ _ _ (G .sizes), t .loop-test .taken)
 
@@ -63,18 +67,25 @@ loop-less : tie.Need-loop-less Inv-loop μ-loop
 loop-less c = search needs
 
 loop-again : tie.Need-loop-again Inv-loop μ-loop
+unfolding segmentRight
 loop-again c =
-    let q = c .before .before in
-    let t = q .before in
+    let first = c .before in
+    let swept = first .before in
+    let top = swept .before in
+    let t = top .before in
     let l = t .before in
-    let e = rw (l .loop .inv .0) at (c .before .lesser .ensures) in
+    let hi = rw (l .loop .inv .0) at (top .lesser .ensures) in
     let a = l .before .before .args in (
       l .loop .inv .0,
       λ f G.
           let (pass, inv) = l .loop .inv .1 f G in
           let p = segmentRight f (length (a .v .now)) (a .s) (a .t .now) in
-          let here = q .segment-right .ensures f (pass-facing _ f _ _ G _ _ pass (t .loop-test .taken)) in (
-            pass-on _ f _ _ G _ _ _ _ pass e (c .block-from .ensures f (pass .scan)),
+          let facing = pass-facing _ f _ _ G _ _ pass (t .loop-test .taken) in
+          let (leaf, reaches) = swept .sweep .ensures f (pass .scan) in
+          let here = c .segment-right .ensures
+          ∙ ap₂ (twoRight (a .t .now) (a .s) (l .loop .k)) (leaf ∙ leaf-right _ f _ _ _ _ facing _ hi)
+          (first .first-from .ensures ∙ first-right _ f _ _ _ _ facing _ hi) in (
+            pass-on _ f _ _ G _ _ _ _ pass hi reaches,
             flag-next (every p 0 (a .s)) (l .loop .ok) p (a .s) (l .loop .k) inv _ (t .loop-test .taken)
                 (ap (λ b. l .loop .ok && b) here),
           ),
@@ -95,11 +106,12 @@ segments-right-spec =
     Inv-loop
     μ-loop
     loop-holds
-    segment-right-requires
     add-lesser
     mul-lesser
     lesser-requires
-    block-from-requires
+    sweep-requires
+    first-from-requires
+    segment-right-requires
     add-k
     loop-less
     loop-again

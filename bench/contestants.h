@@ -23,8 +23,8 @@
 
 enum group {
     PROVED,
-    SAME_IDEAS,
-    FURTHER_IDEAS,
+    MARKS_UNITS,
+    LAYS_TILES,
     LIMIT,
 };
 

@@ -92,7 +92,7 @@ static void growth_plot(FILE *to, const growth *g, double left)
     text(to, a.left + a.width / 2, a.top + a.height + 32, "middle", label);
     curve(to, &a, g, TREE, LIMIT, LIMIT, grey, "2 3");
     for (int e = TREE; e <= SEGMENT; e++) {
-        curve(to, &a, g, e, SAME_IDEAS, FURTHER_IDEAS, colour[e], "6 4");
+        curve(to, &a, g, e, MARKS_UNITS, LAYS_TILES, colour[e], "6 4");
         curve(to, &a, g, e, PROVED, PROVED, colour[e], "none");
     }
     line(to, a.left, a.top + a.height, a.left + a.width, a.top + a.height, "#333333", "");
@@ -150,8 +150,8 @@ static void ratio_plot(FILE *to, const measured *rows, size_t count)
 {
     axes a = {190, STRIPS_TOP, 620, 8 * STRIP, 0.5, 40, 0, 0};
     text(to, 70, STRIPS_TOP - 22, "start",
-         "Time of the proved code / time of the best C twin, a dot for each pool (full: twin with the same ideas; "
-         "hollow: with further ideas)");
+         "Time of the proved code / time of the best C twin, a dot for each pool (full: the one that lays tiles, "
+         "as the proved code does; hollow: the one that marks units)");
     ratio_axis(to, &a);
     for (int k = 0; k < 8; k++) {
         char label[64];
@@ -160,8 +160,8 @@ static void ratio_plot(FILE *to, const measured *rows, size_t count)
     }
     for (size_t i = 0; i < count; i++) {
         double y = a.top + STRIP * ((double)rows[i].engine * 4 + (double)rows[i].call + 0.5);
-        ratio_dot(to, &a, y, &rows[i], FURTHER_IDEAS, "none");
-        ratio_dot(to, &a, y, &rows[i], SAME_IDEAS, colour[rows[i].engine]);
+        ratio_dot(to, &a, y, &rows[i], MARKS_UNITS, "none");
+        ratio_dot(to, &a, y, &rows[i], LAYS_TILES, colour[rows[i].engine]);
     }
 }
 

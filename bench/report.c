@@ -34,8 +34,8 @@ void print_conditions(FILE *to, effort e)
           "blocks. Caches are warm.\n"
           "- Pools. Half full: half of the slots and words held, from the low end. Fragmented: all slots were filled, "
           "then every other record released. Crowded: then all gaps filled but for a unit, so every slot is live.\n"
-          "- Twins. Same ideas: a byte for each unit, all pairs of tickets. Further ideas: first units alone, tickets "
-          "by residue. Each is the quickest of all compilers and loop shapes.\n",
+          "- Twins. One marks units: a byte for each, all pairs of tickets. One lays tiles, as the proved code does: "
+          "first units alone, tickets by residue. Each is the quickest of all compilers and loop shapes.\n",
           to);
     fprintf(to, "- Processor: %s. Load average when it ended: %.14s.\n\n", processor, load);
 }
@@ -68,8 +68,8 @@ static void print_proved(FILE *to, const timed *us)
 void print_rows(FILE *to, const measured *rows, size_t count)
 {
     fprintf(to, "| %-7s | %-18s | %-12s | %-3s | %-10s | %-17s | %-24s | %-13s | %-24s | %-13s | %-24s | %-13s |\n",
-            "engine", "call", "words/slots", "S", "pool", "proved", "twin, same ideas", "proved / twin",
-            "twin, further ideas", "proved / twin", "limit", "proved/limit");
+            "engine", "call", "words/slots", "S", "pool", "proved", "twin that marks units", "proved / twin",
+            "twin that lays tiles", "proved / twin", "limit", "proved/limit");
     fprintf(to, "|---|---|---|---|---|---:|---|---:|---|---:|---|---:|\n");
     for (size_t i = 0; i < count; i++) {
         const measured *m = &rows[i];
@@ -80,8 +80,8 @@ void print_rows(FILE *to, const measured *rows, size_t count)
         fprintf(to, "| %-7s | %-18s | %-12s | %-3s | %-10s |", engine_name(m->engine), call_name(m->call), size,
                 m->engine == SEGMENT ? segments : "", m->call == FORMAT ? "any" : state_name(m->state));
         print_proved(to, us);
-        print_against(to, us, quickest(&m->t, SAME_IDEAS, SAME_IDEAS));
-        print_against(to, us, quickest(&m->t, FURTHER_IDEAS, FURTHER_IDEAS));
+        print_against(to, us, quickest(&m->t, MARKS_UNITS, MARKS_UNITS));
+        print_against(to, us, quickest(&m->t, LAYS_TILES, LAYS_TILES));
         print_against(to, us, quickest(&m->t, LIMIT, LIMIT));
         fprintf(to, "\n");
     }
@@ -92,7 +92,7 @@ void print_growth(FILE *to, const growth *g)
 {
     fprintf(to, "Checked find on a crowded pool as %s grow, %s:\n\n", g->along, g->at);
     fprintf(to, "| %-7s | %-7s | %-17s | %-24s | %-13s | %-24s | %-13s | %-24s | %-13s |\n", "engine", g->along,
-            "proved", "twin, same ideas", "proved / twin", "twin, further ideas", "proved / twin", "limit",
+            "proved", "twin that marks units", "proved / twin", "twin that lays tiles", "proved / twin", "limit",
             "proved/limit");
     fprintf(to, "|---|---:|---:|---|---:|---|---:|---|---:|\n");
     for (int e = 0; e < 2; e++)
@@ -101,8 +101,8 @@ void print_growth(FILE *to, const growth *g)
             const timed *us = quickest(t, PROVED, PROVED);
             fprintf(to, "| %-7s | %7zu |", engine_name((enum engine)e), g->x[i]);
             print_proved(to, us);
-            print_against(to, us, quickest(t, SAME_IDEAS, SAME_IDEAS));
-            print_against(to, us, quickest(t, FURTHER_IDEAS, FURTHER_IDEAS));
+            print_against(to, us, quickest(t, MARKS_UNITS, MARKS_UNITS));
+            print_against(to, us, quickest(t, LAYS_TILES, LAYS_TILES));
             print_against(to, us, quickest(t, LIMIT, LIMIT));
             fprintf(to, "\n");
         }
@@ -138,9 +138,9 @@ static double find_to_memcmp(const measured *rows, size_t count, enum engine e, 
 
 void print_summary(FILE *to, const measured *rows, size_t count)
 {
-    fprintf(to, "- Rows in which the proved code takes more than 1.2 times the best twin with the same ideas: ");
-    fprintf(to, "%zu of %zu; with any: %zu.\n", rows_above(rows, count, SAME_IDEAS, SAME_IDEAS), count,
-            rows_above(rows, count, SAME_IDEAS, FURTHER_IDEAS));
+    fprintf(to, "- Rows in which the proved code takes more than 1.2 times the best twin that marks units: %zu of %zu; ",
+            rows_above(rows, count, MARKS_UNITS, MARKS_UNITS), count);
+    fprintf(to, "the best twin of all: %zu.\n", rows_above(rows, count, MARKS_UNITS, LAYS_TILES));
     fprintf(to, "- A checked find on 16,384 words takes at most so many times memcmp of the arena:");
     for (int e = TREE; e <= SEGMENT; e++)
         fprintf(to, " %s %.1f with 16 slots, %.1f with 256%s", engine_name((enum engine)e),

@@ -20,7 +20,7 @@ static bool inner_words_fit(const uint32_t *index, size_t s)
     return wrong == 0;
 }
 
-#if TWIN_FURTHER
+#if TWIN_TILES
 
 // A bit for each word at which a record's block begins.
 typedef struct {

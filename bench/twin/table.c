@@ -25,12 +25,24 @@ static inline bool table_suits(size_t table_len)
     return table_len % RECORD_WORDS == 0 && table_len >= RECORD_WORDS && table_len <= RECORD_WORDS * MOST_RECORDS;
 }
 
+// So many slots, from the first on, have another ticket, as far as four at a time say so.
+static inline size_t passed(const uint32_t *table, size_t slots, uint32_t x)
+{
+    size_t i = 0;
+    for (; slots - i >= 4; i += 4) {
+        const uint32_t *t = table + RECORD_WORDS * i;
+        if ((t[0] == x) | (t[RECORD_WORDS] == x) | (t[2 * RECORD_WORDS] == x) | (t[3 * RECORD_WORDS] == x))
+            break;
+    }
+    return i;
+}
+
 // The lowest slot with this ticket, or `slots`. Ticket 0 stands in every empty slot and is no record's.
 static size_t find_slot(const uint32_t *table, size_t slots, uint32_t ticket)
 {
     if (ticket == 0)
         return slots;
-    size_t i = 0;
+    size_t i = passed(table, slots, ticket);
     while (i < slots && table[RECORD_WORDS * i] != ticket)
         i++;
     return i;
@@ -39,7 +51,7 @@ static size_t find_slot(const uint32_t *table, size_t slots, uint32_t ticket)
 // The lowest empty slot of a sound table, or `slots`.
 static size_t empty_slot(const uint32_t *table, size_t slots)
 {
-    size_t i = 0;
+    size_t i = passed(table, slots, 0);
     while (i < slots && table[RECORD_WORDS * i] != 0)
         i++;
     return i;

@@ -1,7 +1,7 @@
 // Whether no ticket stands in two slots.
 #include "twin.h"
 
-#if TWIN_FURTHER
+#if TWIN_TILES
 
 // Residues of the tickets seen, a bit for each. Only tickets that share one with an earlier ticket are compared.
 typedef struct {

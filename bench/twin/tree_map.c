@@ -7,7 +7,7 @@ static inline bool tree_row_fits(row r, size_t words, uint32_t next)
     return ticket_fits(r, next) & (r.words != 0) & ((r.address & 1) == 0) & (end <= words);
 }
 
-#if TWIN_FURTHER
+#if TWIN_TILES
 
 // The first cell of each record is marked and its length stands beside it. Marks are all that has to be wiped, and
 // held blocks cost the same whatever their length.

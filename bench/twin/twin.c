@@ -2,7 +2,7 @@
 #include "twin.h"
 
 #include "words.c"
-#if !TWIN_FURTHER
+#if !TWIN_TILES
 #include "bytes.c"
 #endif
 #include "table.c"

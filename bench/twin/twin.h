@@ -4,9 +4,9 @@
 // Names: lf_ with -DPREFIX_LF (a library that takes the proved one's place in the comparison program), else
 // TWIN_PREFIX, so that twins of several compilers stand in one program.
 //
-// TWIN_FURTHER  0: the ideas of the proved code: a map with a byte for each unit, all pairs of tickets compared.
-//               1: further ideas: a map of the blocks' first units alone, tickets compared only where they share a
-//                  residue.
+// TWIN_TILES    0: a map with a byte for each unit, all pairs of tickets compared.
+//               1: the ideas of the proved code: a map of the blocks' first units alone, tickets compared only where
+//                  they share a residue.
 // TWIN_EXIT     0: loops over words run to the end of a block of 256, so that the compiler can take many at a time.
 //               1: loops over words leave at the first wrong one.
 #ifndef TWIN_H
@@ -19,8 +19,8 @@
 
 #include "lingfurrow.h"
 
-#ifndef TWIN_FURTHER
-#define TWIN_FURTHER 0
+#ifndef TWIN_TILES
+#define TWIN_TILES 0
 #endif
 #ifndef TWIN_EXIT
 #define TWIN_EXIT 0

@@ -5,7 +5,7 @@ use native.Mathlib.Nat.{mul-comm, mul-suc, mul-le-mul-left, add-sub-cancel-left,
 use native.Mathlib.Omega.{arith}
 use native.Mathlib.Decide.{decLe}
 use mathlib.Core.Path.{_≡_, refl, sym, ap, _∙_, subst}
-use mathlib.Core.Logic.{_≢_, _⊎_, inl, inr}
+use mathlib.Core.Logic.{_≢_, inl, inr}
 use mathlib.Core.Bool.{Bool, true, false, _||_, false≢true, or-assoc, or-true}
 use mathlib.Core.List.{List, [], _∷_, _++_}
 use lib.ListN.{length, getD, drop, length-drop}
@@ -17,7 +17,7 @@ use Rattle.ledger.specs.Runs.{Run, covered, Gapped}
 use Rattle.ledger.proofs.RunLaws.{gapped-weaken}
 use Rattle.stored_forms.specs.Tree.{Tree, leaf, node, inorder, Form, formOne, cellWords}
 use Rattle.stored_forms.specs.Tree.{lengthAt, leftAt, rightAt, link, nodeWord}
-use Rattle.stored_forms.specs.Blocks.{Within, In, NotFirst, Zeros, Holds}
+use Rattle.stored_forms.specs.Blocks.{Within, In, NotFirst, Holds}
 
 -- ---- what is asked of a form
 

@@ -8,7 +8,7 @@ use mathlib.Core.Bool.{Bool, true, false, cond, not, _||_, or-true, true≢false
 use lib.ListN.{length, set}
 use lib.Seq.{getD-set-same, getD-set-other}
 use Rattle.words.specs.Lists.{Words, isZero, zeroAt}
-use Rattle.words.specs.Counted.{every}
+use Rattle.words.specs.Counted.{every, sumTo}
 use Rattle.words.proofs.Tests.{and-l, and-i, eqb-eq, eqb-ne}
 use Rattle.words.proofs.CountedLaws.{every-at, every-of}
 use Rattle.ledger.specs.declared.Row.{Row}
@@ -17,7 +17,7 @@ use Rattle.ledger.specs.Records.{recordAt, isEmpty}
 use Rattle.ledger.specs.Units.{span}
 use Rattle.record_table.specs.Checks.{rowOk, differ}
 use Rattle.record_table.proofs.PairLaws.{every-last}
-use Rattle.tiling.specs.Tiles.{sumTo, unitsOf, newAt, otherThan, Noted, Joins, Entered}
+use Rattle.tiling.specs.Tiles.{unitsOf, newAt, otherThan, Noted, Joins, Entered}
 
 -- ---- one slot after another
 

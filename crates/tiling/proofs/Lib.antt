@@ -1,4 +1,3 @@
 -- The laws of what specs/ defines.
-pub mod SumLaws
 pub mod TileLaws
 pub mod EnterLaws

@@ -7,7 +7,7 @@ use mathlib.Core.Path.{_≡_, refl, sym, ap, _∙_}
 use mathlib.Core.Bool.{Bool, true, false, cond, not, _&&_, _||_, or-assoc}
 use mathlib.Core.List.{List, [], _∷_, _++_}
 use Rattle.words.specs.Lists.{Words, all, pairwise}
-use Rattle.words.specs.Counted.{every, within}
+use Rattle.words.specs.Counted.{every, within, sumTo}
 use Rattle.words.proofs.Tests.{and-i, false-of, not-false, of-not, within-of}
 use Rattle.words.proofs.CountedLaws.{every-of, every-fails, every-breaks}
 use Rattle.ledger.specs.declared.Row.{Row}
@@ -21,9 +21,9 @@ use Rattle.record_table.specs.Checks.{rowOk, differ, beside, Inside, AllInside}
 use Rattle.record_table.proofs.PairLaws.{none-of, before, pairs-back}
 use Rattle.record_table.proofs.CheckLaws.{all-slots, valid-parts, rows-inside}
 use Rattle.record_table.proofs.MarkLaws.{unit-beside}
-use Rattle.tiling.specs.Tiles.{sumTo, unitsOf, Entered, total, Tiled}
-use Rattle.tiling.proofs.SumLaws.{sum-same, sum-none, sum-ones, sum-both, sum-swap, sum-tight, sum-term}
-use Rattle.tiling.proofs.SumLaws.{sum-terms, sum-range}
+use Rattle.tiling.specs.Tiles.{unitsOf, Entered, total, Tiled}
+use Rattle.words.proofs.SumLaws.{sum-same, sum-none, sum-ones, sum-both, sum-swap, sum-tight, sum-term}
+use Rattle.words.proofs.SumLaws.{sum-terms, sum-range}
 
 -- ---- runs one after another
 

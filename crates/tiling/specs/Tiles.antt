@@ -1,13 +1,13 @@
 -- Tiles: held and free blocks that lie side by side from unit 0 to the last. A pool's blocks do, and such tiles are
 -- quicker to find than to mark every unit: if the free tiles and the records together have as many units as the
 -- arena, no two records share one and the free tiles are the free runs (proofs/TileLaws). Assumes nothing.
-use Prim.Native.Nat.{ℕ, zero, suc, _+_, _%_, _≤_, _<_}
+use Prim.Native.Nat.{ℕ, _+_, _%_, _≤_, _<_}
 use mathlib.Core.Path.{_≡_}
 use mathlib.Core.Bool.{Bool, true, false, cond, not}
 use mathlib.Core.List.{List, [], _∷_}
 use lib.Dec.{eqb}
 use Rattle.words.specs.Lists.{Words, isZero, zeroAt}
-use Rattle.words.specs.Counted.{every}
+use Rattle.words.specs.Counted.{every, sumTo}
 use Rattle.ledger.specs.declared.Row.{Row}
 use Rattle.ledger.specs.declared.Rule.{Rule}
 use Rattle.ledger.specs.Records.{Ledger, recordAt, isEmpty}
@@ -16,11 +16,6 @@ use Rattle.ledger.specs.Runs.{Run, Gapped, covered}
 use Rattle.record_table.specs.Checks.{rowOk, differ}
 
 -- ---- the records, slot after slot
-
--- f 0 and so on up to f (n - 1), together
-abbrev pub sumTo : (ℕ → ℕ) → ℕ → ℕ
-sumTo f zero = 0
-sumTo f (suc n) = sumTo f n + f n
 
 -- the units of a record, none where it is empty
 abbrev pub unitsOf : Rule → Row → ℕ

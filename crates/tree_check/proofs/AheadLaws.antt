@@ -13,7 +13,8 @@ use Rattle.words.proofs.Tests.{and-l, and-r, and-i, not-true, of-not, of-le, of
 use Rattle.words.proofs.CountedLaws.{every-at, every-of}
 use Rattle.ledger.specs.Runs.{Run, run, Gapped}
 use Rattle.ledger.proofs.RunLaws.{Next, runs-next, runs-skip, runs-meet, runs-none, runs-empty, runs-gapped}
-use Rattle.tree_check.specs.Walk.{Says, heldAt, closed, ahead, under}
+use Rattle.tree_tiles.specs.Lay.{under}
+use Rattle.tree_check.specs.Walk.{Says, heldAt, closed, ahead}
 
 -- a run that begins below unit N and is no longer than N
 abbrev pub inArena : ℕ → Run → Bool

@@ -10,9 +10,9 @@ use lib.Dec.{ltb}
 use lib.ListN.{length, getD, length-append}
 use Rattle.words.specs.Lists.{Words, all, zeroAt}
 use Rattle.words.specs.Counted.{every}
-use Rattle.words.proofs.Tests.{and-l, and-r, and-i, of-le, le-of, of-lt, lt-of, eqb-eq}
+use Rattle.words.proofs.Tests.{and-l, and-r, and-i, le-of, of-lt, lt-of, eqb-eq}
 use Rattle.words.proofs.CountedLaws.{every-at, every-of}
-use Rattle.words.proofs.ListLaws.{all-imp, all-append, all-append-l, all-append-r}
+use Rattle.words.proofs.ListLaws.{all-imp, all-append-l, all-append-r}
 use Rattle.ledger.specs.Runs.{Run, run}
 use Rattle.stored_forms.specs.Tree.{Tree, leaf, node, link, treeOf, inorder, noLonger, formOne}
 use Rattle.stored_forms.specs.Tree.{lengthAt, leftAt, rightAt}
@@ -20,24 +20,19 @@ use Rattle.stored_forms.proofs.TreeLaws.{inorder-treeOf, heaped-treeOf, tree-un
 use Rattle.stored_forms.specs.Blocks.{Holds}
 use Rattle.stored_forms.proofs.NodeLaws.{readable-one, holds-reads}
 use Rattle.tree_check.specs.declared.Seen.{Seen}
-use Rattle.tree_check.specs.Walk.{Says, Shows, heldAt, ahead, under, wrong, Ready, Fine, LiesAt, Passed, Walked}
+use Rattle.tree_check.specs.Walk.{Says, Shows, heldAt, ahead, wrong, Ready, Fine, LiesAt, Passed, Walked}
 use Rattle.tree_check.specs.Walk.{Entered, nothing, partly, wholly}
-use Rattle.tree_check.proofs.ReadLaws.{cell-reads}
+use Rattle.tree_tiles.specs.Lay.{under}
+use Rattle.tree_tiles.proofs.LimitLaws.{node-heaped, node-short}
+use Rattle.tree_tiles.proofs.ReadLaws.{cell-reads}
 use Rattle.tree_check.proofs.AheadLaws.{inArena, ahead-next, ahead-in, ahead-none, none-ahead}
 
 pub says-no : {P : Type 0} → (P → ⊥) → Says false P
 says-no h = ((λ e. absurd (false≢true e)), λ p. absurd (h p))
 
--- runs shorter than a limit are shorter than every limit that is no less
-under-imp : (y z : ℕ) → y ≤ z → (r : Run) → under y r ≡ true → under z r ≡ true
-under-imp y z h r e = of-lt (r .size) z (omega (arith, lt-of (r .size) y e))
-
--- "no longer" and "shorter than one more" are the same
+-- "no longer" is "shorter than one more"
 longer-under : (q r : Run) → noLonger q r ≡ true → under (q .size + 1) r ≡ true
 longer-under q r e = of-lt (r .size) (q .size + 1) (omega (arith, le-of (r .size) (q .size) e))
-
-under-longer : (q r : Run) → under (q .size + 1) r ≡ true → noLonger q r ≡ true
-under-longer q r e = of-le (r .size) (q .size) (omega (arith, lt-of (r .size) (q .size + 1) e))
 
 link-in : (N : ℕ) (t : Tree) → all (inArena N) (inorder t) ≡ true → link t ≤ N
 link-in N leaf h = omega arith
@@ -160,17 +155,8 @@ module _ {m used : Words} {N : ℕ} (ready : Ready m used N) where
             x .holds,
             y .holds,
           );
-          heaped = (
-            x .short,
-            all-imp (under (z + 1)) (noLonger q) (under-longer q) (inorder b) (y .short),
-            x .heaped,
-            y .heaped,
-          );
-          short =
-              all-append (under limit) (inorder a) (q ∷ inorder b)
-              (all-imp (under z) (under limit) (under-imp z limit (omega arith)) (inorder a) (x .short))
-              (and-i (under limit q) (all (under limit) (inorder b)) (of-lt z limit short)
-              (all-imp (under (z + 1)) (under limit) (under-imp (z + 1) limit (omega arith)) (inorder b) (y .short)));
+          heaped = node-heaped a b c z (x .short) (y .short) (x .heaped) (y .heaped);
+          short = node-short a b c z (x .short) (y .short) limit short;
           runs =
               append-assoc (inorder a) (q ∷ inorder b) after
               ∙ ap (λ (s : List Run). inorder a ++ s) (ap (λ (s : List Run). q ∷ s) (y .runs) ∙ sym (f .next))

@@ -4,12 +4,13 @@ use Prim.Native.Nat.{ℕ, suc, _+_, _-_, _*_, _≤_, _<_}
 use mathlib.Core.Path.{_≡_}
 use mathlib.Core.Bool.{Bool, true, false, not, _||_}
 use mathlib.Core.List.{List, _∷_, _++_}
-use lib.Dec.{leb, ltb}
+use lib.Dec.{leb}
 use lib.ListN.{length}
 use Rattle.words.specs.Lists.{Words, all, zeroAt}
 use Rattle.ledger.specs.Runs.{Run, run, runsFrom}
 use Rattle.stored_forms.specs.Tree.{Tree, link, treeOf, inorder, Heaped, formOne, leftAt, rightAt}
 use Rattle.stored_forms.specs.Blocks.{Zeros, Holds}
+use Rattle.tree_tiles.specs.Lay.{under}
 use Rattle.tree_check.specs.declared.Seen.{Seen}
 
 -- A flag that says a fact, both ways.
@@ -29,10 +30,6 @@ closed used N e = leb N e || heldAt used e
 -- the free runs of the first N units, from unit k on
 abbrev pub ahead : Words → ℕ → ℕ → List Run
 ahead used N k = runsFrom (zeroAt used) k (N - k)
-
--- a run shorter than z
-abbrev pub under : ℕ → Run → Bool
-under z r = ltb (r .size) z
 
 -- ---- the arena and the map together
 

@@ -2,5 +2,6 @@
 pub mod MapLaws
 pub mod PaveLaws
 pub mod ReadLaws
+pub mod LimitLaws
 pub mod WalkLaws
 pub mod StoredLaws

@@ -3,29 +3,21 @@ use Prim.Native.Nat.{ℕ, suc, _+_, _≤_, _<_}
 use native.Mathlib.Decide.{decLe}
 use native.Mathlib.Omega.{arith}
 use mathlib.Core.Path.{_≡_, refl, sym, _∙_, subst}
-use mathlib.Core.Bool.{true, false, false≢true}
+use mathlib.Core.Bool.{false, false≢true}
 use mathlib.Core.List.{_∷_}
-use Rattle.words.specs.Lists.{Words, all}
+use Rattle.words.specs.Lists.{Words}
 use Rattle.words.specs.Counted.{within}
-use Rattle.words.proofs.Tests.{and-i, or-l, or-r, of-le, of-lt, lt-of, within-in}
-use Rattle.words.proofs.ListLaws.{all-imp, all-append}
+use Rattle.words.proofs.Tests.{or-l, or-r, within-in}
 use Rattle.ledger.specs.Runs.{Run, run, Gapped, covered}
-use Rattle.stored_forms.specs.Tree.{Tree, leaf, node, inorder, noLonger, formOne}
+use Rattle.stored_forms.specs.Tree.{Tree, leaf, node, inorder, formOne}
 use Rattle.stored_forms.specs.Tree.{lengthAt, leftAt, rightAt}
 use Rattle.tiling.proofs.TileLaws.{covered-append, total-append}
 use Rattle.tree_tiles.specs.declared.Laid.{Laid}
 use Rattle.tree_tiles.specs.Maps.{spanAt}
-use Rattle.tree_tiles.specs.Lay.{earliest, under, Ready, right, Placed, Found, Walked}
+use Rattle.tree_tiles.specs.Lay.{earliest, Ready, right, Placed, Found, Walked}
 use Rattle.tree_tiles.proofs.PaveLaws.{gapped-join}
+use Rattle.tree_tiles.proofs.LimitLaws.{node-heaped, node-short}
 use Rattle.tree_tiles.proofs.ReadLaws.{cell-reads}
-
--- runs shorter than a limit are shorter than every limit that is no less
-under-imp : (y z : ℕ) → y ≤ z → (r : Run) → under y r ≡ true → under z r ≡ true
-under-imp y z h r e = of-lt (r .size) z (omega (arith, lt-of (r .size) y e))
-
--- "shorter than one more" is "no longer"
-under-longer : (q r : Run) → under (q .size + 1) r ≡ true → noLonger q r ≡ true
-under-longer q r e = of-le (r .size) (q .size) (omega (arith, lt-of (r .size) (q .size + 1) e))
 
 -- ---- the ways through the walk
 
@@ -113,17 +105,8 @@ module _ {m map : Words} {N : ℕ} where
             x .holds,
             y .holds,
           );
-          heaped = (
-            x .short,
-            all-imp (under (z + 1)) (noLonger q) (under-longer q) (inorder b) (y .short),
-            x .heaped,
-            y .heaped,
-          );
-          short =
-              all-append (under limit) (inorder a) (q ∷ inorder b)
-              (all-imp (under z) (under limit) (under-imp z limit (omega arith)) (inorder a) (x .short))
-              (and-i (under limit q) (all (under limit) (inorder b)) (of-lt z limit short)
-              (all-imp (under (z + 1)) (under limit) (under-imp (z + 1) limit (omega arith)) (inorder b) (y .short)));
+          heaped = node-heaped a b c z (x .short) (y .short) (x .heaped) (y .heaped);
+          short = node-short a b c z (x .short) (y .short) limit short;
           gapped =
               gapped-join (earliest k) next last (inorder a) (q ∷ inorder b) (omega arith) (omega arith) (x .gapped)
               behind;

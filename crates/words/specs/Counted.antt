@@ -1,5 +1,5 @@
--- Tests of consecutive numbers: what a loop that counts up decides. Assumes nothing.
-use Prim.Native.Nat.{ℕ, zero, suc}
+-- Tests and sums of consecutive numbers: what a loop that counts up decides. Assumes nothing.
+use Prim.Native.Nat.{ℕ, zero, suc, _+_}
 use mathlib.Core.Bool.{Bool, true, false, not, _&&_}
 use mathlib.Core.Option.{Option, none, some}
 use lib.Dec.{leb, ltb}
@@ -20,3 +20,8 @@ within lo hi i = leb lo i && ltb i hi
 
 abbrev pub outside : ℕ → ℕ → ℕ → Bool
 outside lo hi i = not (within lo hi i)
+
+-- f 0 and so on up to f (n - 1), together
+abbrev pub sumTo : (ℕ → ℕ) → ℕ → ℕ
+sumTo f zero = 0
+sumTo f (suc n) = sumTo f n + f n

@@ -1,7 +1,6 @@
 -- `record_table::ticket_from` meets its contract. Its invariant: no slot from i up to k passes. Assumes nothing.
 use Prim.Native.Nat.{_-_}
 use native.Mathlib.Omega.{arith}
-use mathlib.Core.Path.{_∙_, sym, ap}
 use borrow.Author.Needs.{needs}
 use denote.Ref.{now}
 use Rattle.ledger.specs.Records.{slots, recordAt, hasTicket}

@@ -1,11 +1,11 @@
 -- `text::put_number` meets its contract: one digit, or two, or the digits of a hundredth and then the last two. The
 -- measure is the number. Assumes nothing.
-use Prim.Native.Nat.{ℕ, _+_, _<_, _≤_, _/_}
+use Prim.Native.Nat.{ℕ, _+_, _<_, _/_}
 use native.Mathlib.Omega.{arith}
 use mathlib.Core.Path.{_∙_, refl}
 use borrow.Fn.Kinds.{In}
 use borrow.Fn.PlainCycle.{Measures, is, falls, and}
-use lib.ListN.{length, length-set}
+use lib.ListN.{length-set}
 use Rattle.text.specs.Numbers.{decimalOf, lastTwo}
 use Rattle.text.proofs.NumberLaws.{decimal-small, decimal-two, decimal-more, length-small, length-two, length-more}
 use Rattle.text.proofs.WriteLaws.{wrote-then}

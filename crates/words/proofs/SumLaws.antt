@@ -1,12 +1,11 @@
--- Laws of sums over the first n numbers: no record and no run stands in them. Assumes nothing.
+-- Laws of sums over the first n numbers. Assumes nothing.
 use Prim.Native.Nat.{ℕ, zero, suc, _+_, _≤_, _<_, min}
 use native.Mathlib.Omega.{arith}
 use native.Mathlib.Decide.{ℕ-discrete, decLe, decLt}
 use mathlib.Core.Path.{_≡_, refl, sym, ap, ap₂, _∙_}
 use mathlib.Core.Bool.{Bool, true, false, cond}
-use Rattle.words.specs.Counted.{within}
+use Rattle.words.specs.Counted.{within, sumTo}
 use Rattle.words.proofs.Tests.{within-in, within-low, within-high}
-use Rattle.tiling.specs.Tiles.{sumTo}
 
 pub sum-same : (f g : ℕ → ℕ) (n : ℕ) → ((k : ℕ) → k < n → f k ≡ g k) → sumTo f n ≡ sumTo g n
 sum-same f g zero h = refl

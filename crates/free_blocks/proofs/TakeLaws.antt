@@ -1,15 +1,16 @@
--- Cells taken from the low end of a free block: the block's node is deleted and cleared, and what is left is put
--- back. Assumes nothing.
+-- Cells taken from the low end of a free block: the block shrinks or its node is deleted, and its first cell is
+-- cleared. Assumes nothing.
 use Prim.Native.Nat.{ℕ, suc, _+_, _-_, _*_, _/_, _≤_, _<_}
 use native.Mathlib.Omega.{arith}
-use native.Mathlib.Decide.{ℕ-discrete, decLe}
+use native.Mathlib.Decide.{ℕ-discrete}
 use mathlib.Core.Path.{_≡_, refl, sym, ap, _∙_, subst}
 use mathlib.Core.Logic.{_≢_, inl, inr}
 use mathlib.Core.Bool.{Bool, true, false, not, _&&_, true≢false, or-true}
 use mathlib.Core.List.{List, [], _∷_, _++_}
+use mathlib.Core.Option.{some}
 use lib.Dec.{eqb}
 use lib.ListN.{length, getD}
-use Rattle.words.specs.Lists.{Words, all}
+use Rattle.words.specs.Lists.{Words, all, firstThat}
 use Rattle.words.specs.Counted.{within}
 use Rattle.words.proofs.Tests.{and-l, and-r, and-i, not-true, eqb-eq, eqb-same, eqb-ne, eqb-false, of-lt, of-ge}
 use Rattle.words.proofs.Tests.{within-in}
@@ -18,15 +19,17 @@ use Rattle.ledger.specs.Runs.{Run, run, covered, Gapped, AreRuns}
 use Rattle.ledger.specs.Runs.{shorten}
 use Rattle.ledger.proofs.RunLaws.{runs-are, runs-unique, runs-after-grant}
 use Rattle.stored_forms.specs.Tree.{Tree, leaf, node, inorder, treeOf, link, formOne, lengthAt}
-use Rattle.stored_forms.proofs.TreeLaws.{inorder-treeOf}
+use Rattle.stored_forms.proofs.TreeLaws.{inorder-treeOf, heaped-treeOf}
 use Rattle.stored_forms.specs.Blocks.{Within, In, NotFirst, Zeros, Holds}
 use Rattle.stored_forms.proofs.NodeLaws.{readable-one, within-le, link-within}
 use Rattle.stored_forms.proofs.NodeLaws.{in-range, covered-in, in-covered, holds-reads, holds-stored, nodeWord-zero}
-use Rattle.free_tree.specs.Shapes.{insert, delete, dropRun}
-use Rattle.free_tree.specs.Held.{links, cells, Same, NodeCleared, At, Became, NoNode, NoNodeNor, Apart, Room}
-use Rattle.free_tree.specs.Held.{Inserted, Deleted}
+use Rattle.free_tree.specs.Shapes.{insert, delete, shrink, dropRun, beginsAt}
+use Rattle.free_tree.specs.Held.{links, cells, Same, NodeCleared, At, Became, NoNode, NoNodeNor, Deleted}
+use Rattle.free_tree.specs.Held.{Longer, Shrunk}
 use Rattle.free_tree.proofs.RunOrder.{startsBelow, startsFrom, beginsElsewhere, putRun-between, dropRun-past}
+use Rattle.free_tree.proofs.RunOrder.{firstThat-past}
 use Rattle.free_tree.proofs.ChangeLaws.{within-delete, insert-tree, delete-tree}
+use Rattle.free_tree.proofs.ShrinkLaws.{shrink-is}
 use Rattle.free_tree.proofs.CellLaws.{same-cell, same-zeros, cell-from, cell-below}
 use Rattle.free_blocks.specs.Blocks.{Lies, Takes, TakenFrom, Taken}
 
@@ -92,25 +95,6 @@ outside-first (node a q b) lo hi c w n = (
   (λ z. n (inr (inl (omega arith, omega (arith, w .1))))),
   outside-first b (q .start + q .size) hi c (w .2) (λ i. n (inr (inr i))),
 )
-
--- a run none of whose cells is in a block lies apart
-outside-apart : (r : Run) (t : Tree) (lo hi : ℕ) → Within lo hi t → 1 ≤ r .size
-    → ((c : ℕ) → r .start ≤ c → c < r .start + r .size → In c t → ⊥) → Apart r t
-outside-apart r leaf lo hi w s n = tt
-outside-apart r (node a q b) lo hi w s n = (
-  outside-apart r a lo (q .start) (w .0) s (λ c x y i. n c x y (inl i)),
-  (λ u. after u (decLe (q .start + q .size) (r .start))),
-  (λ u. before u (decLe (r .start + r .size) (q .start))),
-  outside-apart r b (q .start + q .size) hi (w .2) s (λ c x y i. n c x y (inr (inr i))),
-)
-  where
-    after : q .start ≤ r .start → Dec (q .start + q .size ≤ r .start) → q .start + q .size ≤ r .start
-    after u (yes h) = h
-    after u (no h) = absurd (n (r .start) (omega arith) (omega arith) (inr (inl (u, omega arith))))
-
-    before : r .start ≤ q .start → Dec (r .start + r .size ≤ q .start) → r .start + r .size ≤ q .start
-    before u (yes h) = h
-    before u (no h) = absurd (n (q .start) u (omega arith) (inr (inl (omega arith, omega (arith, w .1)))))
 
 -- an arena that agrees on the blocks of a tree holds it too
 same-blocks : (m m′ : Words) (t : Tree) (lo hi : ℕ) → Within lo hi t → length m′ ≡ length m
@@ -202,11 +186,6 @@ module _ {m : Words} {root : ℕ} (xs : List Run) (r : Run) (ys : List Run) (lie
       ∙ ap (λ (l : List Run). covered l u) (sym (inorder-treeOf (xs ++ ys)))
       ∙ in-covered rest u i
 
-  not-free : (u : ℕ) → covered old u ≡ false → In u rest → ⊥
-  not-free u h i =
-      let here = within (r .start) (r .start + r .size) u in
-      true≢false (sym (and-l (covered old u) (not here) (others u i)) ∙ h)
-
   not-here : (u : ℕ) → r .start ≤ u → u < r .start + r .size → In u rest → ⊥
   not-here u a b i =
       let here = within (r .start) (r .start + r .size) u in
@@ -279,77 +258,112 @@ module _ {m : Words} {root : ℕ} (xs : List Run) (r : Run) (ys : List Run) (lie
           let u = i / formOne .cell in
           clear .frame u n i refl ∙ made .frame u (inner-first u (omega arith) b) i refl ∙ inner-zero i (omega arith) b
 
-  -- ---- what is left of it is put back
+  -- ---- the whole block
 
-  module _ {m₂ : Words} {root′ : ℕ} (made : Emptied m m₂ root′ xs r ys) (k : ℕ) where
-    whole-taken : k ≡ r .size → TakenFrom m m₂ k root′ xs r ys
+  whole-taken : {m₂ : Words} {root′ : ℕ} (k : ℕ) → Emptied m m₂ root′ xs r ys → k ≡ r .size
+      → TakenFrom m m₂ k root′ xs r ys
+  unfolding formOne
+  whole-taken k made e = record {
+    change = record {
+      lies = record {
+        tree = rw (e, eqb-same (r .size)) (made .tree);
+        gapped = rw (made .long) (cut k (omega arith) .gapped);
+      };
+      frame = λ i h h′. made .frame (i / 2) h i refl;
+      long = made .long;
+    };
+    zeros = λ i a b. made .zeros i a (omega arith);
+  }
+
+  -- ---- some of it
+
+  found : firstThat (beginsAt (r .start)) (inorder (treeOf old)) ≡ some r
+  found =
+      let x = r .start in
+      let f = beginsElsewhere x in
+      let before : all f xs ≡ true = place .under f (λ q h. ap not (eqb-ne (q .start) x (λ z. omega arith))) in
+      ap (firstThat (beginsAt x)) (inorder-treeOf old) ∙ firstThat-past (beginsAt x) xs (r ∷ ys) before
+      ∙ rw (eqb-same x)
+
+  module _ (k : ℕ) (part : k < r .size) where
+    abbrev left : Run
+    left = run (r .start + k) (r .size - k)
+
+    abbrev new : List Run
+    new = xs ++ shorten k r ys
+
+    put-back : insert left rest ≡ treeOf new
+    put-back =
+        let x = r .start + k in
+        insert-tree left (xs ++ ys) 0 N rest-within
+        (outside-first rest 0 N x rest-within (not-here x (omega arith) (omega arith)))
+        ∙ ap treeOf
+        (putRun-between left xs ys (place .under (startsBelow x) (λ q h. of-lt (q .start) x (omega arith)))
+        (place .over (startsFrom x) (λ q h. ap not (of-ge (q .start) x (omega arith)))))
+        ∙ rw (eqb-ne k (r .size) (λ z. omega arith))
+
+    shrunk : shrink (r .start) k (treeOf old) ≡ treeOf new
+    shrunk =
+        shrink-is (r .start) k (r .size) part (treeOf old) 0 N (lies .tree .within) (heaped-treeOf old) found
+        ∙ ap (insert left) deleted
+        ∙ put-back
+
+    -- the cells taken are in no block that is left
+    not-left : Within 0 N (treeOf new) → (u : ℕ) → r .start ≤ u → u < r .start + k → In u (treeOf new) → ⊥
+    not-left w u a b i =
+        let here = within (r .start) (r .start + k) u in
+        let free =
+        sym (cut k (omega arith) .cover u (in-range (treeOf new) 0 N u w i .1))
+        ∙ ap (λ (l : List Run). covered l u) (sym (inorder-treeOf new))
+        ∙ in-covered (treeOf new) u i in
+        let out = not-true here (and-r (covered old u) (not here) free) in
+        true≢false (sym (within-in (r .start) (r .start + k) u a b) ∙ out)
+
+    -- the block shrunk, and what was its node cleared
+    part-taken : {m₁ m₂ : Words} {q : ℕ} → 1 ≤ k → Shrunk formOne links m m₁ root (r .start) k q
+        → NodeCleared formOne m₁ m₂ (r .start) → TakenFrom m m₂ k q xs r ys
     unfolding formOne
-    whole-taken e = record {
+    part-taken {m₁} {m₂} {q} one shr clear = record {
       change = record {
         lies = record {
-          tree = rw (e, eqb-same (r .size)) (made .tree);
-          gapped = rw (made .long) (cut k (omega arith) .gapped);
-        };
-        frame = λ i h h′. made .frame (i / 2) h i refl;
-        long = made .long;
-      };
-      zeros = λ i a b. made .zeros i a (omega arith);
-    }
-
-    module _ (part : k < r .size) where
-      abbrev left : Run
-      left = run (r .start + k) (r .size - k)
-
-      room : Room formOne links m₂ root′ left rest
-      unfolding formOne
-      room = record {
-        tree = made .tree;
-        apart = outside-apart left rest 0 N rest-within (omega arith)
-            (λ c a b. not-here c (omega arith) (omega arith));
-        filled = omega arith;
-        inside = rw (made .long) (omega (arith, place .inside));
-        zeros = λ i a b. made .zeros i (omega arith) (omega arith);
-      }
-
-      put-back : insert left rest ≡ treeOf (xs ++ shorten k r ys)
-      put-back =
-          let x = r .start + k in
-          insert-tree left (xs ++ ys) 0 N rest-within
-          (outside-first rest 0 N x rest-within (not-here x (omega arith) (omega arith)))
-          ∙ ap treeOf
-          (putRun-between left xs ys (place .under (startsBelow x) (λ q h. of-lt (q .start) x (omega arith)))
-          (place .over (startsFrom x) (λ q h. ap not (of-ge (q .start) x (omega arith)))))
-          ∙ rw (eqb-ne k (r .size) (λ z. omega arith))
-
-      part-taken : {m₃ : Words} {q : ℕ} → Inserted formOne links m₂ m₃ root′ left q → TakenFrom m m₃ k q xs r ys
-      unfolding formOne
-      part-taken {m₃} {q} ins = record {
-        change = record {
-          lies = record {
-            tree = subst (At formOne links m₃ q) put-back (after .tree);
-            gapped = rw long (cut k (omega arith) .gapped);
+          tree = record {
+            at = tree .at;
+            holds = same-blocks m₁ m₂ (treeOf new) 0 N w (clear .long)
+                (λ c i. clear .frame c (λ z. not-left w c (omega arith) (omega arith) i)) (tree .holds);
+            within = rw long w;
+            small = rw long (lies .tree .small);
           };
-          frame = λ i h h′.
-              after .frame (i / 2) (
-                outside-first rest 0 N (i / 2) rest-within (not-free (i / 2) h),
-                held-elsewhere (i / 2) h (r .start + k) (omega arith) (omega arith),
-              ) i refl
-              ∙ made .frame (i / 2) h i refl;
-          long = long;
+          gapped = rw long (cut k (omega arith) .gapped);
         };
-        zeros = λ i a b.
-            after .frame (i / 2) (
-              outside-first rest 0 N (i / 2) rest-within (not-here (i / 2) (omega arith) (omega arith)),
-              λ z. omega arith,
-            ) i refl
-            ∙ made .zeros i a (omega arith);
-      }
-        where
-          after : Became formOne links m₂ m₃ (NoNodeNor rest (r .start + k)) q (insert left rest)
-          after = ins rest room
+        frame = λ i h h′.
+            clear .frame (i / 2) (held-elsewhere (i / 2) h (r .start) (omega arith) (omega arith)) i refl
+            ∙ made .frame (i / 2) (
+              held-first (i / 2) h,
+              held-elsewhere (i / 2) h (r .start + k) (omega arith) (omega arith),
+            ) i refl;
+        long = long;
+      };
+      zeros = λ i a b. zero i (omega arith) (omega arith) (ℕ-discrete (i / 2) (r .start));
+    }
+      where
+        made : Became formOne links m m₁ (NoNodeNor (treeOf old) (r .start + k)) q (shrink (r .start) k (treeOf old))
+        made = shr (treeOf old) (r .size) (record { tree = lies .tree; found = found; more = part })
 
-          long : length m₃ ≡ length m
-          long = after .long ∙ made .long
+        tree : At formOne links m₁ q (treeOf new)
+        tree = subst (At formOne links m₁ q) shrunk (made .tree)
+
+        w : Within 0 N (treeOf new)
+        w = rw (made .long) at (tree .within)
+
+        long : length m₂ ≡ length m
+        long = clear .long ∙ made .long
+
+        zero : (i : ℕ) → r .start ≤ i / 2 → i / 2 < r .start + k → Dec (i / 2 ≡ r .start) → getD m₂ i 0 ≡ 0
+        zero i a b (yes e) = clear .zero i e
+        zero i a b (no n) =
+            clear .frame (i / 2) n i refl
+            ∙ made .frame (i / 2) (inner-first (i / 2) (omega arith) (omega arith), λ z. omega arith) i refl
+            ∙ inner-zero i (omega arith) (omega arith)
 
 -- ---- by the code's own numbers
 
@@ -362,32 +376,33 @@ take-in (xs, r, ys, p) =
     let inside = b .inside in
     (omega (arith, p .at), omega (arith, p .at, p .enough, p .lies .tree .small))
 
-module _ {m m₁ m₂ : Words} {root block k n root′ : ℕ} (len : n ≡ lengthAt formOne m (block - 1))
-    (del : Deleted formOne links m m₁ root (block - 1) root′) (clear : NodeCleared formOne m₁ m₂ (block - 1)) where
+module _ {m : Words} {root block k n : ℕ} (len : n ≡ lengthAt formOne m (block - 1)) where
   at-block : (xs : List Run) (r : Run) (ys : List Run) → Takes m root block k xs r ys
-      → (block - 1 ≡ r .start) × (n ≡ r .size) × Emptied m m₂ root′ xs r ys
+      → (block - 1 ≡ r .start) × (n ≡ r .size)
   at-block xs r ys p =
-      let e : block - 1 ≡ r .start = omega (arith, p .at) in (
-        e,
-        len ∙ ap (lengthAt formOne m) e ∙ block-length xs r ys (p .lies),
-        emptied xs r ys (p .lies) (rw e at del) (rw e at clear),
-      )
-
-  pub take-room : k < n → ((xs : List Run) × (r : Run) × (ys : List Run) × Takes m root block k xs r ys)
-      → (t : Tree) × Room formOne links m₂ root′ (run (block - 1 + k) (n - k)) t
-  take-room h (xs, r, ys, p) =
-      let (e, f, made) = at-block xs r ys p in
-      (treeOf (xs ++ ys), rw (e, f) (room xs r ys (p .lies) made k (omega arith)))
+      let e : block - 1 ≡ r .start = omega (arith, p .at) in
+      (e, len ∙ ap (lengthAt formOne m) e ∙ block-length xs r ys (p .lies))
 
   -- some of the block is left
-  pub take-part : {m₃ : Words} {q : ℕ} → k < n → Inserted formOne links m₂ m₃ root′ (run (block - 1 + k) (n - k)) q
-      → Taken m m₃ root block k q
-  take-part h ins xs r ys p =
-      let (e, f, made) = at-block xs r ys p in
-      part-taken xs r ys (p .lies) made k (omega arith) (rw (e, f) at ins)
+  pub take-longer : k < n → ((xs : List Run) × (r : Run) × (ys : List Run) × Takes m root block k xs r ys)
+      → (t : Tree) × (i : ℕ) × Longer formOne links m root (run (block - 1) i) k t
+  take-longer h (xs, r, ys, p) =
+      let (e, f) = at-block xs r ys p in (
+        treeOf (xs ++ r ∷ ys),
+        r .size,
+        rw e (record { tree = p .lies .tree; found = found xs r ys (p .lies); more = omega arith }),
+      )
+
+  pub take-part : {m₁ m₂ : Words} {q : ℕ} → k < n → Shrunk formOne links m m₁ root (block - 1) k q
+      → NodeCleared formOne m₁ m₂ (block - 1) → Taken m m₂ root block k q
+  take-part h shr clear xs r ys p =
+      let (e, f) = at-block xs r ys p in
+      part-taken xs r ys (p .lies) k (omega arith) (p .some) (rw e at shr) (rw e at clear)
 
   -- nothing is left
-  pub take-whole : n ≤ k → Taken m m₂ root block k root′
-  take-whole h xs r ys p =
-      let (e, f, made) = at-block xs r ys p in
-      whole-taken xs r ys (p .lies) made k (omega (arith, p .enough))
+  pub take-whole : {m₁ m₂ : Words} {q : ℕ} → n ≤ k → Deleted formOne links m m₁ root (block - 1) q
+      → NodeCleared formOne m₁ m₂ (block - 1) → Taken m m₂ root block k q
+  take-whole h del clear xs r ys p =
+      let (e, f) = at-block xs r ys p in
+      whole-taken xs r ys (p .lies) k (emptied xs r ys (p .lies) (rw e at del) (rw e at clear))
+      (omega (arith, p .enough))

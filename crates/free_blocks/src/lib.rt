@@ -14,11 +14,13 @@ pub fn take_cells(arena: &mut [u32], root: usize, block: usize, k: usize) -> usi
 {
     let c = block - 1;
     let n = free_tree::length_of(arena, c) as usize;
+    if k < n {
+        let whole = free_tree::shrink(arena, root, c, k);
+        free_tree::clear_node(arena, c);
+        return whole;
+    }
     let rest = free_tree::delete(arena, root, c);
     free_tree::clear_node(arena, c);
-    if k < n {
-        return free_tree::insert(arena, rest, c + k, (n - k) as u32);
-    }
     rest
 }
 

@@ -24,7 +24,7 @@ use Rattle.free_tree.proofs.PartLaws.{below-apart, above-apart, starts-
 
 -- ---- which of two runs stands above
 
-stands-true : (r q : Run) → standsAbove r q ≡ true → (q .size ≤ r .size) × (q .start ≤ r .start → q .size < r .size)
+pub stands-true : (r q : Run) → standsAbove r q ≡ true → (q .size ≤ r .size) × (q .start ≤ r .start → q .size < r .size)
 stands-true r q = go (ltb (q .size) (r .size)) refl (eqb (q .size) (r .size)) refl (ltb (r .start) (q .start)) refl
   where
     go : (x : Bool) → ltb (q .size) (r .size) ≡ x → (y : Bool) → eqb (q .size) (r .size) ≡ y

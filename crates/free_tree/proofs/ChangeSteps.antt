@@ -25,7 +25,7 @@ use Rattle.free_tree.proofs.StepLaws.{unchanged, left-replaced, right-r
 use Rattle.free_tree.proofs.PartSteps.{parts-none}
 
 -- no cell of a run that a tree does not overlap is a node of it
-apart-no-node : (r : Run) (t : Tree) (c : ℕ) → Apart r t → r .start ≤ c → c < r .start + r .size → NotFirst c t
+pub apart-no-node : (r : Run) (t : Tree) (c : ℕ) → Apart r t → r .start ≤ c → c < r .start + r .size → NotFirst c t
 apart-no-node r leaf c o x y = tt
 apart-no-node r (node a q b) c o x y = (
   apart-no-node r a c (o .0) x y,

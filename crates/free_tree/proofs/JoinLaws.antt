@@ -54,7 +54,7 @@ module _ (P : Tree → Tree → Tree → Type 0)
       go true e i = left a q b (node c p d) (f (node c p d)) (le-of (p .size) (q .size) e) (h (node c p d))
       go false e i = right (node a q b) c p d (joinOver a q b f c) (not-le (p .size) (q .size) e) i
 
-  join-by : (s t : Tree) → P s t (join s t)
+  pub join-by : (s t : Tree) → P s t (join s t)
   join-by leaf t = none-left t
   join-by (node a q b) t = over-by a q b (join b) (join-by b) t
 

@@ -8,6 +8,8 @@ pub mod StepLaws
 pub mod JoinSteps
 pub mod PartSteps
 pub mod ChangeSteps
+pub mod ShrinkLaws
+pub mod ShrinkSteps
 pub mod FormOne
 pub mod Numbers
 pub mod SeekSteps

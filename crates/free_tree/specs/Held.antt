@@ -3,13 +3,15 @@ use Prim.Native.Nat.{ℕ, zero, suc, _+_, _*_, _/_, _≤_, _<_}
 use mathlib.Core.Path.{_≡_}
 use mathlib.Core.Logic.{_≢_}
 use mathlib.Core.Bool.{Bool}
+use mathlib.Core.Option.{some}
 use lib.ListN.{length, getD}
 use Rattle.words.specs.Lists.{Words, firstThat}
-use Rattle.ledger.specs.Runs.{Run}
+use Rattle.ledger.specs.Runs.{Run, run}
 use Rattle.stored_forms.specs.Tree.{Tree, leaf, node, inorder, Form, cellWords, lengthAt, leftAt, rightAt, link}
 use Rattle.stored_forms.specs.Blocks.{leftmost}
 use Rattle.stored_forms.specs.Blocks.{Within, NotFirst, Holds, Zeros}
-use Rattle.free_tree.specs.Shapes.{top, join, below, above, insert, delete, linkTo}
+use Rattle.free_tree.specs.Shapes.{top, join, below, above, insert, delete, standsOver, settle, shrink}
+use Rattle.free_tree.specs.Shapes.{beginsAt, linkTo}
 
 -- a link of the first form is half a word
 abbrev pub links : ℕ
@@ -140,6 +142,43 @@ Inserted F bound m m′ l r k =
 -- what the deletion of the run at cell x from the tree at the link l ensures, k the link to the rest
 abbrev pub Deleted : Form → ℕ → Words → Words → ℕ → ℕ → ℕ → Type 0
 Deleted F bound m m′ l x k = (t : Tree) → At F bound m l t → Became F bound m m′ (NoNode t) k (delete x t)
+
+-- ---- shrink
+
+-- v says whether the run r stands above the root at the link l
+abbrev pub OverRoot : Form → ℕ → Words → ℕ → Run → Bool → Type 0
+OverRoot F bound m l r v = (t : Tree) → At F bound m l t → v ≡ standsOver r t
+
+-- Two trees lie in the arena with the run r between them: its words beyond the first cell are zero.
+pub record Between (F : Form) (bound : ℕ) (m : Words) (a b : ℕ) (r : Run) (ta tb : Tree) : Type 0 where
+  pub left : At F bound m a ta
+  pub right : At F bound m b tb
+  pub under : Within 0 (r .start) ta
+  pub over : Within (r .start + r .size) (cells F m) tb
+  pub filled : 1 ≤ r .size
+  pub zeros : Zeros m (F .cell * suc (r .start)) (F .cell * (r .start + r .size))
+
+-- cell c is no node of the two trees with a new node at cell x
+abbrev pub NoNodeOfNor : Tree → Tree → ℕ → ℕ → Type 0
+NoNodeOfNor t u x c = NotFirst c t × NotFirst c u × (c ≢ x)
+
+-- what putting the run r on top of the trees at the links a and b, or among them, ensures, k the link to the whole
+abbrev pub Settled : Form → ℕ → Words → Words → ℕ → ℕ → Run → ℕ → Type 0
+Settled F bound m m′ a b r k =
+    (ta tb : Tree) → Between F bound m a b r ta tb
+    → Became F bound m m′ (NoNodeOfNor ta tb (r .start)) k (settle r ta tb)
+
+-- The tree lies at the link l, and its run r has more than k cells.
+pub record Longer (F : Form) (bound : ℕ) (m : Words) (l : ℕ) (r : Run) (k : ℕ) (t : Tree) : Type 0 where
+  pub tree : At F bound m l t
+  pub found : firstThat (beginsAt (r .start)) (inorder t) ≡ some r
+  pub more : k < r .size
+
+-- what ensures the step by which the run at cell x gives up its first k cells, q the link to the whole
+abbrev pub Shrunk : Form → ℕ → Words → Words → ℕ → ℕ → ℕ → ℕ → Type 0
+Shrunk F bound m m′ l x k q =
+    (t : Tree) (n : ℕ) → Longer F bound m l (run x n) k t
+    → Became F bound m m′ (NoNodeNor t (x + k)) q (shrink x k t)
 
 -- ---- searches
 

@@ -1,11 +1,11 @@
 -- Stephenson's steps on the tree of the free runs, with 01's tie rule, and what each does to the list of the runs.
 -- 01, "Steps, from 000 with this tie rule". Assumes nothing.
-use Prim.Native.Nat.{ℕ, suc, _+_}
-use mathlib.Core.Bool.{Bool, cond, _&&_, _||_}
+use Prim.Native.Nat.{ℕ, suc, _+_, _-_}
+use mathlib.Core.Bool.{Bool, true, cond, _&&_, _||_}
 use mathlib.Core.List.{List, [], _∷_}
 use mathlib.Core.Option.{Option, none, some}
 use lib.Dec.{eqb, leb, ltb}
-use Rattle.ledger.specs.Runs.{Run}
+use Rattle.ledger.specs.Runs.{Run, run}
 use Rattle.stored_forms.specs.Tree.{Tree, leaf, node}
 
 -- ---- trees
@@ -58,6 +58,23 @@ abbrev pub delete : ℕ → Tree → Tree
 delete x leaf = leaf
 delete x (node a q b) =
     cond (ltb x (q .start)) (node (delete x a) q b) (cond (ltb (q .start) x) (node a q (delete x b)) (join a b))
+
+-- the run stands above the tree's root, or there is none
+abbrev pub standsOver : Run → Tree → Bool
+standsOver r leaf = true
+standsOver r (node a q b) = standsAbove r q
+
+-- the run between the runs of two trees: it stays on top if it stands above both roots
+abbrev pub settle : Run → Tree → Tree → Tree
+settle r a b = cond (standsOver r a && standsOver r b) (node a r b) (insert r (join a b))
+
+-- The run at cell x gives up its first k cells. `shrink-is` in proofs/ShrinkLaws: it is taken out, and the rest of it
+-- put in.
+abbrev pub shrink : ℕ → ℕ → Tree → Tree
+shrink x k leaf = leaf
+shrink x k (node a q b) =
+    cond (ltb x (q .start)) (node (shrink x k a) q b)
+    (cond (ltb (q .start) x) (node a q (shrink x k b)) (settle (run (x + k) (q .size - k)) a b))
 
 -- ---- lists of runs, in address order
 

@@ -11,7 +11,8 @@ ghost use Rattle.stored_forms.specs.Blocks.{leftmost};
 ghost use Rattle.free_tree.specs.Shapes.{standsAbove, endsAt, beginsAt, linkTo};
 ghost use Rattle.free_tree.specs.Held.{links, cells, NodePut, LeftSet, RightSet, NodeCleared, At, Beside};
 ghost use Rattle.free_tree.specs.Held.{LeftWins, RightWins, LeftJoined, RightJoined, BothJoined, Parts, Room};
-ghost use Rattle.free_tree.specs.Held.{Inserted, Deleted, LeftmostFound, RunFound};
+ghost use Rattle.free_tree.specs.Held.{Inserted, Deleted, OverRoot, Between, Settled, Longer, Shrunk};
+ghost use Rattle.free_tree.specs.Held.{LeftmostFound, RunFound};
 
 // ---- one node
 
@@ -245,6 +246,61 @@ pub fn delete(arena: &mut [u32], l: usize, x: usize) -> usize
     let a = left_of(arena, c);
     let b = right_of(arena, c);
     join_trees(arena, a, b)
+}
+
+// ---- shrink
+
+// Whether a block of `n` cells at cell `x` stands above the root at the link `l`, or there is none.
+fn over_root(arena: &[u32], l: usize, x: usize, n: u32) -> bool
+    requires { ⌜ ((t : Tree) × At formOne links (now arena) l t) ⌝ }
+    ensures { λ r. ⌜ OverRoot formOne links (now (arena .entry)) l (run x n) r ⌝ }
+{
+    if l == 0 {
+        return true;
+    }
+    let c = l - 1;
+    let k = length_of(arena, c);
+    stands_above(x, n, c, k)
+}
+
+// Puts the block of `n` cells at cell `x` between the trees at the links `lo` and `hi`, and returns the link to the
+// whole. Most often it stands above both roots, and the trees are its sons as they are.
+fn settle(arena: &mut [u32], lo: usize, hi: usize, x: usize, n: u32) -> usize
+    requires { ⌜ ((ta : Tree) × (tb : Tree) × Between formOne links (now arena) lo hi (run x n) ta tb) ⌝ }
+    ensures { λ r. ⌜ Settled formOne links (now (arena .entry)) (now (arena .exit)) lo hi (run x n) r ⌝ }
+{
+    if over_root(arena, lo, x, n) & over_root(arena, hi, x, n) {
+        put_node(arena, x, n, lo, hi);
+        return x + 1;
+    }
+    let rest = join_trees(arena, lo, hi);
+    insert(arena, rest, x, n)
+}
+
+// The block at cell `x`, of more than `k` cells, gives up its first `k` cells in the tree at the link `l`. Returns the
+// link to the whole. What is left of it can only sink below its sons: no block above it is shorter. The words of its
+// first cell stay as they are.
+pub fn shrink(arena: &mut [u32], l: usize, x: usize, k: usize) -> usize
+    requires { ⌜ ((t : Tree) × (n : ℕ) × Longer formOne links (now arena) l (run x n) k t) ⌝ }
+    ensures { λ r. ⌜ Shrunk formOne links (now (arena .entry)) (now (arena .exit)) l x k r ⌝ }
+{
+    let c = l - 1;
+    if x < c {
+        let s = left_of(arena, c);
+        let q = shrink(arena, s, x, k);
+        set_left(arena, c, q);
+        return l;
+    }
+    if c < x {
+        let s = right_of(arena, c);
+        let q = shrink(arena, s, x, k);
+        set_right(arena, c, q);
+        return l;
+    }
+    let a = left_of(arena, c);
+    let b = right_of(arena, c);
+    let n = length_of(arena, c) as usize;
+    settle(arena, a, b, x + k, (n - k) as u32)
 }
 
 // ---- searches: each returns a link, 0 for none

@@ -1,20 +1,19 @@
 -- Laws of records that are entered with the first words of their blocks set in a map; and of the blocks that lie side
 -- by side then: they are a valid ledger, stored in the arena. Assumes nothing.
-use Prim.Native.Nat.{ℕ, zero, suc, _+_, _-_, _≤_, _<_}
+use Prim.Native.Nat.{ℕ, _+_, _-_, _≤_, _<_}
 use native.Mathlib.Decide.{ℕ-discrete}
 use native.Mathlib.Nat.{div-one}
 use native.Mathlib.Omega.{arith}
-use mathlib.Core.Bool.{Bool, true, false, cond, true≢false}
-use mathlib.Core.List.{List, [], _∷_}
+use mathlib.Core.Bool.{Bool, true, false, cond}
+use mathlib.Core.List.{List}
 use mathlib.Core.Logic.{_≢_}
 use mathlib.Core.Path.{_≡_, refl, sym, ap, _∙_}
 use lib.Dec.{eqb}
 use lib.IntN.{ℤ, pos, natAbs}
-use lib.ListN.{length, getD, set}
-use lib.Seq.{getD-set-other}
-use Rattle.words.specs.Lists.{Words, all, isZero, zeroAt}
+use lib.ListN.{length, getD}
+use Rattle.words.specs.Lists.{Words, all, isZero}
 use Rattle.words.specs.Counted.{every}
-use Rattle.words.proofs.Tests.{and-l, and-r, and-i, eqb-same, of-not}
+use Rattle.words.proofs.Tests.{and-i, eqb-same, of-not}
 use Rattle.ledger.specs.declared.Row.{Row}
 use Rattle.ledger.specs.Records.{recordAt, recordsOf, slots, isEmpty}
 use Rattle.ledger.specs.Units.{first, past, valid, free}
@@ -29,7 +28,9 @@ use Rattle.segment_check.specs.Right.{heldRight}
 use Rattle.tiling.specs.Tiles.{Noted, Joins, Spans}
 use Rattle.tiling.proofs.EnterLaws.{enter-start, enter-next, noted-start}
 use Rattle.tiling.proofs.TileLaws.{held-by, tiled-valid}
+use Rattle.segment_tiles.specs.BitMaps.{bitAt}
 use Rattle.segment_tiles.specs.Laid.{heldFrom, Laid, Heads, Joined, Headed}
+use Rattle.segment_tiles.proofs.BitLaws.{no-bit}
 use Rattle.segment_tiles.proofs.StoredLaws.{arena-tiled}
 
 -- ---- a slot
@@ -78,10 +79,10 @@ module _ (v : List ℤ) (next : ℕ) (t : Words) (i u : ℕ) (J : Joins segmentR
   }
 
   -- a live record, whose control word has its size and is no free block's
-  pub joined-live : (map seen : Words) (m at : ℕ) → Noted m seen t (i + 1) → Heads v t map i → u ≢ 0
+  pub joined-live : (map map′ seen : Words) (m at : ℕ) → Noted m seen t (i + 1) → Heads v t map i → u ≢ 0
       → at ≡ r .address - 1 → natAbs (getD v at (pos 0)) ≡ u → freeSize (getD v at (pos 0)) ≡ 0
-      → Joined v next t (set map at 1) seen m i u
-  joined-live map seen m at noted H z is size held = record {
+      → ((k : ℕ) → bitAt map′ k ≡ true → (k ≡ at → ⊥) → bitAt map k ≡ true) → Joined v next t map′ seen m i u
+  joined-live map map′ seen m at noted H z is size held put = record {
     joins = J;
     right =
         rw (live-some z, sym is, size ∙ units (live-some z), held)
@@ -90,7 +91,7 @@ module _ (v : List ℤ) (next : ℕ) (t : Words) (i u : ℕ) (J : Joins segmentR
     heads = λ k e. go k e (ℕ-discrete k at);
   }
     where
-      go : (k : ℕ) → zeroAt (set map at 1) k ≡ false → Dec (k ≡ at)
+      go : (k : ℕ) → bitAt map′ k ≡ true → Dec (k ≡ at)
           → (j : ℕ) × (j < i + 1) × (isEmpty (recordAt t j) ≡ false) × (first segmentRule (recordAt t j) ≡ k)
           × (natAbs (getD v k (pos 0)) ≡ recordAt t j .words + 1)
       go k e (yes q) =
@@ -101,14 +102,9 @@ module _ (v : List ℤ) (next : ℕ) (t : Words) (i u : ℕ) (J : Joins segmentR
             f ∙ sym is ∙ sym q,
             ap (λ n. natAbs (getD v n (pos 0))) q ∙ size ∙ units (live-some z),
           )
-      go k e (no q) = heads-more map H k (sym (ap isZero (getD-set-other map at k 1 0 q)) ∙ e)
+      go k e (no q) = heads-more map H k (put k e q)
 
 -- ---- slot after slot
-
-all-zero-at : (m : Words) → all isZero m ≡ true → (u : ℕ) → zeroAt m u ≡ true
-all-zero-at [] e u = refl
-all-zero-at (x ∷ m) e zero = and-l (isZero x) (all isZero m) e
-all-zero-at (x ∷ m) e (suc u) = all-zero-at m (and-r (isZero x) (all isZero m) e) u
 
 module _ (v : List ℤ) (next : ℕ) (t : Words) (m : ℕ) where
   pub headed-start : (map seen : Words) → all isZero map ≡ true → Headed v next t map seen m 0 0
@@ -116,7 +112,7 @@ module _ (v : List ℤ) (next : ℕ) (t : Words) (m : ℕ) where
     entered = enter-start segmentRule (length v) next t;
     right = refl;
     noted = noted-start m seen t;
-    heads = λ k e. absurd (true≢false (sym (all-zero-at map z k) ∙ e));
+    heads = λ k e. absurd (no-bit map z k e);
   }
 
   pub headed-next : (map seen map′ seen′ : Words) (i held u : ℕ) → Headed v next t map seen m i held
@@ -133,12 +129,12 @@ module _ (v : List ℤ) (next : ℕ) (t : Words) (m : ℕ) where
   -- what the map says is held is held
   head-spans : (map : Words) → Heads v t map (slots t) → Spans segmentRule (recordsOf t) (heldFrom v map)
   unfolding past
-  head-spans map H k u a b = go (zeroAt map k) refl b
+  head-spans map H k u a b = go (bitAt map k) refl b
     where
-      go : (z : Bool) → zeroAt map k ≡ z → u < k + cond z 0 (natAbs (getD v k (pos 0)))
+      go : (z : Bool) → bitAt map k ≡ z → u < k + cond z (natAbs (getD v k (pos 0))) 0
           → free segmentRule (recordsOf t) u ≡ false
-      go true e l = absurd (omega arith)
-      go false e l =
+      go false e l = absurd (omega arith)
+      go true e l =
           let (j, h, live, start, size) = H k e in
           let r = recordAt t j in
           held-by segmentRule t j u h

@@ -8,7 +8,7 @@ use mathlib.Core.Path.{_≡_, refl, sym, ap, _∙_}
 use lib.Dec.{eqb}
 use lib.IntN.{ℤ, pos, natAbs}
 use lib.ListN.{getD}
-use Rattle.words.specs.Lists.{Words, all, zeroAt}
+use Rattle.words.specs.Lists.{Words, all}
 use Rattle.words.specs.Counted.{every, within}
 use Rattle.words.specs.Signed.{zeroAtZ}
 use Rattle.words.proofs.Tests.{and-l, and-r, and-i, or-l, or-r, eqb-same, lt-of, of-lt, of-gt, within-in}
@@ -17,6 +17,7 @@ use Rattle.ledger.specs.Runs.{Run, run, Gapped, covered}
 use Rattle.control_words.specs.Control.{freeSize}
 use Rattle.segment_check.specs.Right.{runRight}
 use Rattle.tiling.specs.Tiles.{total}
+use Rattle.segment_tiles.specs.BitMaps.{bitAt}
 use Rattle.segment_tiles.specs.Laid.{heldFrom, blockRight, endsBefore, Laid}
 
 -- ---- a list of runs with one more at its end
@@ -66,7 +67,7 @@ module _ (v : List ℤ) (map : Words) where
 
   module _ (at free n : ℕ) (some : 0 < n) where
     -- a held block more
-    pub laid-held : (after : Bool) → Laid v map at free after → zeroAt map at ≡ false
+    pub laid-held : (after : Bool) → Laid v map at free after → bitAt map at ≡ true
         → n ≡ natAbs (getD v at (pos 0)) → Laid v map (at + n) free false
     laid-held after L set size = record {
       runs = L .runs;

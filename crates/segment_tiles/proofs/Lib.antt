@@ -1,4 +1,5 @@
 -- The laws of blocks that lie side by side.
+pub mod BitLaws
 pub mod LaidLaws
 pub mod StoredLaws
 pub mod HeadLaws

@@ -1,5 +1,5 @@
--- Blocks that lie side by side in the segment pool's arena, and the map of the words at which held ones begin: a byte
--- for each word, not 0 where a record's block begins. Assumes nothing.
+-- Blocks that lie side by side in the segment pool's arena, and the map of the words at which held ones begin: a bit
+-- for each word, set where a record's block begins. Assumes nothing.
 use Prim.Native.Nat.{ℕ, _+_, _≤_, _<_}
 use mathlib.Core.Bool.{Bool, true, false, cond}
 use mathlib.Core.List.{List}
@@ -7,7 +7,7 @@ use mathlib.Core.Path.{_≡_}
 use lib.Dec.{ltb}
 use lib.IntN.{ℤ, pos, natAbs}
 use lib.ListN.{length, getD}
-use Rattle.words.specs.Lists.{Words, all, zeroAt}
+use Rattle.words.specs.Lists.{Words, all}
 use Rattle.words.specs.Counted.{every}
 use Rattle.ledger.specs.Records.{recordAt, recordsOf, isEmpty}
 use Rattle.ledger.specs.Units.{first, valid}
@@ -16,10 +16,11 @@ use Rattle.stored_forms.specs.Segments.{segmentRule}
 use Rattle.segment_places.specs.Stores.{arenaOf}
 use Rattle.segment_check.specs.Right.{runRight, heldRight}
 use Rattle.tiling.specs.Tiles.{Noted, Joins, Entered, total}
+use Rattle.segment_tiles.specs.BitMaps.{bitAt}
 
 -- how many words from k on the map and the control word there say are held
 abbrev pub heldFrom : List ℤ → Words → ℕ → ℕ
-heldFrom v map k = cond (zeroAt map k) 0 (natAbs (getD v k (pos 0)))
+heldFrom v map k = cond (bitAt map k) (natAbs (getD v k (pos 0))) 0
 
 -- the words of a run are those of a free block
 abbrev pub blockRight : List ℤ → Run → Bool
@@ -39,11 +40,11 @@ pub record Laid (v : List ℤ) (map : Words) (at free : ℕ) (after : Bool) : Ty
   pub words : all (blockRight v) runs ≡ true
   pub rest : (u : ℕ) → u < at → covered runs u ≡ false → (k : ℕ) × (k ≤ u) × (u < k + heldFrom v map k)
 
--- Each byte of the map that is not 0 stands for one of the first i records of a table: its block begins there, and the
+-- Each bit of the map that is set stands for one of the first i records of a table: its block begins there, and the
 -- control word has its size.
 abbrev pub Heads : List ℤ → Words → Words → ℕ → Type 0
 Heads v t map i =
-    (k : ℕ) → zeroAt map k ≡ false
+    (k : ℕ) → bitAt map k ≡ true
     → (j : ℕ) × (j < i) × (isEmpty (recordAt t j) ≡ false) × (first segmentRule (recordAt t j) ≡ k)
     × (natAbs (getD v k (pos 0)) ≡ recordAt t j .words + 1)
 

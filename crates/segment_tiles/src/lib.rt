@@ -1,5 +1,5 @@
 // A quick test of the segment pool: blocks that lie side by side from the first word to the last. No unit is marked:
-// the map has a byte for each word, set only where a record's block begins.
+// the map has a bit for each word, set only where a record's block begins.
 use control_words::free_at;
 use control_words::size_at;
 use ledger::Rule;
@@ -7,13 +7,36 @@ use record_table::read_row;
 use words::zero_part_signed;
 ghost use mathlib.Core.Path.{_≡_};
 ghost use mathlib.Core.Bool.{Bool, true};
-ghost use Prim.Native.Nat.{_+_, _≤_, _<_};
+ghost use Prim.Native.Nat.{ℕ, _+_, _*_, _≤_, _<_};
 ghost use lib.ListN.{length};
 ghost use Rattle.words.specs.Lists.{all, isZero};
 ghost use Rattle.ledger.specs.Records.{slots};
 ghost use Rattle.segment_check.specs.Right.{runRight};
 ghost use Rattle.tiling.specs.Tiles.{Noted};
+ghost use Rattle.segment_tiles.specs.BitMaps.{bitAt};
 ghost use Rattle.segment_tiles.specs.Laid.{Laid, Heads, Joined, Headed, Stored};
+
+// ---- the map, 64 words of the arena to an entry
+
+// Whether bit k is set.
+fn has_bit(map: &[u64], k: usize) -> bool
+    requires { ⌜ k < 64 * length (now map) ⌝ }
+    ensures { λ r. ⌜ r ≡ bitAt (now (map .entry)) k ⌝ }
+{
+    (map[k / 64] >> (k % 64)) % 2 == 1
+}
+
+// Sets bit k. Only that no other gets set is promised: a held block without its bit fails the test of free ones.
+fn put_bit(map: &mut [u64], k: usize)
+    requires { ⌜ k < 64 * length (now map) ⌝ }
+    ensures { λ r. ⌜
+        ((j : ℕ) → bitAt (now (map .exit)) j ≡ true → (j ≡ k → ⊥) → bitAt (now (map .entry)) j ≡ true)
+        ⌝ }
+{
+    let i = k / 64;
+    let w = map[i];
+    map[i] = w | (1 << (k % 64));
+}
 
 // ---- the blocks, from the first word on
 
@@ -30,8 +53,8 @@ fn is_free_block(v: &[i32], at: usize, n: usize) -> bool
 
 // The words of the free blocks together; more than there are, if blocks don't lie side by side up to the last word, or
 // two free ones do.
-fn lay(v: &[i32], map: &[u8]) -> usize
-    requires { ⌜ (length (now v) ≤ 16384) × (length (now v) ≤ length (now map)) ⌝ }
+fn lay(v: &[i32], map: &[u64]) -> usize
+    requires { ⌜ (length (now v) ≤ 16384) × (length (now v) ≤ 64 * length (now map)) ⌝ }
     ensures { λ r. ⌜
         (r ≤ length (now (v .entry))
         → ((after : Bool) × Laid (now (v .entry)) (now (map .entry)) (length (now (v .entry))) r after))
@@ -49,7 +72,7 @@ fn lay(v: &[i32], map: &[u8]) -> usize
         if v.len() - at < n {
             return bad;
         }
-        if map[at] != 0 {
+        if has_bit(map, at) {
             after = false;
         } else {
             if after {
@@ -75,12 +98,13 @@ fn map_row(
     next: u32,
     table: &[u32],
     i: usize,
-    map: &mut [u8],
+    map: &mut [u64],
     seen: &mut [u8],
     m: usize,
 ) -> usize
-    requires { ⌜ (length (now v) ≤ 16384) × (length (now v) ≤ length (now map)) × (i < slots (now table)) × (0 < m)
-        × (length (now seen) ≡ m) × Noted m (now seen) (now table) i × Heads (now v) (now table) (now map) i ⌝ }
+    requires { ⌜ (length (now v) ≤ 16384) × (length (now v) ≤ 64 * length (now map)) × (i < slots (now table))
+        × (0 < m) × (length (now seen) ≡ m) × Noted m (now seen) (now table) i
+        × Heads (now v) (now table) (now map) i ⌝ }
     ensures { λ u. ⌜ (u ≤ length (now (v .entry))
         → Joined (now (v .entry)) next (now (table .entry)) (now (map .exit)) (now (seen .exit)) m i u) ⌝ }
 {
@@ -101,14 +125,21 @@ fn map_row(
     if free_at(v, at) != 0 {
         return words + 1;
     }
-    map[at] = 1;
+    put_bit(&mut *map, at);
     u
 }
 
 // The words of all blocks together, whose first words are set in a map that is all zero. More than the arena's if a
 // record is wrong.
-fn map_rows(v: &[i32], next: u32, table: &[u32], map: &mut [u8], seen: &mut [u8], m: usize) -> usize
-    requires { ⌜ (length (now v) ≤ 16384) × (length (now v) ≤ length (now map)) × (0 < m)
+fn map_rows(
+    v: &[i32],
+    next: u32,
+    table: &[u32],
+    map: &mut [u64],
+    seen: &mut [u8],
+    m: usize,
+) -> usize
+    requires { ⌜ (length (now v) ≤ 16384) × (length (now v) ≤ 64 * length (now map)) × (0 < m)
         × (length (now seen) ≡ m) × (all isZero (now map) ≡ true) ⌝ }
     ensures { λ u. ⌜ (u ≤ length (now (v .entry))
         → Headed (now (v .entry)) next (now (table .entry)) (now (map .exit)) (now (seen .exit)) m
@@ -135,11 +166,11 @@ fn is_tiled_over(
     next: u32,
     arena: &[i32],
     table: &[u32],
-    map: &mut [u8],
+    map: &mut [u64],
     seen: &mut [u8],
     m: usize,
 ) -> bool
-    requires { ⌜ (length (now arena) ≤ 16384) × (length (now arena) ≤ length (now map)) × (0 < m)
+    requires { ⌜ (length (now arena) ≤ 16384) × (length (now arena) ≤ 64 * length (now map)) × (0 < m)
         × (length (now seen) ≡ m) × (all isZero (now map) ≡ true) ⌝ }
     ensures { λ r. ⌜ (r ≡ true → Stored next (now (arena .entry)) (now (table .entry))) ⌝ }
 {
@@ -160,7 +191,7 @@ fn is_tiled_small(next: u32, arena: &[i32], table: &[u32], seen: &mut [u8], m: u
     requires { ⌜ (length (now arena) ≤ 128) × (0 < m) × (length (now seen) ≡ m) ⌝ }
     ensures { λ r. ⌜ (r ≡ true → Stored next (now (arena .entry)) (now (table .entry))) ⌝ }
 {
-    let mut map: [u8; 128] = [0; 128];
+    let mut map: [u64; 2] = [0; 2];
     is_tiled_over(next, arena, table, &mut map, seen, m)
 }
 
@@ -168,7 +199,7 @@ fn is_tiled_middle(next: u32, arena: &[i32], table: &[u32], seen: &mut [u8], m: 
     requires { ⌜ (length (now arena) ≤ 2048) × (0 < m) × (length (now seen) ≡ m) ⌝ }
     ensures { λ r. ⌜ (r ≡ true → Stored next (now (arena .entry)) (now (table .entry))) ⌝ }
 {
-    let mut map: [u8; 2048] = [0; 2048];
+    let mut map: [u64; 32] = [0; 32];
     is_tiled_over(next, arena, table, &mut map, seen, m)
 }
 
@@ -176,7 +207,7 @@ fn is_tiled_large(next: u32, arena: &[i32], table: &[u32], seen: &mut [u8], m: u
     requires { ⌜ (length (now arena) ≤ 16384) × (0 < m) × (length (now seen) ≡ m) ⌝ }
     ensures { λ r. ⌜ (r ≡ true → Stored next (now (arena .entry)) (now (table .entry))) ⌝ }
 {
-    let mut map: [u8; 16384] = [0; 16384];
+    let mut map: [u64; 256] = [0; 256];
     is_tiled_over(next, arena, table, &mut map, seen, m)
 }
 

@@ -2,9 +2,9 @@
 use Prim.Native.Nat.{_+_, _<_, _-_, _≤_}
 use native.Mathlib.Omega.{arith}
 use mathlib.Core.Bool.{true, false}
-use mathlib.Core.Path.{subst, _≡_, sym}
+use mathlib.Core.Path.{subst, _≡_, _∙_, sym}
 use mathlib.Core.Logic.{⊎-elim}
-use borrow.Author.Tests.{ne-eqb, not-false}
+use borrow.Author.Tests.{not-false}
 use denote.Ref.{now}
 use lib.ListN.{length}
 use Rattle.segment_tiles.specs.Laid.{Laid}
@@ -39,8 +39,8 @@ sub-if2 c = omega arith
 returns-2 : tie.Need-returns-2 Inv-loop μ-loop
 returns-2 c = λ h. absurd (omega arith)
 
-shared-slice-read-if3 : tie.Need-shared-slice-read-if3 Inv-loop μ-loop
-shared-slice-read-if3 c = omega arith
+has-bit-requires : tie.Need-has-bit-requires Inv-loop μ-loop
+has-bit-requires c κs = omega arith
 
 returns-3 : tie.Need-returns-3 Inv-loop μ-loop
 returns-3 c = λ h. absurd (omega arith)
@@ -77,7 +77,7 @@ loop-again c =
       subst (λ b. on (c .if3 .free) b) (sym (w .2))
           (subst (λ f. on f false) (sym (w .1))
           (laid-held (now (a .v)) (now (a .map)) at (l .loop .free) n some (l .loop .after) laid
-          (ne-eqb _ _ (w .0 .taken)) (z .size-at .ensures))),
+          (sym (c .before .has-bit .ensures) ∙ w .0 .taken) (z .size-at .ensures))),
     ))
     (λ w. (
       omega arith,
@@ -110,7 +110,7 @@ lay-spec =
     returns
     sub-if2
     returns-2
-    shared-slice-read-if3
+    has-bit-requires
     returns-3
     is-free-block-requires
     returns-4

@@ -86,9 +86,9 @@ same-length-4 c = search needs
 returns-4 : tie.Need-returns-4
 returns-4 c = λ h. absurd (omega arith)
 
-slice-write-map : tie.Need-slice-write-map
-slice-write-map c =
-    let r = c .before .before .before .before .before in
+put-bit-requires : tie.Need-put-bit-requires
+put-bit-requires c κs =
+    let r = c .before .before .before .before .before .before in
     let (low, high) = place r in
     omega (arith, start r .pre .1)
 
@@ -100,7 +100,9 @@ same-length-6 c = search needs
 
 returns-5 : tie.Need-returns-5
 returns-5 c =
-    let z = c .before .before .before in
+    let p = c .before .before in
+    let f = p .before .before in
+    let z = f .before .before .before in
     let r = z .before .before in
     let e = entry r in
     let s = start r in
@@ -108,10 +110,11 @@ returns-5 c =
     let (few, long, below, some, wide, noted, heads) = s .pre in
     let u = e .enter-row .result in
     let (joins, next) = e .enter-row .ensures (r .before .if2 .left) in
-    λ h. joined-live (now (a .v)) (a .next) (now (a .table)) (a .i) u joins (now (a .map))
+    λ h. joined-live (now (a .v)) (a .next) (now (a .table)) (a .i) u joins (now (a .map)) (p .put-bit .last .0)
     (e .enter-row .last .1 .1 .1 .1 .1 .0) (a .m) (r .read-row .result .address - 1) next heads
     (r .before .before .if1 .left) (ap (λ (q : Row). q .address - 1) (r .read-row .ensures))
-    (sym (z .size-at .ensures) ∙ c .before .before .if3 .left) (sym (c .before .free-at .ensures) ∙ c .if4 .left)
+    (sym (z .size-at .ensures) ∙ f .before .before .if3 .left) (sym (f .before .free-at .ensures) ∙ f .if4 .left)
+    (p .put-bit .ensures)
 
 pub map-row-spec : {M : Type 1} → statement M
 map-row-spec =
@@ -133,7 +136,7 @@ map-row-spec =
     add-result-2
     same-length-4
     returns-4
-    slice-write-map
+    put-bit-requires
     same-length-5
     same-length-6
     returns-5)

@@ -1,0 +1,75 @@
+-- Laws of bits: a power of two has one, and a map with one more set. Assumes nothing.
+use Prim.Native.Nat.{ℕ, zero, suc, _+_, _-_, _*_, _/_, _%_, _^_, _<_}
+use native.Mathlib.Decide.{ℕ-discrete, decLt}
+use native.Mathlib.Nat.{pow-suc, one-mul, div-eq-of-lt, zero-div}
+use native.Mathlib.Omega.{arith}
+use mathlib.Core.Bool.{true, false≢true}
+use mathlib.Core.List.{[], _∷_}
+use mathlib.Core.Path.{_≡_, refl, sym, ap, _∙_}
+use lib.Bits.{bitOr, or-step, or-shr}
+use lib.Dec.{eqb, lit<}
+use lib.ListN.{length, getD, set}
+use lib.Pow.{pow-add, pow-lt, shl-exact, shl-shr}
+use lib.Seq.{getD-set-same, getD-set-other}
+use Rattle.words.specs.Lists.{Words, all, isZero}
+use Rattle.words.proofs.Tests.{and-l, and-r, eqb-eq}
+use Rattle.segment_tiles.specs.BitMaps.{bitOf, bitAt}
+
+-- ---- a number
+
+-- a power of two has no other bit
+power-other : (b j : ℕ) → (j ≡ b → ⊥) → 2 ^ b / 2 ^ j % 2 ≡ 0
+power-other b j q = go (decLt b j)
+  where
+    go : Dec (b < j) → 2 ^ b / 2 ^ j % 2 ≡ 0
+    go (yes h) = ap (λ n. n % 2) (div-eq-of-lt (pow-lt h))
+    go (no h) =
+        let d = b - j - 1 in
+        let e : b ≡ suc d + j = omega arith in
+        let p : 2 ^ b / 2 ^ j ≡ 2 ^ d * 2 =
+        ap (λ n. 2 ^ n / 2 ^ j) e ∙ ap (λ n. n / 2 ^ j) (pow-add 2 (suc d) j) ∙ shl-shr (2 ^ suc d) j
+        ∙ pow-suc 2 d in
+        omega arith
+
+or-bit : (x y : ℕ) → y % 2 ≡ 0 → bitOr x y % 2 ≡ x % 2
+or-bit x y z = omega (arith, or-step x y)
+
+-- any other bit is as it was
+or-other : (w b j : ℕ) → (j ≡ b → ⊥) → bitOf (bitOr w (2 ^ b)) j ≡ bitOf w j
+or-other w b j q =
+    ap (λ n. eqb n 1)
+    (ap (λ n. n % 2) (or-shr w (2 ^ b) j) ∙ or-bit (w / 2 ^ j) (2 ^ b / 2 ^ j) (power-other b j q))
+
+-- 1 moved to a place below 64, as a machine computes it
+one-moved : (b : ℕ) → b < 64 → 1 * 2 ^ b % 2 ^ 64 ≡ 2 ^ b
+one-moved b h = shl-exact {a = 1} 1 b 64 (lit< tt) (omega arith) ∙ one-mul (2 ^ b)
+
+-- ---- a map
+
+-- any other bit is as it was, where one is set
+pub bit-other : (map : Words) (k j : ℕ) → k < 64 * length map → (j ≡ k → ⊥)
+    → bitAt (set map (k / 64) (bitOr (getD map (k / 64) 0) (1 * 2 ^ (k % 64) % 2 ^ 64))) j ≡ bitAt map j
+bit-other map k j h q = rw (one-moved (k % 64) (omega arith)) (go (ℕ-discrete (j / 64) (k / 64)))
+  where
+    w : ℕ
+    w = bitOr (getD map (k / 64) 0) (2 ^ (k % 64))
+
+    go : Dec (j / 64 ≡ k / 64) → bitAt (set map (k / 64) w) j ≡ bitAt map j
+    go (yes e) =
+        let old = getD map (k / 64) 0 in
+        let inside : k / 64 < length map = omega arith in
+        ap (λ n. bitOf (getD (set map (k / 64) w) n 0) (j % 64)) e
+        ∙ ap (λ n. bitOf n (j % 64)) (getD-set-same map (k / 64) w 0 inside)
+        ∙ or-other old (k % 64) (j % 64) (λ s. q (omega arith)) ∙ ap (λ n. bitOf (getD map n 0) (j % 64)) (sym e)
+    go (no d) = ap (λ n. bitOf n (j % 64)) (getD-set-other map (k / 64) (j / 64) w 0 d)
+
+zero-at : (m : Words) → all isZero m ≡ true → (u : ℕ) → getD m u 0 ≡ 0
+zero-at [] e u = refl
+zero-at (x ∷ m) e zero = eqb-eq x 0 (and-l (isZero x) (all isZero m) e)
+zero-at (x ∷ m) e (suc u) = zero-at m (and-r (isZero x) (all isZero m) e) u
+
+-- a map that is all zero has no bit set
+pub no-bit : (map : Words) → all isZero map ≡ true → (k : ℕ) → bitAt map k ≡ true → ⊥
+no-bit map z k e =
+    false≢true
+    (sym (ap (λ n. bitOf n (k % 64)) (zero-at map z (k / 64)) ∙ ap (λ n. eqb (n % 2) 1) (zero-div (2 ^ (k % 64)))) ∙ e)

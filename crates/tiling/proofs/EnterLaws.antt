@@ -4,12 +4,13 @@ use native.Mathlib.Omega.{arith}
 use native.Mathlib.Decide.{ℕ-discrete}
 use native.Mathlib.Numerals.{add-one}
 use mathlib.Core.Path.{_≡_, refl, sym, ap, ap₂, _∙_}
-use mathlib.Core.Bool.{Bool, true, false, cond, not, _||_, or-true, true≢false}
-use lib.ListN.{length, set}
+use mathlib.Core.Bool.{Bool, true, false, cond, not, _&&_, _||_, or-true, true≢false}
+use lib.Dec.{eqb}
+use lib.ListN.{length, getD, set}
 use lib.Seq.{getD-set-same, getD-set-other}
-use Rattle.words.specs.Lists.{Words, isZero, zeroAt}
+use Rattle.words.specs.Lists.{Words, isZero}
 use Rattle.words.specs.Counted.{every, sumTo}
-use Rattle.words.proofs.Tests.{and-l, and-i, eqb-eq, eqb-ne}
+use Rattle.words.proofs.Tests.{and-l, and-r, and-i, not-true, eqb-eq, eqb-ne, eqb-same}
 use Rattle.words.proofs.CountedLaws.{every-at, every-of}
 use Rattle.ledger.specs.declared.Row.{Row}
 use Rattle.ledger.specs.declared.Rule.{Rule}
@@ -17,7 +18,7 @@ use Rattle.ledger.specs.Records.{recordAt, isEmpty}
 use Rattle.ledger.specs.Units.{span}
 use Rattle.record_table.specs.Checks.{rowOk, differ}
 use Rattle.record_table.proofs.PairLaws.{every-last}
-use Rattle.tiling.specs.Tiles.{unitsOf, newAt, otherThan, Noted, Joins, Entered}
+use Rattle.tiling.specs.Tiles.{unitsOf, newAt, otherThan, markOf, several, notes, Noted, Joins, Entered}
 
 -- ---- one slot after another
 
@@ -71,15 +72,22 @@ live-joins ρ W next t i u r is live ok new units = (
   units ∙ sym (ap (λ (b : Bool). cond b 0 (span ρ (r .words))) live) ∙ ap (unitsOf ρ) is,
 )
 
--- ---- the residues
+-- ---- what is noted of tickets
+
+-- nothing is noted by 0, and a ticket by its own mark
+zero-notes : (x : ℕ) → notes 0 x ≡ false
+zero-notes x = ap (λ (b : Bool). b || eqb 0 several) (eqb-ne 0 (markOf x) (λ e. omega arith))
+
+mark-notes : (x : ℕ) → notes (markOf x) x ≡ true
+mark-notes x = ap (λ (b : Bool). b || eqb (markOf x) several) (eqb-same (markOf x))
 
 pub noted-start : (m : ℕ) (seen t : Words) → Noted m seen t 0
 noted-start m seen t j h = absurd (omega arith)
 
 module _ (m : ℕ) (seen t : Words) (i : ℕ) (N : Noted m seen t i) where
-  -- a ticket whose residue no earlier one has is none of them
-  pub residue-new : zeroAt seen (recordAt t i .ticket % m) ≡ true → newAt t i ≡ true
-  residue-new none =
+  -- a ticket that is not noted at its residue is none of the earlier ones
+  pub unnoted-new : notes (getD seen (recordAt t i .ticket % m) 0) (recordAt t i .ticket) ≡ false → newAt t i ≡ true
+  unnoted-new none =
       every-of (λ j. differ (recordAt t j) (recordAt t i)) 0 i
       (λ j a b. go j (omega arith) (isZero (recordAt t j .ticket)) refl
       (ℕ-discrete (recordAt t j .ticket) (recordAt t i .ticket)))
@@ -89,24 +97,83 @@ module _ (m : ℕ) (seen t : Words) (i : ℕ) (N : Noted m seen t i) where
           → (z || otherThan t (recordAt t i .ticket) j) ≡ true
       go j b true q d = refl
       go j b false q (yes e) =
-          absurd (true≢false (sym none ∙ ap (λ x. zeroAt seen (x % m)) (sym e) ∙ N j b q))
+          absurd (true≢false (sym (N j b q) ∙ ap (λ x. notes (getD seen (x % m) 0) x) e ∙ none))
       go j b false q (no e) = rw (eqb-ne (recordAt t j .ticket) (recordAt t i .ticket) e)
 
-  pub note-none : isEmpty (recordAt t i) ≡ true → Noted m seen t (i + 1)
-  note-none e j h live = go (ℕ-discrete j i)
+  -- a ticket that is noted already
+  pub note-same : (isZero (recordAt t i .ticket) ≡ false
+      → notes (getD seen (recordAt t i .ticket % m) 0) (recordAt t i .ticket) ≡ true)
+      → Noted m seen t (i + 1)
+  note-same e j h live = go (ℕ-discrete j i)
     where
-      go : Dec (j ≡ i) → zeroAt seen (recordAt t j .ticket % m) ≡ false
+      go : Dec (j ≡ i) → notes (getD seen (recordAt t j .ticket % m) 0) (recordAt t j .ticket) ≡ true
       go (yes q) =
-          let zero = zero-ticket (recordAt t i) e in
-          absurd (true≢false (sym zero ∙ ap (λ k. isZero (recordAt t k .ticket)) (sym q) ∙ live))
+          ap (λ k. notes (getD seen (recordAt t k .ticket % m) 0) (recordAt t k .ticket)) q
+          ∙ e (ap (λ k. isZero (recordAt t k .ticket)) (sym q) ∙ live)
       go (no q) = N j (omega arith) live
 
-  pub note-next : (at : ℕ) → at ≡ recordAt t i .ticket % m → at < length seen → Noted m (set seen at 1) t (i + 1)
-  note-next at is h j l live = go (ℕ-discrete (recordAt t j .ticket % m) at) (ℕ-discrete j i)
+  pub note-none : isEmpty (recordAt t i) ≡ true → Noted m seen t (i + 1)
+  note-none e = note-same (λ live. absurd (true≢false (sym (zero-ticket (recordAt t i) e) ∙ live)))
+
+  -- v notes the ticket, and all that was noted at its residue
+  pub note-next : (at v : ℕ) → at ≡ recordAt t i .ticket % m → at < length seen → notes v (recordAt t i .ticket) ≡ true
+      → ((y : ℕ) → notes (getD seen at 0) y ≡ true → notes v y ≡ true) → Noted m (set seen at v) t (i + 1)
+  note-next at v is h own keeps j l live = go (ℕ-discrete (recordAt t j .ticket % m) at) (ℕ-discrete j i)
     where
-      go : Dec (recordAt t j .ticket % m ≡ at) → Dec (j ≡ i)
-          → zeroAt (set seen at 1) (recordAt t j .ticket % m) ≡ false
-      go (yes e) d = ap (zeroAt (set seen at 1)) e ∙ ap isZero (getD-set-same seen at 1 0 h)
+      x : ℕ
+      x = recordAt t j .ticket
+
+      go : Dec (x % m ≡ at) → Dec (j ≡ i) → notes (getD (set seen at v) (x % m) 0) x ≡ true
+      go (yes e) d =
+          ap (λ k. notes (getD (set seen at v) k 0) x) e ∙ ap (λ k. notes k x) (getD-set-same seen at v 0 h) ∙ at-place d
+        where
+          at-place : Dec (j ≡ i) → notes v x ≡ true
+          at-place (yes d) = ap (λ k. notes v (recordAt t k .ticket)) d ∙ own
+          at-place (no d) = keeps x (ap (λ k. notes (getD seen k 0) x) (sym e) ∙ N j (omega arith) live)
       go (no e) (yes d) = absurd (e (ap (λ k. recordAt t k .ticket % m) d ∙ sym is))
       go (no e) (no d) =
-          ap isZero (getD-set-other seen at (recordAt t j .ticket % m) 1 0 e) ∙ N j (omega arith) live
+          ap (λ k. notes k x) (getD-set-other seen at (x % m) v 0 e) ∙ N j (omega arith) live
+
+  -- what the code holds of slot i: its ticket, the ticket's place and mark, and what is kept there
+  module _ (x at mark kept : ℕ) (own : x ≡ recordAt t i .ticket) (is : at ≡ x % m) (h : at < length seen)
+      (made : mark ≡ markOf x) (was : kept ≡ getD seen at 0) where
+    new-if : notes kept x ≡ false → newAt t i ≡ true
+    new-if e =
+        unnoted-new
+        (ap (λ y. notes (getD seen (y % m) 0) y) (sym own) ∙ ap (λ k. notes (getD seen k 0) x) (sym is)
+        ∙ ap (λ v. notes v x) (sym was) ∙ e)
+
+    put : (v : ℕ) → notes v x ≡ true → ((y : ℕ) → notes kept y ≡ true → notes v y ≡ true)
+        → Noted m (set seen at v) t (i + 1)
+    put v e keeps =
+        note-next at v (is ∙ ap (λ y. y % m) own) h (ap (notes v) (sym own) ∙ e)
+        (λ y q. keeps y (ap (λ k. notes k y) was ∙ q))
+
+    pub first-there : kept ≡ 0 → (newAt t i ≡ true) × Noted m (set seen at mark) t (i + 1)
+    first-there e = (
+      new-if (ap (λ v. notes v x) e ∙ zero-notes x),
+      put mark (ap (λ v. notes v x) made ∙ mark-notes x)
+          (λ y q. absurd (true≢false (sym q ∙ ap (λ v. notes v y) e ∙ zero-notes y))),
+    )
+
+    pub unlike-there : (not (eqb kept mark) && not (eqb kept several)) ≡ true
+        → (newAt t i ≡ true) × Noted m (set seen at several) t (i + 1)
+    unlike-there e =
+        let a = not-true (eqb kept mark) (and-l (not (eqb kept mark)) (not (eqb kept several)) e) in
+        let b = not-true (eqb kept several) (and-r (not (eqb kept mark)) (not (eqb kept several)) e) in (
+          new-if (ap (λ k. eqb kept k || eqb kept several) (sym made)
+              ∙ ap₂ (λ (p q : Bool). p || q) a b),
+          put several (or-true (eqb several (markOf x))) (λ y q. or-true (eqb several (markOf y))),
+        )
+
+    pub noted-there : (not (eqb kept mark) && not (eqb kept several)) ≡ false → Noted m seen t (i + 1)
+    noted-there e =
+        note-same
+        (λ live. ap (λ y. notes (getD seen (y % m) 0) y) (sym own) ∙ ap (λ k. notes (getD seen k 0) x) (sym is)
+        ∙ ap (λ v. notes v x) (sym was) ∙ ap (λ k. eqb kept k || eqb kept several) (sym made)
+        ∙ either (eqb kept mark) (eqb kept several) e)
+      where
+        either : (p q : Bool) → (not p && not q) ≡ false → (p || q) ≡ true
+        either true q e = refl
+        either false true e = refl
+        either false false e = absurd (true≢false e)

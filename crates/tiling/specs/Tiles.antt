@@ -1,12 +1,13 @@
 -- Tiles: held and free blocks that lie side by side from unit 0 to the last. A pool's blocks do, and such tiles are
 -- quicker to find than to mark every unit: if the free tiles and the records together have as many units as the
 -- arena, no two records share one and the free tiles are the free runs (proofs/TileLaws). Assumes nothing.
-use Prim.Native.Nat.{ℕ, _+_, _%_, _≤_, _<_}
+use Prim.Native.Nat.{ℕ, _+_, _/_, _%_, _≤_, _<_}
 use mathlib.Core.Path.{_≡_}
-use mathlib.Core.Bool.{Bool, true, false, cond, not}
+use mathlib.Core.Bool.{Bool, true, false, cond, not, _||_}
 use mathlib.Core.List.{List, [], _∷_}
 use lib.Dec.{eqb}
-use Rattle.words.specs.Lists.{Words, isZero, zeroAt}
+use lib.ListN.{getD}
+use Rattle.words.specs.Lists.{Words, isZero}
 use Rattle.words.specs.Counted.{every, sumTo}
 use Rattle.ledger.specs.declared.Row.{Row}
 use Rattle.ledger.specs.declared.Rule.{Rule}
@@ -29,10 +30,23 @@ newAt t i = every (λ j. differ (recordAt t j) (recordAt t i)) 0 i
 abbrev pub otherThan : Words → ℕ → ℕ → Bool
 otherThan t x j = not (eqb (recordAt t j .ticket) x)
 
--- the residue, by m, of each of the first i tickets is noted where the ticket is not 0
+-- what is kept of a ticket at its residue: tickets that share a residue rarely share this too
+abbrev pub markOf : ℕ → ℕ
+markOf x = x / 128 % 251 + 1
+
+-- what is kept where tickets with several marks share a residue
+abbrev pub several : ℕ
+several = 255
+
+-- v is kept of ticket x, and maybe of others
+abbrev pub notes : ℕ → ℕ → Bool
+notes v x = eqb v (markOf x) || eqb v several
+
+-- each of the first i tickets that is not 0 is noted at its residue by m
 abbrev pub Noted : ℕ → Words → Words → ℕ → Type 0
 Noted m seen t i =
-    (j : ℕ) → j < i → isZero (recordAt t j .ticket) ≡ false → zeroAt seen (recordAt t j .ticket % m) ≡ false
+    (j : ℕ) → j < i → isZero (recordAt t j .ticket) ≡ false
+    → notes (getD seen (recordAt t j .ticket % m) 0) (recordAt t j .ticket) ≡ true
 
 -- slot i fits by itself in an arena of W words, its ticket is none of the earlier ones, and it has u units
 abbrev pub Joins : Rule → ℕ → ℕ → Words → ℕ → ℕ → Type 0

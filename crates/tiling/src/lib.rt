@@ -6,7 +6,7 @@ ghost use Prim.Native.Nat.{_+_, _≤_, _<_};
 ghost use lib.ListN.{length};
 ghost use Rattle.words.specs.Counted.{every};
 ghost use Rattle.ledger.specs.Records.{recordAt, slots};
-ghost use Rattle.tiling.specs.Tiles.{newAt, otherThan, Noted, Joins};
+ghost use Rattle.tiling.specs.Tiles.{newAt, otherThan, markOf, Noted, Joins};
 
 // None of the first i tickets is this one. The loop has no way out before its end, so that several are compared at a
 // time.
@@ -23,8 +23,15 @@ fn unlike_earlier(table: &[u32], i: usize, ticket: u32) -> bool
     ok
 }
 
-// Whether the ticket of slot i is none of the earlier ones, whose residues are noted; its own is noted as well. Only
-// where an earlier ticket has the same residue are tickets compared.
+// What is kept of a ticket at its residue.
+fn mark_of(ticket: u32) -> u8
+    ensures { λ r. ⌜ r ≡ markOf ticket ⌝ }
+{
+    (ticket / 128 % 251) as u8 + 1
+}
+
+// Whether the ticket of slot i is none of the earlier ones, which are noted; it is noted as well. Only where an earlier
+// one has its residue and may have its mark are tickets compared.
 fn is_new(seen: &mut [u8], m: usize, table: &[u32], i: usize, ticket: u32) -> bool
     requires { ⌜ (i < slots (now table)) × (ticket ≡ recordAt (now table) i .ticket) ⌝ }
     requires { ⌜ (0 < m) × (length (now seen) ≡ m) × Noted m (now seen) (now table) i ⌝ }
@@ -32,9 +39,14 @@ fn is_new(seen: &mut [u8], m: usize, table: &[u32], i: usize, ticket: u32) -> bo
     ensures { λ _. ⌜ Noted m (now (seen .exit)) (now (table .entry)) (i + 1) ⌝ }
 {
     let at = record_table::residue(ticket, m);
-    let first = seen[at] == 0;
-    seen[at] = 1;
-    if first {
+    let mark = mark_of(ticket);
+    let kept = seen[at];
+    if kept == 0 {
+        seen[at] = mark;
+        return true;
+    }
+    if (kept != mark) & (kept != 255) {
+        seen[at] = 255;
         return true;
     }
     unlike_earlier(table, i, ticket)

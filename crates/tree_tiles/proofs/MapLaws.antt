@@ -1,6 +1,6 @@
 -- The map of a table's records, slot after slot. Assumes nothing.
 use Prim.Native.Nat.{ℕ, zero, suc, _+_, _*_, _≤_, _<_}
-use native.Mathlib.Decide.{ℕ-discrete}
+use native.Mathlib.Decide.{ℕ-discrete, decLe, decLt}
 use native.Mathlib.Omega.{arith}
 use mathlib.Core.Path.{_≡_, refl, sym, ap, _∙_, subst}
 use mathlib.Core.Logic.{_≢_}
@@ -9,7 +9,7 @@ use mathlib.Core.List.{[], _∷_}
 use lib.ListN.{length, set}
 use lib.Seq.{getD-set-same, getD-set-other}
 use Rattle.words.specs.Lists.{Words, all, isZero}
-use Rattle.words.proofs.Tests.{and-l, and-r, eqb-eq, eqb-ne}
+use Rattle.words.proofs.Tests.{and-l, and-r, eqb-eq}
 use Rattle.ledger.specs.declared.Row.{Row}
 use Rattle.ledger.specs.Records.{recordAt, slots, isEmpty}
 use Rattle.ledger.specs.Units.{span, first, past, covers}
@@ -18,7 +18,7 @@ use Rattle.record_table.specs.Checks.{rowOk}
 use Rattle.tiling.specs.Tiles.{unitsOf, Noted, Joins, Entered}
 use Rattle.tiling.proofs.TileLaws.{held-by}
 use Rattle.tiling.proofs.EnterLaws.{enter-start, enter-next, noted-start}
-use Rattle.tree_tiles.specs.Maps.{cellRule, spanAt, noted, Mapped}
+use Rattle.tree_tiles.specs.Maps.{cellRule, spanAt, Adds, Mapped}
 
 all-zero : (map : Words) → all isZero map ≡ true → (k : ℕ) → spanAt map k ≡ 0
 all-zero [] e k = refl
@@ -38,6 +38,10 @@ pub record Mapping (W next : ℕ) (t : Words) (m : ℕ) (map seen : Words) (held
   pub residues : Noted m seen t i
   pub known : Known t map i
 
+past-is : (r : Row) → past cellRule r ≡ first cellRule r + span cellRule (r .words)
+unfolding past
+past-is r = refl
+
 -- a record with units lies in the arena
 module _ (W next : ℕ) (r : Row) (n : ℕ) (some : n ≢ 0) (ok : rowOk cellRule W next r ≡ true)
     (units : n ≡ unitsOf cellRule r) where
@@ -48,46 +52,41 @@ module _ (W next : ℕ) (r : Row) (n : ℕ) (some : n ≢ 0) (ok : rowOk cellRul
       go true e = absurd (some (units ∙ rw e))
       go false e = (fits-facts cellRule (omega arith) W next r (rw e at ok), units ∙ rw e)
 
-  pub place-inside : (map : Words) → W ≤ 2 * length map → first cellRule r < length map
-  place-inside map h = let f = live-row .0 in omega (arith, f .units, f .nonempty)
+  pub units-inside : (map : Words) → W ≤ 2 * length map → first cellRule r + n ≤ length map
+  units-inside map h = let (f, long) = live-row in omega (arith, f .units, past-is r)
 
-past-is : (r : Row) → past cellRule r ≡ first cellRule r + span cellRule (r .words)
-unfolding past
-past-is r = refl
+-- ---- a span that is noted, in one place after another
+
+pub adds-more : (map map′ : Words) (lo n at v : ℕ) → at < length map′ → lo ≤ at → at + v ≤ lo + n → Adds map map′ lo n
+    → Adds map (set map′ at v) lo n
+adds-more map map′ lo n at v h low high old k u a b out = go (ℕ-discrete k at)
+  where
+    go : Dec (k ≡ at) → u < k + spanAt map k
+    go (yes e) =
+        let there : spanAt (set map′ at v) k ≡ v = ap (spanAt (set map′ at v)) e ∙ getD-set-same map′ at v 0 h in
+        absurd (out (omega arith) (omega arith))
+    go (no e) = let there = getD-set-other map′ at k v 0 e in old k u a (omega arith) out
 
 -- the map with the units of slot i
-known-next : (W next : ℕ) (t map : Words) (i n : ℕ) → W ≤ 2 * length map → Joins cellRule W next t i n → Known t map i
-    → Known t (noted cellRule (recordAt t i) n map) (i + 1)
-known-next W next t map i n h (ok, new, units) known = go (ℕ-discrete n 0)
+known-next : (W next : ℕ) (t map map′ : Words) (i n : ℕ) → Joins cellRule W next t i n
+    → Adds map map′ (first cellRule (recordAt t i)) n → Known t map i → Known t map′ (i + 1)
+known-next W next t map map′ i n (ok, new, units) adds known k u a b =
+    go (decLe (first cellRule (recordAt t i)) u) (decLt u (first cellRule (recordAt t i) + n))
   where
-    older : (k u : ℕ) → k ≤ u → u < k + spanAt map k
+    r : Row
+    r = recordAt t i
+
+    older : ((first cellRule r ≤ u) → u < first cellRule r + n → ⊥)
         → (j : ℕ) × (j < i + 1) × (covers cellRule u (recordAt t j) ≡ true)
-    older k u a b = let (j, x, y) = known k u a b in (j, omega arith, y)
+    older out = let (j, x, y) = known k u a (adds k u a b out) in (j, omega arith, y)
 
-    here : n ≢ 0 → Known t (set map (first cellRule (recordAt t i)) n) (i + 1)
-    here e k u a b = at (ℕ-discrete k (first cellRule (recordAt t i)))
-      where
-        at : Dec (k ≡ first cellRule (recordAt t i))
-            → (j : ℕ) × (j < i + 1) × (covers cellRule u (recordAt t j) ≡ true)
-        at (yes q) =
-            let r = recordAt t i in
-            let f = first cellRule r in
-            let (fit, long) = live-row W next r n e ok units in
-            let same = getD-set-same map f n 0 (place-inside W next r n e ok units map h) in
-            let there : spanAt (set map f n) k ≡ n = ap (spanAt (set map f n)) q ∙ same in
-            (i, omega arith, covers-in cellRule u r (fit .live) (omega arith) (rw (past-is r) (omega arith)))
-        at (no q) =
-            let f = first cellRule (recordAt t i) in
-            let there = getD-set-other map f k n 0 q in
-            older k u a (omega arith)
-
-    go : Dec (n ≡ 0) → Known t (noted cellRule (recordAt t i) n map) (i + 1)
-    go (yes e) =
-        let is : noted cellRule (recordAt t i) n map ≡ map = rw e in
-        subst (λ (s : Words). Known t s (i + 1)) (sym is) older
-    go (no e) =
-        let is : noted cellRule (recordAt t i) n map ≡ set map (first cellRule (recordAt t i)) n = rw (eqb-ne n 0 e) in
-        subst (λ (s : Words). Known t s (i + 1)) (sym is) (here e)
+    go : Dec (first cellRule r ≤ u) → Dec (u < first cellRule r + n)
+        → (j : ℕ) × (j < i + 1) × (covers cellRule u (recordAt t j) ≡ true)
+    go (yes low) (yes high) =
+        let (fit, long) = live-row W next r n (λ e. omega arith) ok units in
+        (i, omega arith, covers-in cellRule u r (fit .live) low (omega (arith, past-is r)))
+    go (yes low) (no high) = older (λ x y. high y)
+    go (no low) q = older (λ x y. low x)
 
 module _ {W next : ℕ} {t : Words} {m : ℕ} where
   pub map-start : (map seen : Words) → all isZero map ≡ true → Mapping W next t m map seen 0 0
@@ -100,17 +99,16 @@ module _ {W next : ℕ} {t : Words} {m : ℕ} where
   }
 
   pub map-next : {map seen : Words} {held i : ℕ} (n : ℕ) (map′ seen′ : Words) → Mapping W next t m map seen held i
-      → i < slots t → n ≤ W → W ≤ 16384 → W ≤ 2 * length map → Joins cellRule W next t i n
-      → Noted m seen′ t (i + 1)
-      → map′ ≡ noted cellRule (recordAt t i) n map → Mapping W next t m map′ seen′ (held + n) (i + 1)
-  map-next {map} {held = held} {i} n map′ seen′ c l few most h joins residues e =
+      → i < slots t → n ≤ W → W ≤ 16384 → Joins cellRule W next t i n → Noted m seen′ t (i + 1)
+      → Adds map map′ (first cellRule (recordAt t i)) n → Mapping W next t m map′ seen′ (held + n) (i + 1)
+  map-next {map} {held = held} {i} n map′ seen′ c l few most joins residues adds =
       let low = c .low in
       record {
         upto = omega arith;
         entered = enter-next cellRule W next t i held n (c .entered) joins;
         low = omega arith;
         residues = residues;
-        known = subst (λ (s : Words). Known t s (i + 1)) (sym e) (known-next W next t map i n h joins (c .known));
+        known = known-next W next t map map′ i n joins adds (c .known);
       }
 
   pub map-end : {map seen : Words} {held i : ℕ} → Mapping W next t m map seen held i → slots t ≤ i

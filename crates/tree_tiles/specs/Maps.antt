@@ -1,15 +1,13 @@
--- The map of a table's records: at a record's first unit its units, 0 elsewhere; and what the whole test says.
+-- The map of a table's records: at some units how many from there on are held; and what the whole test says.
 -- 01, "Stored form of the tree pool". Assumes nothing.
-use Prim.Native.Nat.{ℕ}
+use Prim.Native.Nat.{ℕ, _+_, _≤_, _<_}
 use mathlib.Core.Path.{_≡_}
-use mathlib.Core.Bool.{true, cond}
-use lib.Dec.{eqb}
-use lib.ListN.{length, getD, set}
+use mathlib.Core.Bool.{true}
+use lib.ListN.{length, getD}
 use Rattle.words.specs.Lists.{Words}
-use Rattle.ledger.specs.declared.Row.{Row}
 use Rattle.ledger.specs.declared.Rule.{Rule}
 use Rattle.ledger.specs.Records.{recordsOf, slots}
-use Rattle.ledger.specs.Units.{first, valid}
+use Rattle.ledger.specs.Units.{valid}
 use Rattle.stored_forms.specs.Tree.{link, formOne, formRule, freeTree}
 use Rattle.stored_forms.specs.Blocks.{Holds}
 use Rattle.tiling.specs.Tiles.{Entered, Spans}
@@ -22,9 +20,10 @@ cellRule = record { unit = 2; lead = 0 }
 abbrev pub spanAt : Words → ℕ → ℕ
 spanAt map k = getD map k 0
 
--- the map with n at the first unit of a record, as it was for n = 0
-abbrev pub noted : Rule → Row → ℕ → Words → Words
-noted ρ r n map = cond (eqb n 0) map (set map (first ρ r) n)
+-- what the second map says is held and the first does not lies among the n units from unit lo on
+abbrev pub Adds : Words → Words → ℕ → ℕ → Type 0
+Adds map map′ lo n =
+    (k u : ℕ) → k ≤ u → u < k + spanAt map′ k → (lo ≤ u → u < lo + n → ⊥) → u < k + spanAt map k
 
 -- all slots are entered, with so many units together, and the map knows only of units that are held
 pub record Mapped (W next : ℕ) (t : Words) (held : ℕ) (map : Words) : Type 0 where

@@ -8,19 +8,19 @@ use ledger::Rule;
 ghost use mathlib.Core.Path.{_≡_};
 ghost use mathlib.Core.Bool.{true, false};
 ghost use mathlib.Core.Logic.{_≢_};
-ghost use Prim.Native.Nat.{_*_, _<_, _≤_};
+ghost use Prim.Native.Nat.{_+_, _*_, _<_, _≤_};
 ghost use lib.ListN.{length};
 ghost use Rattle.words.specs.Lists.{all, isZero};
 ghost use Rattle.ledger.specs.Records.{slots};
 ghost use Rattle.ledger.specs.Units.{first};
 ghost use Rattle.tiling.specs.Tiles.{Paved};
-ghost use Rattle.tree_tiles.specs.Maps.{spanAt, noted, Mapped, Shown};
+ghost use Rattle.tree_tiles.specs.Maps.{spanAt, Adds, Mapped, Shown};
 ghost use Rattle.tree_tiles.specs.Lay.{Ready, right, Placed, Walked};
 
-// ---- the map, which has at a record's first unit its units, 0 elsewhere
+// ---- the map, which has at some units how many from there on one record holds, 0 elsewhere
 
 // Whether records lead from unit lo to unit hi, without a unit left over.
-fn is_paved(map: &[u16], lo: usize, hi: usize) -> bool
+fn is_paved(map: &[u8], lo: usize, hi: usize) -> bool
     requires { ⌜ hi ≤ length (now map) ⌝ }
     ensures { λ b. ⌜ (b ≡ true → (lo ≤ hi) × Paved (spanAt (now (map .entry))) lo hi) ⌝ }
 {
@@ -35,16 +35,31 @@ fn is_paved(map: &[u16], lo: usize, hi: usize) -> bool
     k == hi
 }
 
-// Writes a record's units at its first unit. An empty record has none, though its address is unit 0's.
-fn note_row(map: &mut [u16], rule: Rule, r: Row, n: usize)
-    requires { ⌜ (0 < rule .unit) × (n < 65536) × (n ≢ 0 → first rule r < length (now map)) ⌝ }
-    ensures { λ _. ⌜ now (map .exit) ≡ noted rule r n (now (map .entry)) ⌝ }
+// Writes that n units from unit lo on are held. A byte counts no more than 255, so that the map is small; a longer
+// record stands in it several times.
+fn note_span(map: &mut [u8], lo: usize, n: usize)
+    requires { ⌜ (0 < n) × (lo + n ≤ length (now map)) ⌝ }
+    ensures { λ _. ⌜ Adds (now (map .entry)) (now (map .exit)) lo n ⌝ }
+{
+    let mut at = lo;
+    let mut left = n;
+    while 255 < left {
+        map[at] = 255;
+        at += 255;
+        left -= 255;
+    }
+    map[at] = left as u8;
+}
+
+// The same for a record of n units. An empty one has none, though its address is unit 0's.
+fn note_row(map: &mut [u8], rule: Rule, r: Row, n: usize)
+    requires { ⌜ (0 < rule .unit) × (n ≢ 0 → first rule r + n ≤ length (now map)) ⌝ }
+    ensures { λ _. ⌜ Adds (now (map .entry)) (now (map .exit)) (first rule r) n ⌝ }
 {
     if n == 0 {
         return;
     }
-    let at = record_table::first_unit(rule, r);
-    map[at] = n as u16;
+    note_span(map, record_table::first_unit(rule, r), n);
 }
 
 // Enters all slots, and the records in a map that is all zero. Their units together, or more than the arena's words if
@@ -53,7 +68,7 @@ fn map_rows(
     next: u32,
     table: &[u32],
     words: usize,
-    map: &mut [u16],
+    map: &mut [u8],
     seen: &mut [u8],
     m: usize,
 ) -> usize
@@ -115,7 +130,7 @@ fn stopped(left: usize) -> Laid
 // with zeros behind its two words. Free blocks that touch are none, but nothing lies before unit 0.
 fn node_ok(
     arena: &[u32],
-    map: &[u16],
+    map: &[u8],
     units: usize,
     k: usize,
     limit: usize,
@@ -149,7 +164,7 @@ fn node_ok(
 // to the right, and only a left part that is there costs a call.
 fn walk(
     arena: &[u32],
-    map: &[u16],
+    map: &[u8],
     units: usize,
     link: usize,
     limit: usize,
@@ -206,7 +221,7 @@ fn is_tiled_over(
     next: u32,
     arena: &[u32],
     table: &[u32],
-    map: &mut [u16],
+    map: &mut [u8],
     seen: &mut [u8],
     m: usize,
 ) -> bool
@@ -233,7 +248,7 @@ fn is_tiled_over(
 }
 
 // The residues and the map are wiped whole, so that a small pool gets small ones.
-fn is_tiled_few(root: u32, next: u32, arena: &[u32], table: &[u32], map: &mut [u16]) -> bool
+fn is_tiled_few(root: u32, next: u32, arena: &[u32], table: &[u32], map: &mut [u8]) -> bool
     requires { ⌜ (length (now arena) ≤ 16384) × (slots (now table) ≤ 256) ⌝ }
     requires { ⌜ (length (now arena) ≤ 2 * length (now map)) × (all isZero (now map) ≡ true) ⌝ }
     ensures { λ r. ⌜ (r ≡ true → Shown root next (now (arena .entry)) (now (table .entry))) ⌝ }
@@ -242,7 +257,7 @@ fn is_tiled_few(root: u32, next: u32, arena: &[u32], table: &[u32], map: &mut [u
     is_tiled_over(root, next, arena, table, &mut *map, &mut seen, 128)
 }
 
-fn is_tiled_many(root: u32, next: u32, arena: &[u32], table: &[u32], map: &mut [u16]) -> bool
+fn is_tiled_many(root: u32, next: u32, arena: &[u32], table: &[u32], map: &mut [u8]) -> bool
     requires { ⌜ (length (now arena) ≤ 16384) × (slots (now table) ≤ 256) ⌝ }
     requires { ⌜ (length (now arena) ≤ 2 * length (now map)) × (all isZero (now map) ≡ true) ⌝ }
     ensures { λ r. ⌜ (r ≡ true → Shown root next (now (arena .entry)) (now (table .entry))) ⌝ }
@@ -251,7 +266,7 @@ fn is_tiled_many(root: u32, next: u32, arena: &[u32], table: &[u32], map: &mut [
     is_tiled_over(root, next, arena, table, &mut *map, &mut seen, 2048)
 }
 
-fn is_tiled_by(root: u32, next: u32, arena: &[u32], table: &[u32], map: &mut [u16]) -> bool
+fn is_tiled_by(root: u32, next: u32, arena: &[u32], table: &[u32], map: &mut [u8]) -> bool
     requires { ⌜ (length (now arena) ≤ 16384) × (slots (now table) ≤ 256) ⌝ }
     requires { ⌜ (length (now arena) ≤ 2 * length (now map)) × (all isZero (now map) ≡ true) ⌝ }
     ensures { λ r. ⌜ (r ≡ true → Shown root next (now (arena .entry)) (now (table .entry))) ⌝ }
@@ -266,23 +281,15 @@ fn is_tiled_64(root: u32, next: u32, arena: &[u32], table: &[u32]) -> bool
     requires { ⌜ (length (now arena) ≤ 128) × (slots (now table) ≤ 256) ⌝ }
     ensures { λ r. ⌜ (r ≡ true → Shown root next (now (arena .entry)) (now (table .entry))) ⌝ }
 {
-    let mut map: [u16; 64] = [0; 64];
+    let mut map: [u8; 64] = [0; 64];
     is_tiled_by(root, next, arena, table, &mut map)
 }
 
-fn is_tiled_256(root: u32, next: u32, arena: &[u32], table: &[u32]) -> bool
-    requires { ⌜ (length (now arena) ≤ 512) × (slots (now table) ≤ 256) ⌝ }
+fn is_tiled_512(root: u32, next: u32, arena: &[u32], table: &[u32]) -> bool
+    requires { ⌜ (length (now arena) ≤ 1024) × (slots (now table) ≤ 256) ⌝ }
     ensures { λ r. ⌜ (r ≡ true → Shown root next (now (arena .entry)) (now (table .entry))) ⌝ }
 {
-    let mut map: [u16; 256] = [0; 256];
-    is_tiled_by(root, next, arena, table, &mut map)
-}
-
-fn is_tiled_1024(root: u32, next: u32, arena: &[u32], table: &[u32]) -> bool
-    requires { ⌜ (length (now arena) ≤ 2048) × (slots (now table) ≤ 256) ⌝ }
-    ensures { λ r. ⌜ (r ≡ true → Shown root next (now (arena .entry)) (now (table .entry))) ⌝ }
-{
-    let mut map: [u16; 1024] = [0; 1024];
+    let mut map: [u8; 512] = [0; 512];
     is_tiled_by(root, next, arena, table, &mut map)
 }
 
@@ -290,15 +297,7 @@ fn is_tiled_2048(root: u32, next: u32, arena: &[u32], table: &[u32]) -> bool
     requires { ⌜ (length (now arena) ≤ 4096) × (slots (now table) ≤ 256) ⌝ }
     ensures { λ r. ⌜ (r ≡ true → Shown root next (now (arena .entry)) (now (table .entry))) ⌝ }
 {
-    let mut map: [u16; 2048] = [0; 2048];
-    is_tiled_by(root, next, arena, table, &mut map)
-}
-
-fn is_tiled_4096(root: u32, next: u32, arena: &[u32], table: &[u32]) -> bool
-    requires { ⌜ (length (now arena) ≤ 8192) × (slots (now table) ≤ 256) ⌝ }
-    ensures { λ r. ⌜ (r ≡ true → Shown root next (now (arena .entry)) (now (table .entry))) ⌝ }
-{
-    let mut map: [u16; 4096] = [0; 4096];
+    let mut map: [u8; 2048] = [0; 2048];
     is_tiled_by(root, next, arena, table, &mut map)
 }
 
@@ -306,7 +305,7 @@ fn is_tiled_8192(root: u32, next: u32, arena: &[u32], table: &[u32]) -> bool
     requires { ⌜ (length (now arena) ≤ 16384) × (slots (now table) ≤ 256) ⌝ }
     ensures { λ r. ⌜ (r ≡ true → Shown root next (now (arena .entry)) (now (table .entry))) ⌝ }
 {
-    let mut map: [u16; 8192] = [0; 8192];
+    let mut map: [u8; 8192] = [0; 8192];
     is_tiled_by(root, next, arena, table, &mut map)
 }
 
@@ -320,17 +319,11 @@ pub fn is_tiled(root: u32, next: u32, arena: &[u32], table: &[u32]) -> bool
     if words <= 128 {
         return is_tiled_64(root, next, arena, table);
     }
-    if words <= 512 {
-        return is_tiled_256(root, next, arena, table);
-    }
-    if words <= 2048 {
-        return is_tiled_1024(root, next, arena, table);
+    if words <= 1024 {
+        return is_tiled_512(root, next, arena, table);
     }
     if words <= 4096 {
         return is_tiled_2048(root, next, arena, table);
-    }
-    if words <= 8192 {
-        return is_tiled_4096(root, next, arena, table);
     }
     is_tiled_8192(root, next, arena, table)
 }

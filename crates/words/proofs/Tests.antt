@@ -1,10 +1,12 @@
 -- Laws of tests: what a Bool says, and what a comparison of numbers says. Assumes nothing.
 use Prim.Native.Nat.{ℕ, _≤_, _<_}
+use native.Mathlib.Decide.{ℕ-discrete}
 use native.Mathlib.Omega.{arith}
-use mathlib.Core.Path.{_≡_, refl, sym}
+use mathlib.Core.Path.{_≡_, refl, sym, ap, _∙_}
 use mathlib.Core.Logic.{_≢_}
 use mathlib.Core.Bool.{Bool, true, false, not, _&&_, _||_, false≢true, true≢false, and-false, or-true}
 use mathlib.Core.Option.{none, some}
+use lib.Bits.{bitOr, or-zero-l, or-add-and, and-le-r}
 use lib.Dec.{T, eqb, leb, ltb}
 use borrow.Author.Tests as author
 use Rattle.words.specs.Counted.{within}
@@ -102,6 +104,16 @@ of-gt m n h = author.lt-leb m n h
 
 pub of-ge : (m n : ℕ) → n ≤ m → ltb m n ≡ false
 of-ge m n h = author.le-ltb m n h
+
+-- two numbers have no bit between them if both are 0
+pub or-none : (a b : ℕ) → eqb (bitOr a b) 0 ≡ (eqb a 0 && eqb b 0)
+or-none a b = go (ℕ-discrete a 0)
+  where
+    go : Dec (a ≡ 0) → eqb (bitOr a b) 0 ≡ (eqb a 0 && eqb b 0)
+    go (yes e) = rw e (ap (λ n. eqb n 0) (or-zero-l b))
+    go (no h) =
+        eqb-ne (bitOr a b) 0 (λ e. h (omega (arith, or-add-and a b, and-le-r a b)))
+        ∙ ap (λ (x : Bool). x && eqb b 0) (sym (eqb-ne a 0 h))
 
 -- ---- ranges
 

@@ -60,18 +60,19 @@ pub fn fill_part_bytes(s: &mut [u8], lo: usize, hi: usize)
     }
 }
 
-// Whether the words from lo up to hi are 0. The loop has no way out, so that the machine reads many words at a time.
+// Whether the words from lo up to hi are 0. The loop gathers all their bits and has no way out, so that the machine
+// reads many words at a time.
 fn zero_block(s: &[u32], lo: usize, hi: usize) -> bool
     requires { ⌜ (lo ≤ hi) × (hi ≤ length (now s)) ⌝ }
     ensures { λ r. ⌜ r ≡ every (zeroAt (now (s .entry))) lo (hi - lo) ⌝ }
 {
-    let mut clear = true;
+    let mut any: u32 = 0;
     let mut i = lo;
     while i < hi {
-        clear = clear & (s[i] == 0);
+        any = any | s[i];
         i += 1;
     }
-    clear
+    any == 0
 }
 
 // Whether the words from lo up to hi are 0. After each block of 256 words the answer may be known.
@@ -102,13 +103,13 @@ fn zero_block_signed(s: &[i32], lo: usize, hi: usize) -> bool
     requires { ⌜ (lo ≤ hi) × (hi ≤ length (now s)) ⌝ }
     ensures { λ r. ⌜ r ≡ every (zeroAtZ (now (s .entry))) lo (hi - lo) ⌝ }
 {
-    let mut clear = true;
+    let mut any: i32 = 0;
     let mut i = lo;
     while i < hi {
-        clear = clear & (s[i] == 0);
+        any = any | s[i];
         i += 1;
     }
-    clear
+    any == 0
 }
 
 pub fn zero_part_signed(s: &[i32], lo: usize, hi: usize) -> bool

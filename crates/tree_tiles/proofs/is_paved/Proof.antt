@@ -20,9 +20,6 @@ abbrev μ-loop : tie.MeasureT-loop
 loop-holds : tie.Need-loop-holds Inv-loop μ-loop
 loop-holds c = (omega arith, paved-none _ _)
 
-mul-n : tie.Need-mul-n Inv-loop μ-loop
-mul-n c = search needs
-
 shared-slice-read-n : tie.Need-shared-slice-read-n Inv-loop μ-loop
 shared-slice-read-n c = search needs
 
@@ -55,7 +52,6 @@ is-paved-spec =
     Inv-loop
     μ-loop
     loop-holds
-    mul-n
     shared-slice-read-n
     cast-n
     returns

@@ -2,13 +2,14 @@
 -- nothing.
 use Prim.Native.Nat.{_-_}
 use native.Mathlib.Omega.{arith}
-use mathlib.Core.Path.{_≡_, _∙_, refl, ap}
+use mathlib.Core.Path.{_≡_, _∙_, refl, subst}
 use denote.Ref.{now}
 use lib.ListN.{length}
 use Rattle.ledger.specs.Records.{slots}
 use Rattle.ledger.specs.declared.Row.{Row}
-use Rattle.tree_tiles.specs.Maps.{cellRule, noted}
-use Rattle.tree_tiles.proofs.MapLaws.{Mapping, map-start, map-next, map-end, place-inside}
+use Rattle.ledger.specs.Units.{first}
+use Rattle.tree_tiles.specs.Maps.{cellRule, Adds}
+use Rattle.tree_tiles.proofs.MapLaws.{Mapping, map-start, map-next, map-end, units-inside}
 use Rattle.tree_tiles.proofs.map_rows.Statement.{statement}
 use Rattle.tree_tiles.proofs.map_rows.Tie as tie
 
@@ -60,8 +61,7 @@ note-row-requires c κs =
     let few = c .before .before .if1 .left in
     let joins = u .enter-row .ensures few .0 in (
       omega arith,
-      omega arith,
-      λ e. rw (c .read-row .ensures) (place-inside (s .args .words) (s .args .next) _ _ e (joins .0) (joins .2) (l .map)
+      λ e. rw (c .read-row .ensures) (units-inside (s .args .words) (s .args .next) _ _ e (joins .0) (joins .2) (l .map)
           (omega arith)),
     )
 
@@ -101,9 +101,9 @@ loop-again c =
       n .note-row .kept .0 ∙ l .inv .0,
       u .enter-row .kept .1 .1 .1 .1 .1 .0 ∙ l .inv .1,
       map-next (u .enter-row .result) (n .note-row .last .0) (u .enter-row .last .1 .1 .1 .1 .1 .0) (l .inv .2)
-          (omega (arith, t .loop-test .taken)) few (omega arith) (omega arith) joins residues
-          (n .note-row .ensures
-          ∙ ap (λ (x : Row). noted cellRule x (u .enter-row .result) (l .map)) (r .read-row .ensures)),
+          (omega (arith, t .loop-test .taken)) few (omega arith) joins residues
+          (subst (λ (x : Row). Adds (l .map) (n .note-row .last .0) (first cellRule x) (u .enter-row .result))
+          (r .read-row .ensures) (n .note-row .ensures)),
     )
 
 same-length-3 : tie.Need-same-length-3 Inv-loop μ-loop

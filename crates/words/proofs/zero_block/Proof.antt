@@ -1,30 +1,32 @@
--- `words::zero_block` meets its contract. Its invariant: the flag and the test of what is left make the answer.
+-- `words::zero_block` meets its contract. Its invariant: the bits so far and the test of what is left make the answer.
 -- Assumes nothing.
 use Prim.Native.Nat.{_≤_, _-_}
 use mathlib.Core.Path.{_≡_, refl}
 use mathlib.Core.Bool.{_&&_}
 use borrow.Author.Needs.{needs}
+use lib.Dec.{eqb}
 use Rattle.words.specs.Lists.{zeroAt}
 use Rattle.words.specs.Counted.{every}
 use Rattle.words.proofs.CountedLaws.{flag-next, flag-end}
+use Rattle.words.proofs.Tests.{or-none}
 use Rattle.words.proofs.zero_block.Statement.{statement}
 use Rattle.words.proofs.zero_block.Tie as tie
 
 abbrev Inv-loop : tie.InvT-loop
-Inv-loop s lo hi clear₀ i₀ clear i =
-    (lo ≤ i) × (i ≤ hi) × ((clear && every (zeroAt s) i (hi - i)) ≡ every (zeroAt s) lo (hi - lo))
+Inv-loop s lo hi any₀ i₀ any i =
+    (lo ≤ i) × (i ≤ hi) × ((eqb any 0 && every (zeroAt s) i (hi - i)) ≡ every (zeroAt s) lo (hi - lo))
 
 abbrev μ-loop : tie.MeasureT-loop
-μ-loop s lo hi clear₀ i₀ clear i = hi - i
+μ-loop s lo hi any₀ i₀ any i = hi - i
 
 loop-holds : tie.Need-loop-holds Inv-loop μ-loop
 loop-holds c = (search needs, search needs, refl)
 
-mul-clear : tie.Need-mul-clear Inv-loop μ-loop
-mul-clear c = search needs
+mul-any : tie.Need-mul-any Inv-loop μ-loop
+mul-any c = search needs
 
-shared-slice-read-clear : tie.Need-shared-slice-read-clear Inv-loop μ-loop
-shared-slice-read-clear c = search needs
+shared-slice-read-any : tie.Need-shared-slice-read-any Inv-loop μ-loop
+shared-slice-read-any c = search needs
 
 add-i : tie.Need-add-i Inv-loop μ-loop
 add-i c = search needs
@@ -33,7 +35,7 @@ loop-less : tie.Need-loop-less Inv-loop μ-loop
 loop-less c = search needs
 
 loop-again : tie.Need-loop-again Inv-loop μ-loop
-loop-again c = search (needs, flag-next)
+loop-again c = search (needs, flag-next, or-none)
 
 returns : tie.Need-returns Inv-loop μ-loop
 returns c = search (needs, flag-end)
@@ -41,4 +43,4 @@ returns c = search (needs, flag-end)
 pub zero-block-spec : {M : Type 1} → statement M
 zero-block-spec =
     tie.close
-    (tie.spec Inv-loop μ-loop loop-holds mul-clear shared-slice-read-clear add-i loop-less loop-again returns)
+    (tie.spec Inv-loop μ-loop loop-holds mul-any shared-slice-read-any add-i loop-less loop-again returns)

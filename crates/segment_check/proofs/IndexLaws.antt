@@ -17,7 +17,7 @@ use Rattle.segment_index.specs.Tree.{Heap}
 use Rattle.segment_index.proofs.IndexLaws.{index-is, index-zero, index-heap, index-agrees}
 use Rattle.segment_blocks.specs.Upkeep.{Ground}
 use Rattle.segment_blocks.proofs.UpkeepLaws.{sizes-some}
-use Rattle.segment_check.specs.Right.{Says, nodeRight, segmentRight}
+use Rattle.segment_check.specs.Right.{Says, nodeRight, treeRight, segmentRight}
 
 -- a segment's test
 segment-from : (c : ℕ → ℤ) (W s : ℕ) (t : Words) (k : ℕ) → segmentRight c W s t k ≡ true → Agree c W s t k
@@ -49,12 +49,11 @@ module _ (v : List ℤ) (c : ℕ → ℤ) (s g : ℕ) (t : Words) (G : Ground v 
   some : 0 < s
   some = sizes-some W s g (G .sizes)
 
-  pub index-says : (x y z : Bool) → x ≡ eqb (getD t 0 0) 0 → y ≡ every (nodeRight t) 1 (s - 1)
-      → z ≡ every (segmentRight c W s t) 0 s → Says ((x && y) && z) (t ≡ indexOf c W s)
-  index-says x y z p q r = rw (p, q, r) (from, to)
+  pub index-says : (x y : Bool) → x ≡ treeRight t s → y ≡ every (segmentRight c W s t) 0 s
+      → Says (x && y) (t ≡ indexOf c W s)
+  index-says x y p q = rw (p, q) (from, to)
     where
-      from : ((eqb (getD t 0 0) 0 && every (nodeRight t) 1 (s - 1)) && every (segmentRight c W s t) 0 s) ≡ true
-          → t ≡ indexOf c W s
+      from : (treeRight t s && every (segmentRight c W s t) 0 s) ≡ true → t ≡ indexOf c W s
       from h =
           let a = eqb (getD t 0 0) 0 in
           let b = every (nodeRight t) 1 (s - 1) in
@@ -69,12 +68,11 @@ module _ (v : List ℤ) (c : ℕ → ℤ) (s g : ℕ) (t : Words) (G : Ground v 
           })
           (λ k l. segment-from c W s t k (seg k (omega arith) (omega arith)))
 
-      to : t ≡ indexOf c W s → ((eqb (getD t 0 0) 0 && every (nodeRight t) 1 (s - 1)) && every (segmentRight c W s t)
-          0 s) ≡ true
+      to : t ≡ indexOf c W s → (treeRight t s && every (segmentRight c W s t) 0 s) ≡ true
       to e =
           let heap : Heap s t = rw e (index-heap c W s (G .sizes .power)) in
           let first : getD t 0 0 ≡ 0 = rw e (index-zero c W s some) in
-          and-i (eqb (getD t 0 0) 0 && every (nodeRight t) 1 (s - 1)) (every (segmentRight c W s t) 0 s)
+          and-i (treeRight t s) (every (segmentRight c W s t) 0 s)
           (and-i (eqb (getD t 0 0) 0) (every (nodeRight t) 1 (s - 1)) (rw first)
           (every-of (nodeRight t) 1 (s - 1)
           (λ i a b. rw (heap .node i a (omega arith)) (eqb-same (max (getD t (2 * i) 0) (getD t (2 * i + 1) 0))))))

@@ -67,6 +67,10 @@ pub record Mapped (v : List ℤ) (m table : Words) : Type 0 where
 abbrev pub nodeRight : Words → ℕ → Bool
 nodeRight t i = eqb (getD t i 0) (max (getD t (2 * i) 0) (getD t (2 * i + 1) 0))
 
+-- word 0, and the inner words
+abbrev pub treeRight : Words → ℕ → Bool
+treeRight t s = eqb (getD t 0 0) 0 && every (nodeRight t) 1 (s - 1)
+
 -- the two words of segment k are these
 abbrev pub twoRight : Words → ℕ → ℕ → ℕ → ℕ → Bool
 twoRight t s k most first = eqb most (getD t (s + k) 0) && eqb first (getD t (2 * s + k) 0)

@@ -24,7 +24,7 @@ ghost use Rattle.segment_index.specs.Index.{indexOf};
 ghost use Rattle.segment_blocks.specs.Upkeep.{Ground};
 ghost use Rattle.segment_places.specs.Stores.{arenaOf};
 ghost use Rattle.segment_check.specs.Right.{Says, heldRight, freeRight, runRight, Alike, Skips, Mapped};
-ghost use Rattle.segment_check.specs.Right.{nodeRight, twoRight, segmentRight, Measured, Laid};
+ghost use Rattle.segment_check.specs.Right.{nodeRight, treeRight, twoRight, segmentRight, Measured, Laid};
 
 // ---- the arena
 
@@ -157,8 +157,16 @@ fn nodes_right(t: &[u32], s: usize) -> bool
     ok
 }
 
+// The words above the segments': word 0, and each inner one.
+pub fn tree_right(t: &[u32], s: usize) -> bool
+    requires { ⌜ (0 < s) × (2 * s ≤ length (now t)) ⌝ }
+    ensures { λ r. ⌜ r ≡ treeRight (now (t .entry)) s ⌝ }
+{
+    (t[0] == 0) & nodes_right(t, s)
+}
+
 // The two words of segment k.
-fn segment_right(t: &[u32], s: usize, k: usize, most: u32, first: u32) -> bool
+pub fn segment_right(t: &[u32], s: usize, k: usize, most: u32, first: u32) -> bool
     requires { ⌜ (k < s) × (length (now t) ≡ 3 * s) ⌝ }
     ensures { λ r. ⌜ r ≡ twoRight (now (t .entry)) s k most first ⌝ }
 {
@@ -198,11 +206,11 @@ fn index_right(v: &[i32], t: &[u32], s: usize, g: usize) -> bool
         → Says r (now (t .entry) ≡ indexOf c (length (now (v .entry))) s))
         ⌝ }
 {
-    (t[0] == 0) & nodes_right(t, s) & segments_right(v, t, s, g)
+    tree_right(t, s) & segments_right(v, t, s, g)
 }
 
 // Whether the index is that of the ledger whose stored form the arena is.
-pub fn index_stored(v: &[i32], t: &[u32], s: usize, g: usize) -> bool
+fn index_stored(v: &[i32], t: &[u32], s: usize, g: usize) -> bool
     requires { ⌜ ((L : Ledger) × (next : ℕ) × Laid (now v) L next) ⌝ }
     requires { ⌜ Measured (now v) (now t) s g ⌝ }
     ensures { λ r. ⌜

@@ -63,6 +63,13 @@ pub power-pos : (S : ℕ) → isPower S depth ≡ true → 0 < S
 power-pos zero e = absurd (false≢true e)
 power-pos (suc S) e = omega arith
 
+pub measured : {S : ℕ} {v : List ℤ} {t x : Words} → InRange S v t x → (g : ℕ) → g ≡ segmentSize (length v) S
+    → Measured v x S g
+measured fit g is = record {
+  sizes = record { power = fit .power; words = omega (arith, fit .some); most = fit .most; each = is };
+  long = fit .indexed;
+}
+
 -- ---- the words
 
 abbrev Below : List ℤ → ℕ → Type 0
@@ -103,12 +110,6 @@ module _ {S next : ℕ} {v : List ℤ} {t x : Words} (k : Valid S next v t x) wh
   abbrev p : Pool
   p = segmentPool S next v t x
 
-  pub measured : Measured v x S (segmentSize (length v) S)
-  measured = record {
-    sizes = record { power = k .fit .power; words = omega (arith, k .fit .some); most = k .fit .most; each = refl };
-    long = k .fit .indexed;
-  }
-
   -- arena and index of the ledger
   abbrev Right : Type 0
   Right = (v ≡ arenaOf L v) × (x ≡ segmentIndex S (length v) L)
@@ -130,12 +131,6 @@ module _ {S next : ℕ} {v : List ℤ} {t x : Words} (k : Valid S next v t x) wh
         index = index i;
       }
 
-  store-index : p ≡ store segmentEngine L next p → x ≡ segmentIndex S (length v) L
-  unfolding store segmentEngine
-  store-index e =
-      let n : length (asWords v) ≡ length v = length-map v (ofZ w32) in
-      ap (λ (q : Pool). q .index) e ∙ ap (λ m. segmentIndex S m L) n
-
   store-right : Ranged v → p ≡ store segmentEngine L next p → Right
   unfolding store segmentEngine
   store-right fits e =
@@ -143,7 +138,7 @@ module _ {S next : ℕ} {v : List ℤ} {t x : Words} (k : Valid S next v t x) wh
         words-arena next L v (k .good) (k .fit .most) fits
             (ap (λ (q : Pool). q .arena) e
             ∙ ap (λ m. stamp (owned segmentRule L) (segmentWord m L) (asWords v)) n),
-        store-index e,
+        ap (λ (q : Pool). q .index) e ∙ ap (λ m. segmentIndex S m L) n,
       )
 
   stored-same : stored segmentEngine p ≡ samePool p (store segmentEngine L next p)
@@ -163,10 +158,8 @@ module _ {S next : ℕ} {v : List ℤ} {t x : Words} (k : Valid S next v t x) wh
   pub stored-is : Ranged v → (r : Bool) → Says r Right → r ≡ stored segmentEngine (segmentPool S next v t x)
   stored-is fits r says = stored-by r (says .0) (λ e. says .1 (store-right fits e))
 
-  -- where the arena is right, the index decides
-  pub stored-index : v ≡ arenaOf L v → (r : Bool) → Says r (x ≡ segmentIndex S (length v) L)
-      → r ≡ stored segmentEngine (segmentPool S next v t x)
-  stored-index right r says = stored-by r (λ e. (right, says .0 e)) (λ e. says .1 (store-index e))
+  pub right-stored : Right → true ≡ stored segmentEngine (segmentPool S next v t x)
+  right-stored h = stored-by true (λ e. h) (λ e. refl)
 
 -- and free units that are those of the map
 pub record Checked (S next : ℕ) (v : List ℤ) (t x used : Words) : Type 0 where

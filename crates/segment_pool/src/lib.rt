@@ -95,16 +95,16 @@ fn is_stored_marked(s: u32, next: u32, arena: &[i32], table: &[u32], index: &[u3
     is_stored_over(s, next, arena, table, index, &mut used)
 }
 
-// Whether head and lent memory are the stored form of a ledger. Blocks that lie side by side are found quickly, and
-// then the index decides; only where they don't is every unit marked.
+// Whether head and lent memory are the stored form of a ledger. Where blocks lie side by side and the index is theirs,
+// that is found quickly; only where not is every unit marked.
 fn is_stored(s: u32, next: u32, arena: &[i32], table: &[u32], index: &[u32]) -> bool
     requires { ⌜ lengths segmentEngine (segmentPool s next (now arena) (now table) (now index)) ≡ true ⌝ }
     ensures { λ r. ⌜ r
         ≡ stored segmentEngine (segmentPool s next (now (arena .entry)) (now (table .entry)) (now (index .entry))) ⌝ }
 {
-    if segment_tiles::is_tiled(next, arena, table) {
-        let g = segment_index::segment_size(arena.len(), s as usize);
-        return segment_check::index_stored(arena, index, s as usize, g);
+    let g = segment_index::segment_size(arena.len(), s as usize);
+    if segment_tiles::is_tiled(next, arena, table, index, s as usize, g) {
+        return true;
     }
     is_stored_marked(s, next, arena, table, index)
 }

@@ -1,10 +1,10 @@
 -- Laws of records that are entered with the first words of their blocks set in a map; and of the blocks that lie side
--- by side then: they are a valid ledger, stored in the arena. Assumes nothing.
+-- by side then: they are a valid ledger, stored in arena and index. Assumes nothing.
 use Prim.Native.Nat.{ℕ, _+_, _-_, _≤_, _<_}
 use native.Mathlib.Decide.{ℕ-discrete}
 use native.Mathlib.Nat.{div-one}
 use native.Mathlib.Omega.{arith}
-use mathlib.Core.Bool.{Bool, true, false, cond}
+use mathlib.Core.Bool.{Bool, true, false, cond, _&&_}
 use mathlib.Core.List.{List}
 use mathlib.Core.Logic.{_≢_}
 use mathlib.Core.Path.{_≡_, refl, sym, ap, _∙_}
@@ -24,12 +24,15 @@ use Rattle.record_table.proofs.PairLaws.{every-last}
 use Rattle.record_table.proofs.CheckLaws.{all-slots}
 use Rattle.segment_places.specs.Stores.{arenaOf}
 use Rattle.segment_places.proofs.UnitLaws.{span-words, address-after}
-use Rattle.segment_check.specs.Right.{heldRight}
+use Rattle.segment_places.proofs.ChangeLaws.{controls}
+use Rattle.segment_check.specs.Right.{heldRight, treeRight, Measured}
+use Rattle.segment_check.proofs.IndexLaws.{index-says}
+use Rattle.segment_check.proofs.PoolLaws.{laid-ground, index-laid}
 use Rattle.tiling.specs.Tiles.{Noted, Joins, Spans}
 use Rattle.tiling.proofs.EnterLaws.{enter-start, enter-next, noted-start}
 use Rattle.tiling.proofs.TileLaws.{held-by, tiled-valid}
 use Rattle.segment_tiles.specs.BitMaps.{bitAt}
-use Rattle.segment_tiles.specs.Laid.{heldFrom, Laid, Heads, Joined, Headed}
+use Rattle.segment_tiles.specs.Laid.{heldFrom, Laid, Matched, Heads, Joined, Headed, Stored}
 use Rattle.segment_tiles.proofs.BitLaws.{no-bit}
 use Rattle.segment_tiles.proofs.StoredLaws.{arena-tiled}
 
@@ -143,7 +146,7 @@ module _ (v : List ℤ) (next : ℕ) (t : Words) (m : ℕ) where
 
 -- ---- side by side
 
-pub tiles-right : (v : List ℤ) (next : ℕ) (t map seen : Words) (m held free′ : ℕ) (after : Bool)
+tiles-right : (v : List ℤ) (next : ℕ) (t map seen : Words) (m held free′ : ℕ) (after : Bool)
     → Headed v next t map seen m (slots t) held → Laid v map (length v) free′ after → free′ + held ≡ length v
     → (valid segmentRule (length v) next (recordsOf t) ≡ true) × (v ≡ arenaOf (recordsOf t) v)
 tiles-right v next t map seen m held free′ after H L exact =
@@ -155,3 +158,15 @@ tiles-right v next t map seen m held free′ after H L exact =
           head-spans v next t m map (H .heads) k u a b;
     }) (rw (div-one (length v)) (ap (λ s. s + held) (L .sum) ∙ exact)) in
     (good, arena-tiled v next t (L .runs) good (all-slots (heldRight v) t ∙ H .right) runs (L .words))
+
+-- and the index is theirs, if the words above the segments' are right too
+pub tiles-stored : (v : List ℤ) (next : ℕ) (t x map seen : Words) (m held free′ s g : ℕ) → Measured v x s g
+    → Headed v next t map seen m (slots t) held → Matched v map x s g free′ → free′ + held ≡ length v → (b : Bool)
+    → b ≡ treeRight x s → b ≡ true → Stored next v t x s
+tiles-stored v next t x map seen m held free′ s g Z H M exact b is ok =
+    let L = recordsOf t in
+    let laid = tiles-right v next t map seen m held free′ (M .after) H (M .laid) exact in
+    let ground = laid-ground v x s g Z L next laid in
+    let c = controls L (length v) in
+    let index = index-says v c s g x ground (Z .long) b true is (sym (M .right c ground)) in
+    (laid .0, laid .1, index-laid v x s g Z L next laid (b && true) index .0 (and-i b true ok refl))

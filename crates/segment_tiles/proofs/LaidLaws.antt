@@ -1,24 +1,26 @@
--- Laws of blocks that lie side by side: none yet, a free one more, a held one more. Assumes nothing.
+-- Laws of blocks that lie side by side: none yet, and one more, held or free. Assumes nothing.
 use Prim.Native.Nat.{ℕ, suc, _+_, _-_, _≤_, _<_}
-use native.Mathlib.Decide.{decLt}
+use native.Mathlib.Decide.{decLt, ℕ-discrete}
+use native.Mathlib.Nat.{add-zero}
 use native.Mathlib.Omega.{arith}
-use mathlib.Core.Bool.{Bool, true, false, true≢false}
+use mathlib.Core.Bool.{Bool, true, false, not, true≢false}
 use mathlib.Core.List.{List, [], _∷_, _++_}
+use mathlib.Core.Logic.{_≢_}
 use mathlib.Core.Path.{_≡_, refl, sym, ap, _∙_}
 use lib.Dec.{eqb}
-use lib.IntN.{ℤ, pos, natAbs}
+use lib.IntN.{ℤ, pos, negsuc, natAbs}
 use lib.ListN.{getD}
 use Rattle.words.specs.Lists.{Words, all}
 use Rattle.words.specs.Counted.{every, within}
 use Rattle.words.specs.Signed.{zeroAtZ}
-use Rattle.words.proofs.Tests.{and-l, and-r, and-i, or-l, or-r, eqb-same, lt-of, of-lt, of-gt, within-in}
+use Rattle.words.proofs.Tests.{and-l, and-r, and-i, or-l, or-r, eqb-same, eqb-ne, lt-of, of-lt, of-gt, within-in}
 use Rattle.words.proofs.ListLaws.{all-append}
 use Rattle.ledger.specs.Runs.{Run, run, Gapped, covered}
 use Rattle.control_words.specs.Control.{freeSize}
 use Rattle.segment_check.specs.Right.{runRight}
 use Rattle.tiling.specs.Tiles.{total}
 use Rattle.segment_tiles.specs.BitMaps.{bitAt}
-use Rattle.segment_tiles.specs.Laid.{heldFrom, blockRight, endsBefore, Laid}
+use Rattle.segment_tiles.specs.Laid.{heldFrom, blockRight, endsBefore, Laid, Block}
 
 -- ---- a list of runs with one more at its end
 
@@ -52,7 +54,17 @@ covered-last (q ∷ rs) r u h =
     let (a, b) = covered-last rs r u (or-r here (covered (rs ++ r ∷ []) u) h) in
     (rw (or-l here (covered (rs ++ r ∷ []) u) h) a, b)
 
--- ---- the loop
+-- ---- what a control word says is free
+
+pub free-most : (z : ℤ) → freeSize z ≤ natAbs z
+free-most (pos n) = omega arith
+free-most (negsuc n) = omega arith
+
+pub free-whole : (z : ℤ) → freeSize z ≢ 0 → freeSize z ≡ natAbs z
+free-whole (pos n) h = refl
+free-whole (negsuc n) h = absurd (h refl)
+
+-- ---- block after block
 
 module _ (v : List ℤ) (map : Words) where
   pub laid-start : Laid v map 0 0 false
@@ -67,7 +79,7 @@ module _ (v : List ℤ) (map : Words) where
 
   module _ (at free n : ℕ) (some : 0 < n) where
     -- a held block more
-    pub laid-held : (after : Bool) → Laid v map at free after → bitAt map at ≡ true
+    laid-held : (after : Bool) → Laid v map at free after → bitAt map at ≡ true
         → n ≡ natAbs (getD v at (pos 0)) → Laid v map (at + n) free false
     laid-held after L set size = record {
       runs = L .runs;
@@ -87,7 +99,7 @@ module _ (v : List ℤ) (map : Words) where
         go u l e (no h) = (at, omega arith, omega (arith, says))
 
     -- a free block more, not right after a free one
-    pub laid-free : Laid v map at free false → runRight v at (at + n) ≡ true → Laid v map (at + n) (free + n) true
+    laid-free : Laid v map at free false → runRight v at (at + n) ≡ true → Laid v map (at + n) (free + n) true
     laid-free L right = record {
       runs = L .runs ++ run at n ∷ [];
       gapped = gapped-last (L .runs) 0 at at n (L .gapped) (L .ends refl) (omega arith) (omega arith) some;
@@ -103,6 +115,18 @@ module _ (v : List ℤ) (map : Words) where
             → (k : ℕ) × (k ≤ u) × (u < k + heldFrom v map k)
         go u l (a, b) (yes h) = L .rest u h a
         go u l (a, b) (no h) = absurd (true≢false (sym (within-in at (at + n) u (omega arith) l) ∙ b))
+
+    -- a block more, of which f words are free
+    pub laid-block : (after : Bool) → Laid v map at free after → Block v map at after n → (f : ℕ)
+        → f ≡ freeSize (getD v at (pos 0)) → Laid v map (at + n) (free + f) (not (eqb f 0))
+    laid-block after L B f is = go (ℕ-discrete f 0)
+      where
+        go : Dec (f ≡ 0) → Laid v map (at + n) (free + f) (not (eqb f 0))
+        go (yes z) = rw (z, add-zero free) (laid-held after L (B .held (sym is ∙ z)) (B .size))
+        go (no z) =
+            let (first, right) = B .free (λ e. z (is ∙ e)) in
+            let whole : f ≡ n = is ∙ free-whole (getD v at (pos 0)) (λ e. z (is ∙ e)) ∙ sym (B .size) in
+            rw (eqb-ne f 0 z, whole) (laid-free (rw first at L) right)
 
 -- ---- a free block, by its tests
 

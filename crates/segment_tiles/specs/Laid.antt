@@ -1,8 +1,9 @@
 -- Blocks that lie side by side in the segment pool's arena, and the map of the words at which held ones begin: a bit
 -- for each word, set where a record's block begins. Assumes nothing.
-use Prim.Native.Nat.{ℕ, _+_, _≤_, _<_}
+use Prim.Native.Nat.{ℕ, _+_, _-_, _≤_, _<_}
 use mathlib.Core.Bool.{Bool, true, false, cond}
 use mathlib.Core.List.{List}
+use mathlib.Core.Logic.{_≢_}
 use mathlib.Core.Path.{_≡_}
 use lib.Dec.{ltb}
 use lib.IntN.{ℤ, pos, natAbs}
@@ -12,9 +13,12 @@ use Rattle.words.specs.Counted.{every}
 use Rattle.ledger.specs.Records.{recordAt, recordsOf, isEmpty}
 use Rattle.ledger.specs.Units.{first, valid}
 use Rattle.ledger.specs.Runs.{Run, Gapped, covered}
-use Rattle.stored_forms.specs.Segments.{segmentRule}
+use Rattle.stored_forms.specs.Segments.{segmentRule, segmentIndex, largest}
+use Rattle.control_words.specs.Control.{freeSize}
+use Rattle.segment_blocks.specs.Blocks.{Scan, Reaches}
+use Rattle.segment_blocks.specs.Upkeep.{Ground}
 use Rattle.segment_places.specs.Stores.{arenaOf}
-use Rattle.segment_check.specs.Right.{runRight, heldRight}
+use Rattle.segment_check.specs.Right.{runRight, heldRight, segmentRight}
 use Rattle.tiling.specs.Tiles.{Noted, Joins, Entered, total}
 use Rattle.segment_tiles.specs.BitMaps.{bitAt}
 
@@ -40,6 +44,38 @@ pub record Laid (v : List ℤ) (map : Words) (at free : ℕ) (after : Bool) : Ty
   pub words : all (blockRight v) runs ≡ true
   pub rest : (u : ℕ) → u < at → covered runs u ≡ false → (k : ℕ) × (k ≤ u) × (u < k + heldFrom v map k)
 
+-- ---- block after block
+
+-- a held block of n words begins at a word, where the map has a record's
+pub record HeldBlock (v : List ℤ) (map : Words) (at n : ℕ) : Type 0 where
+  pub size : n ≡ natAbs (getD v at (pos 0))
+  pub inside : at + n ≤ length v
+  pub set : bitAt map at ≡ true
+
+-- a block of n words that may follow: held, or free and not after a free one
+pub record Block (v : List ℤ) (map : Words) (at : ℕ) (after : Bool) (n : ℕ) : Type 0 where
+  pub size : n ≡ natAbs (getD v at (pos 0))
+  pub inside : at + n ≤ length v
+  pub held : freeSize (getD v at (pos 0)) ≡ 0 → bitAt map at ≡ true
+  pub free : freeSize (getD v at (pos 0)) ≢ 0 → (after ≡ false) × (runRight v at (at + n) ≡ true)
+
+-- Blocks lie side by side up to `next`, the first place at or past hi. If the blocks are those with control words c,
+-- `most` is the largest weight of those from `from` up to hi.
+pub record Strip (v : List ℤ) (map : Words) (from hi next free : ℕ) (after : Bool) (most : ℕ) : Type 0 where
+  pub laid : Laid v map next free after
+  pub few : free ≤ next
+  pub high : hi ≤ next
+  pub swept : (c : ℕ → ℤ) → Scan v c from → (most ≡ largest c from (hi - from)) × Reaches v c from hi next
+
+-- Blocks lie side by side in the whole arena, and if they are those with control words c, the index has their leaves
+-- and first blocks.
+pub record Matched (v : List ℤ) (map t : Words) (s g free : ℕ) : Type 0 where
+  pub after : Bool
+  pub laid : Laid v map (length v) free after
+  pub right : (c : ℕ → ℤ) → Ground v c s g → every (segmentRight c (length v) s t) 0 s ≡ true
+
+-- ---- the records
+
 -- Each bit of the map that is set stands for one of the first i records of a table: its block begins there, and the
 -- control word has its size.
 abbrev pub Heads : List ℤ → Words → Words → ℕ → Type 0
@@ -62,6 +98,8 @@ pub record Headed (v : List ℤ) (next : ℕ) (t map seen : Words) (m i held : �
   pub noted : Noted m seen t i
   pub heads : Heads v t map i
 
--- the table holds a valid ledger, and the arena is its stored form
-abbrev pub Stored : ℕ → List ℤ → Words → Type 0
-Stored next v t = (valid segmentRule (length v) next (recordsOf t) ≡ true) × (v ≡ arenaOf (recordsOf t) v)
+-- the table holds a valid ledger, and arena and index are its stored form
+abbrev pub Stored : ℕ → List ℤ → Words → Words → ℕ → Type 0
+Stored next v t x s =
+    (valid segmentRule (length v) next (recordsOf t) ≡ true) × (v ≡ arenaOf (recordsOf t) v)
+    × (x ≡ segmentIndex s (length v) (recordsOf t))

@@ -1,20 +1,27 @@
-// A quick test of the segment pool: blocks that lie side by side from the first word to the last. No unit is marked:
-// the map has a bit for each word, set only where a record's block begins.
+// A quick test of the segment pool: blocks that lie side by side from the first word to the last, and an index that is
+// theirs. No unit is marked: the map has a bit for each word, set only where a record's block begins.
 use control_words::free_at;
 use control_words::size_at;
+use control_words::weight_at;
 use ledger::Rule;
 use record_table::read_row;
+use segment_blocks::first_from;
+use segment_check::segment_right;
+use segment_check::tree_right;
+use segment_index::larger;
+use segment_index::lesser;
 use words::zero_part_signed;
 ghost use mathlib.Core.Path.{_≡_};
-ghost use mathlib.Core.Bool.{Bool, true};
+ghost use mathlib.Core.Bool.{true};
 ghost use Prim.Native.Nat.{ℕ, _+_, _*_, _≤_, _<_};
 ghost use lib.ListN.{length};
 ghost use Rattle.words.specs.Lists.{all, isZero};
 ghost use Rattle.ledger.specs.Records.{slots};
-ghost use Rattle.segment_check.specs.Right.{runRight};
+ghost use Rattle.segment_check.specs.Right.{Measured};
 ghost use Rattle.tiling.specs.Tiles.{Noted};
 ghost use Rattle.segment_tiles.specs.BitMaps.{bitAt};
-ghost use Rattle.segment_tiles.specs.Laid.{Laid, Heads, Joined, Headed, Stored};
+ghost use Rattle.segment_tiles.specs.Laid.{Laid, HeldBlock, Block, Strip, Matched};
+ghost use Rattle.segment_tiles.specs.Laid.{Heads, Joined, Headed, Stored};
 
 // ---- the map, 64 words of the arena to an entry
 
@@ -40,51 +47,116 @@ fn put_bit(map: &mut [u64], k: usize)
 
 // ---- the blocks, from the first word on
 
-// Whether a free block of n words begins here.
-fn is_free_block(v: &[i32], at: usize, n: usize) -> bool
-    requires { ⌜ (0 < n) × (at + n ≤ length (now v)) ⌝ }
-    ensures { λ r. ⌜ (r ≡ true → runRight (now (v .entry)) at (at + n) ≡ true) ⌝ }
+// The size of the held block that begins at a word; 0 if the map says that none does, or it ends outside.
+fn held_size(v: &[i32], map: &[u64], at: usize) -> usize
+    requires { ⌜ (at < length (now v)) × (length (now v) ≤ 64 * length (now map)) ⌝ }
+    ensures { λ n. ⌜ (0 < n → HeldBlock (now (v .entry)) (now (map .entry)) at n) ⌝ }
 {
-    if free_at(v, at) != n {
-        return false;
+    let n = size_at(v, at);
+    if v.len() - at < n {
+        return 0;
     }
-    zero_part_signed(v, at + 1, at + n)
+    if has_bit(map, at) {
+        return n;
+    }
+    0
+}
+
+// The size of the block that begins at a word; 0 if it is none of a sound pool. `after` says whether the block before it
+// is free.
+fn block_size(v: &[i32], map: &[u64], at: usize, after: bool) -> usize
+    requires { ⌜ (at < length (now v)) × (length (now v) ≤ 64 * length (now map)) ⌝ }
+    ensures { λ n. ⌜ (0 < n → Block (now (v .entry)) (now (map .entry)) at after n) ⌝ }
+{
+    let n = free_at(v, at);
+    if n == 0 {
+        return held_size(v, map, at);
+    }
+    if after {
+        return 0;
+    }
+    if v.len() - at < n {
+        return 0;
+    }
+    if !zero_part_signed(v, at + 1, at + n) {
+        return 0;
+    }
+    n
+}
+
+// Where blocks that are laid have led: the next one begins at `next`, past the arena's end if one is wrong. So many words
+// are free up to there, `after` says whether the last block is, and `most` is the largest weight.
+struct Stand {
+    next: usize,
+    free: usize,
+    after: bool,
+    most: u32,
+}
+
+// Lays the blocks that begin from `from` up to hi, behind others that have led to `from`.
+fn lay(v: &[i32], map: &[u64], from: usize, hi: usize, free: usize, after: bool) -> Stand
+    requires { ⌜ (length (now v) ≤ 16384) × (length (now v) ≤ 64 * length (now map)) × (hi ≤ length (now v))
+        × (from ≤ length (now v)) × (free ≤ from) × Laid (now v) (now map) from free after ⌝ }
+    ensures { λ r. ⌜
+        (r .next ≤ length (now (v .entry))
+        → Strip (now (v .entry)) (now (map .entry)) from hi (r .next) (r .free) (r .after) (r .most))
+        ⌝ }
+{
+    let mut at = from;
+    let mut sum = free;
+    let mut last = after;
+    let mut most: u32 = 0;
+    while at < hi {
+        let n = block_size(v, map, at, last);
+        if n == 0 {
+            return Stand {
+                next: v.len() + 1,
+                free: 0,
+                after: false,
+                most: 0,
+            };
+        }
+        let f = free_at(v, at);
+        most = larger(most, weight_at(v, at));
+        sum += f;
+        last = f != 0;
+        at += n;
+    }
+    Stand {
+        next: at,
+        free: sum,
+        after: last,
+        most,
+    }
 }
 
 // The words of the free blocks together; more than there are, if blocks don't lie side by side up to the last word, or
-// two free ones do.
-fn lay(v: &[i32], map: &[u64]) -> usize
-    requires { ⌜ (length (now v) ≤ 16384) × (length (now v) ≤ 64 * length (now map)) ⌝ }
+// two free ones do, or the index has another leaf or first block for a segment. One pass does both, since each block
+// that is passed costs a wait for its control word.
+fn lay_all(v: &[i32], map: &[u64], t: &[u32], s: usize, g: usize) -> usize
+    requires { ⌜ Measured (now v) (now t) s g × (length (now v) ≤ 64 * length (now map)) ⌝ }
     ensures { λ r. ⌜
-        (r ≤ length (now (v .entry))
-        → ((after : Bool) × Laid (now (v .entry)) (now (map .entry)) (length (now (v .entry))) r after))
+        (r ≤ length (now (v .entry)) → Matched (now (v .entry)) (now (map .entry)) (now (t .entry)) s g r)
         ⌝ }
 {
-    let bad = v.len() + 1;
+    let w = v.len();
     let mut at: usize = 0;
     let mut free: usize = 0;
     let mut after = false;
-    while at < v.len() {
-        let n = size_at(v, at);
-        if n == 0 {
-            return bad;
+    let mut k: usize = 0;
+    while k < s {
+        let hi = lesser((k + 1) * g, w);
+        let stand = lay(v, map, at, hi, free, after);
+        if w < stand.next {
+            return w + 1;
         }
-        if v.len() - at < n {
-            return bad;
+        if !segment_right(t, s, k, stand.most, first_from(at, hi, w)) {
+            return w + 1;
         }
-        if has_bit(map, at) {
-            after = false;
-        } else {
-            if after {
-                return bad;
-            }
-            if !is_free_block(v, at, n) {
-                return bad;
-            }
-            free += n;
-            after = true;
-        }
-        at += n;
+        at = stand.next;
+        free = stand.free;
+        after = stand.after;
+        k += 1;
     }
     free
 }
@@ -161,94 +233,138 @@ fn map_rows(
 
 // ---- the test
 
-// Whether the blocks lie side by side, by a map that comes in all zero and m residues of tickets.
+// The test by a map that comes in all zero and m residues of tickets.
 fn is_tiled_over(
     next: u32,
     arena: &[i32],
     table: &[u32],
+    index: &[u32],
+    s: usize,
+    g: usize,
     map: &mut [u64],
     seen: &mut [u8],
     m: usize,
 ) -> bool
-    requires { ⌜ (length (now arena) ≤ 16384) × (length (now arena) ≤ 64 * length (now map)) × (0 < m)
+    requires { ⌜ Measured (now arena) (now index) s g × (length (now arena) ≤ 64 * length (now map)) × (0 < m)
         × (length (now seen) ≡ m) × (all isZero (now map) ≡ true) ⌝ }
-    ensures { λ r. ⌜ (r ≡ true → Stored next (now (arena .entry)) (now (table .entry))) ⌝ }
+    ensures { λ r. ⌜ (r ≡ true → Stored next (now (arena .entry)) (now (table .entry)) (now (index .entry)) s) ⌝ }
 {
     let words = arena.len();
     let held = map_rows(arena, next, table, &mut *map, &mut *seen, m);
     if words < held {
         return false;
     }
-    let free = lay(arena, map);
+    let free = lay_all(arena, map, index, s, g);
     if words < free {
         return false;
     }
-    free + held == words
+    if free + held != words {
+        return false;
+    }
+    tree_right(index, s)
 }
 
 // A map is wiped whole, so that a small pool gets a small one.
-fn is_tiled_small(next: u32, arena: &[i32], table: &[u32], seen: &mut [u8], m: usize) -> bool
-    requires { ⌜ (length (now arena) ≤ 128) × (0 < m) × (length (now seen) ≡ m) ⌝ }
-    ensures { λ r. ⌜ (r ≡ true → Stored next (now (arena .entry)) (now (table .entry))) ⌝ }
+fn is_tiled_small(
+    next: u32,
+    arena: &[i32],
+    table: &[u32],
+    index: &[u32],
+    s: usize,
+    g: usize,
+    seen: &mut [u8],
+    m: usize,
+) -> bool
+    requires { ⌜ Measured (now arena) (now index) s g × (length (now arena) ≤ 128) × (0 < m)
+        × (length (now seen) ≡ m) ⌝ }
+    ensures { λ r. ⌜ (r ≡ true → Stored next (now (arena .entry)) (now (table .entry)) (now (index .entry)) s) ⌝ }
 {
     let mut map: [u64; 2] = [0; 2];
-    is_tiled_over(next, arena, table, &mut map, seen, m)
+    is_tiled_over(next, arena, table, index, s, g, &mut map, seen, m)
 }
 
-fn is_tiled_middle(next: u32, arena: &[i32], table: &[u32], seen: &mut [u8], m: usize) -> bool
-    requires { ⌜ (length (now arena) ≤ 2048) × (0 < m) × (length (now seen) ≡ m) ⌝ }
-    ensures { λ r. ⌜ (r ≡ true → Stored next (now (arena .entry)) (now (table .entry))) ⌝ }
+fn is_tiled_middle(
+    next: u32,
+    arena: &[i32],
+    table: &[u32],
+    index: &[u32],
+    s: usize,
+    g: usize,
+    seen: &mut [u8],
+    m: usize,
+) -> bool
+    requires { ⌜ Measured (now arena) (now index) s g × (length (now arena) ≤ 2048) × (0 < m)
+        × (length (now seen) ≡ m) ⌝ }
+    ensures { λ r. ⌜ (r ≡ true → Stored next (now (arena .entry)) (now (table .entry)) (now (index .entry)) s) ⌝ }
 {
     let mut map: [u64; 32] = [0; 32];
-    is_tiled_over(next, arena, table, &mut map, seen, m)
+    is_tiled_over(next, arena, table, index, s, g, &mut map, seen, m)
 }
 
-fn is_tiled_large(next: u32, arena: &[i32], table: &[u32], seen: &mut [u8], m: usize) -> bool
-    requires { ⌜ (length (now arena) ≤ 16384) × (0 < m) × (length (now seen) ≡ m) ⌝ }
-    ensures { λ r. ⌜ (r ≡ true → Stored next (now (arena .entry)) (now (table .entry))) ⌝ }
+fn is_tiled_large(
+    next: u32,
+    arena: &[i32],
+    table: &[u32],
+    index: &[u32],
+    s: usize,
+    g: usize,
+    seen: &mut [u8],
+    m: usize,
+) -> bool
+    requires { ⌜ Measured (now arena) (now index) s g × (0 < m) × (length (now seen) ≡ m) ⌝ }
+    ensures { λ r. ⌜ (r ≡ true → Stored next (now (arena .entry)) (now (table .entry)) (now (index .entry)) s) ⌝ }
 {
     let mut map: [u64; 256] = [0; 256];
-    is_tiled_over(next, arena, table, &mut map, seen, m)
+    is_tiled_over(next, arena, table, index, s, g, &mut map, seen, m)
 }
 
-fn is_tiled_by(next: u32, arena: &[i32], table: &[u32], seen: &mut [u8], m: usize) -> bool
-    requires { ⌜ (length (now arena) ≤ 16384) × (0 < m) × (length (now seen) ≡ m) ⌝ }
-    ensures { λ r. ⌜ (r ≡ true → Stored next (now (arena .entry)) (now (table .entry))) ⌝ }
+fn is_tiled_by(
+    next: u32,
+    arena: &[i32],
+    table: &[u32],
+    index: &[u32],
+    s: usize,
+    g: usize,
+    seen: &mut [u8],
+    m: usize,
+) -> bool
+    requires { ⌜ Measured (now arena) (now index) s g × (0 < m) × (length (now seen) ≡ m) ⌝ }
+    ensures { λ r. ⌜ (r ≡ true → Stored next (now (arena .entry)) (now (table .entry)) (now (index .entry)) s) ⌝ }
 {
     if arena.len() <= 128 {
-        return is_tiled_small(next, arena, table, seen, m);
+        return is_tiled_small(next, arena, table, index, s, g, seen, m);
     }
     if arena.len() <= 2048 {
-        return is_tiled_middle(next, arena, table, seen, m);
+        return is_tiled_middle(next, arena, table, index, s, g, seen, m);
     }
-    is_tiled_large(next, arena, table, seen, m)
+    is_tiled_large(next, arena, table, index, s, g, seen, m)
 }
 
 // The residues are wiped whole too, so that few slots get few.
-fn is_tiled_few(next: u32, arena: &[i32], table: &[u32]) -> bool
-    requires { ⌜ length (now arena) ≤ 16384 ⌝ }
-    ensures { λ r. ⌜ (r ≡ true → Stored next (now (arena .entry)) (now (table .entry))) ⌝ }
+fn is_tiled_few(next: u32, arena: &[i32], table: &[u32], index: &[u32], s: usize, g: usize) -> bool
+    requires { ⌜ Measured (now arena) (now index) s g ⌝ }
+    ensures { λ r. ⌜ (r ≡ true → Stored next (now (arena .entry)) (now (table .entry)) (now (index .entry)) s) ⌝ }
 {
     let mut seen: [u8; 128] = [0; 128];
-    is_tiled_by(next, arena, table, &mut seen, 128)
+    is_tiled_by(next, arena, table, index, s, g, &mut seen, 128)
 }
 
-fn is_tiled_many(next: u32, arena: &[i32], table: &[u32]) -> bool
-    requires { ⌜ length (now arena) ≤ 16384 ⌝ }
-    ensures { λ r. ⌜ (r ≡ true → Stored next (now (arena .entry)) (now (table .entry))) ⌝ }
+fn is_tiled_many(next: u32, arena: &[i32], table: &[u32], index: &[u32], s: usize, g: usize) -> bool
+    requires { ⌜ Measured (now arena) (now index) s g ⌝ }
+    ensures { λ r. ⌜ (r ≡ true → Stored next (now (arena .entry)) (now (table .entry)) (now (index .entry)) s) ⌝ }
 {
     let mut seen: [u8; 2048] = [0; 2048];
-    is_tiled_by(next, arena, table, &mut seen, 2048)
+    is_tiled_by(next, arena, table, index, s, g, &mut seen, 2048)
 }
 
-// Whether the table holds a valid ledger and the arena is its stored form. Where it says no, both may still be so: it
-// is the exact check that refuses.
-pub fn is_tiled(next: u32, arena: &[i32], table: &[u32]) -> bool
-    requires { ⌜ length (now arena) ≤ 16384 ⌝ }
-    ensures { λ r. ⌜ (r ≡ true → Stored next (now (arena .entry)) (now (table .entry))) ⌝ }
+// Whether the table holds a valid ledger, and arena and index are its stored form. Where it says no, this may still be
+// so: it is the exact check that refuses.
+pub fn is_tiled(next: u32, arena: &[i32], table: &[u32], index: &[u32], s: usize, g: usize) -> bool
+    requires { ⌜ Measured (now arena) (now index) s g ⌝ }
+    ensures { λ r. ⌜ (r ≡ true → Stored next (now (arena .entry)) (now (table .entry)) (now (index .entry)) s) ⌝ }
 {
     if table.len() / 3 <= 16 {
-        return is_tiled_few(next, arena, table);
+        return is_tiled_few(next, arena, table, index, s, g);
     }
-    is_tiled_many(next, arena, table)
+    is_tiled_many(next, arena, table, index, s, g)
 }

@@ -1,11 +1,8 @@
 -- `segment_pool::is_stored_over` meets its contract, by what the checks of table and blocks say. Assumes nothing.
-use Prim.Native.Nat.{ℕ}
 use native.Mathlib.Omega.{arith}
-use mathlib.Core.Path.{sym, subst}
 use borrow.Author.Needs.{needs}
 use denote.Ref.{now}
 use Rattle.words.proofs.Tests.{not-true, not-false}
-use Rattle.segment_check.specs.Right.{Measured}
 use Rattle.segment_pool.proofs.GateLaws.{in-range, not-stored, Checked, check-passes}
 use Rattle.segment_pool.proofs.GateLaws.{mapped, measured, power-pos, stored-is}
 use Rattle.segment_pool.proofs.is_stored_over.Statement.{statement}
@@ -61,8 +58,7 @@ pool-right-requires c κs =
     let long = s .pre .1 .0 in
     let size = e .before .before .before .table-check .kept .1 .1 .1 .1 .0 in (
       mapped k (omega arith),
-      subst (λ (g : ℕ). Measured (now (s .args .arena)) (now (s .args .index)) (s .args .s) g)
-          (sym (c .before .segment-size .ensures)) (measured (k .known)),
+      measured (k .known .fit) _ (c .before .segment-size .ensures),
     )
 
 same-length-2 : tie.Need-same-length-2

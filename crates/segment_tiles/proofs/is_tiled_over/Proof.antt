@@ -1,11 +1,19 @@
 -- `segment_tiles::is_tiled_over` meets its contract. Assumes nothing.
+use native.Mathlib.Omega.{arith}
 use mathlib.Core.Bool.{false≢true}
 use borrow.Author.Needs.{needs}
 use denote.Ref.{now}
-use Rattle.words.proofs.Tests.{eqb-eq}
-use Rattle.segment_tiles.proofs.HeadLaws.{tiles-right}
+use Rattle.segment_blocks.proofs.UpkeepLaws.{sizes-some}
+use Rattle.segment_tiles.proofs.HeadLaws.{tiles-stored}
 use Rattle.segment_tiles.proofs.is_tiled_over.Statement.{statement}
 use Rattle.segment_tiles.proofs.is_tiled_over.Tie as tie
+
+-- the places before: the blocks laid, the records entered before that, and the function's entry
+abbrev entered : tie.After-lay-all → tie.After-map-rows
+entered c = c .before .before .before .before .before .before .before
+
+abbrev start : tie.After-lay-all → tie.Start
+start c = entered c .before .before .before .before .before .before .before
 
 map-rows-requires : tie.Need-map-rows-requires
 map-rows-requires c κs = search needs
@@ -19,8 +27,8 @@ same-length-2 c = search needs
 returns : tie.Need-returns
 returns c = λ e. absurd (false≢true e)
 
-lay-requires : tie.Need-lay-requires
-lay-requires c κs = search needs
+lay-all-requires : tie.Need-lay-all-requires
+lay-all-requires c κs = search needs
 
 same-length-3 : tie.Need-same-length-3
 same-length-3 c = search needs
@@ -31,8 +39,8 @@ same-length-4 c = search needs
 returns-2 : tie.Need-returns-2
 returns-2 c = λ e. absurd (false≢true e)
 
-add-result : tie.Need-add-result
-add-result c = search needs
+add-if3 : tie.Need-add-if3
+add-if3 c = search needs
 
 same-length-5 : tie.Need-same-length-5
 same-length-5 c = search needs
@@ -41,15 +49,30 @@ same-length-6 : tie.Need-same-length-6
 same-length-6 c = search needs
 
 returns-3 : tie.Need-returns-3
-returns-3 c =
-    let f = c .before in
-    let d = f .before .before .before .before .before .before .before in
-    let a = d .before .before .before .before .before .before .args in
-    let held = d .map-rows .result in
-    let (after, laid) = f .lay .ensures (c .if2 .left) in
-    λ e. tiles-right (now (a .arena)) (a .next) (now (a .table)) (d .map-rows .last .1 .1 .1 .0)
-    (d .map-rows .last .1 .1 .1 .1 .0) (a .m) held (f .lay .result) after
-    (d .map-rows .ensures (f .before .before .if1 .left)) laid (eqb-eq _ _ e)
+returns-3 c = λ e. absurd (false≢true e)
+
+tree-right-requires : tie.Need-tree-right-requires
+tree-right-requires c κs =
+    let known = start (c .before .before) .pre .0 in
+    (sizes-some _ _ _ (known .sizes), omega (arith, known .long))
+
+same-length-7 : tie.Need-same-length-7
+same-length-7 c = search needs
+
+same-length-8 : tie.Need-same-length-8
+same-length-8 c = search needs
+
+returns-4 : tie.Need-returns-4
+returns-4 c =
+    let f = c .before .before .before in
+    let d = entered f in
+    let s = start f in
+    let a = s .args in
+    let free = f .lay-all .result in
+    λ e. tiles-stored (now (a .arena)) (a .next) (now (a .table)) (now (a .index)) (d .map-rows .last .1 .1 .1 .0)
+    (d .map-rows .last .1 .1 .1 .1 .0) (a .m) (d .map-rows .result) free (a .s) (a .g) (s .pre .0)
+    (d .map-rows .ensures (f .before .before .if1 .left)) (f .lay-all .ensures (c .before .before .if2 .left))
+    (c .before .if3 .left) (c .tree-right .result) (c .tree-right .ensures) e
 
 pub is-tiled-over-spec : {M : Type 1} → statement M
 is-tiled-over-spec =
@@ -59,11 +82,15 @@ is-tiled-over-spec =
     same-length
     same-length-2
     returns
-    lay-requires
+    lay-all-requires
     same-length-3
     same-length-4
     returns-2
-    add-result
+    add-if3
     same-length-5
     same-length-6
-    returns-3)
+    returns-3
+    tree-right-requires
+    same-length-7
+    same-length-8
+    returns-4)

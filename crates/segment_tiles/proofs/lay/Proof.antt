@@ -1,102 +1,120 @@
--- `segment_tiles::lay` meets its contract: the blocks up to `at` lie side by side. Assumes nothing.
-use Prim.Native.Nat.{_+_, _<_, _-_, _≤_}
+-- `segment_tiles::lay` meets its contract: the blocks up to `at` lie side by side; and if they are those with control
+-- words c, the largest weight so far, with that of the blocks from here on, is that of all. Assumes nothing.
+use Prim.Native.Nat.{ℕ, _-_, _≤_, _<_, max}
 use native.Mathlib.Omega.{arith}
-use mathlib.Core.Bool.{true, false}
-use mathlib.Core.Path.{subst, _≡_, _∙_, sym}
-use mathlib.Core.Logic.{⊎-elim}
-use borrow.Author.Tests.{not-false}
+use mathlib.Core.Path.{_≡_, ap}
 use denote.Ref.{now}
-use lib.ListN.{length}
-use Rattle.segment_tiles.specs.Laid.{Laid}
-use Rattle.segment_tiles.proofs.LaidLaws.{laid-start, laid-held, laid-free}
+use lib.IntN.{ℤ, pos}
+use lib.ListN.{length, getD}
+use Rattle.stored_forms.specs.Segments.{largest}
+use Rattle.segment_blocks.specs.Blocks.{Scan}
+use Rattle.segment_blocks.proofs.ScanLaws.{Coming, come-start, come-on, come-end, leaf-on}
+use Rattle.segment_tiles.specs.Laid.{Laid, Block}
+use Rattle.segment_tiles.proofs.LaidLaws.{laid-block, free-most}
 use Rattle.segment_tiles.proofs.lay.Statement.{statement}
 use Rattle.segment_tiles.proofs.lay.Tie as tie
 
 abbrev Inv-loop : tie.InvT-loop
-Inv-loop v map bad at₀ free₀ after₀ at free after =
-    (at ≤ length v) × (free ≤ at) × Laid v map at free after
+Inv-loop v map from hi free after at₀ sum₀ last₀ most₀ at sum last most =
+    (at ≤ length v) × (sum ≤ at) × Laid v map at sum last
+    × ((c : ℕ → ℤ) → Scan v c from
+    → Coming v c from hi at × (max most (largest c at (hi - at)) ≡ largest c from (hi - from)))
 
 abbrev μ-loop : tie.MeasureT-loop
-μ-loop v map bad at₀ free₀ after₀ at free after = length v - at
-
-add-bad : tie.Need-add-bad Inv-loop μ-loop
-add-bad c = omega arith
+μ-loop v map from hi free after at₀ sum₀ last₀ most₀ at sum last most = hi - at
 
 loop-holds : tie.Need-loop-holds Inv-loop μ-loop
 loop-holds c =
-    let a = c .before .args in
-    (omega arith, omega arith, laid-start (now (a .v)) (now (a .map)))
+    let (most, long, top, inside, few, laid) = c .before .pre in
+    (inside, few, laid, λ f s. (come-start _ f _ _ s, omega arith))
 
-size-at-requires : tie.Need-size-at-requires Inv-loop μ-loop
-size-at-requires c κs = omega arith
+block-size-requires : tie.Need-block-size-requires Inv-loop μ-loop
+block-size-requires c κs = omega arith
+
+add-t15 : tie.Need-add-t15 Inv-loop μ-loop
+add-t15 c = omega arith
 
 returns : tie.Need-returns Inv-loop μ-loop
 returns c = λ h. absurd (omega arith)
 
-sub-if2 : tie.Need-sub-if2 Inv-loop μ-loop
-sub-if2 c = omega arith
+free-at-requires : tie.Need-free-at-requires Inv-loop μ-loop
+free-at-requires c κs = omega arith
 
-returns-2 : tie.Need-returns-2 Inv-loop μ-loop
-returns-2 c = λ h. absurd (omega arith)
+weight-at-requires : tie.Need-weight-at-requires Inv-loop μ-loop
+weight-at-requires c κs = omega arith
 
-has-bit-requires : tie.Need-has-bit-requires Inv-loop μ-loop
-has-bit-requires c κs = omega arith
+larger-requires : tie.Need-larger-requires Inv-loop μ-loop
+larger-requires c κs = omega arith
 
-returns-3 : tie.Need-returns-3 Inv-loop μ-loop
-returns-3 c = λ h. absurd (omega arith)
+-- the block of a turn, seen from its end
+abbrev turn : tie.After-larger Inv-loop μ-loop → tie.After-block-size Inv-loop μ-loop
+turn c = c .before .before .before .before
 
-is-free-block-requires : tie.Need-is-free-block-requires Inv-loop μ-loop
-is-free-block-requires c κs = omega arith
+block : (c : tie.After-larger Inv-loop μ-loop) → (let l = turn c .before .before in
+    Block (now (l .before .before .args .v)) (now (l .before .before .args .map)) (l .loop .at) (l .loop .last)
+    (turn c .block-size .result))
+block c = turn c .block-size .ensures (omega (arith, c .before .before .before .if1 .left))
 
-returns-4 : tie.Need-returns-4 Inv-loop μ-loop
-returns-4 c = λ h. absurd (omega arith)
+-- no more is free than it has
+part : (c : tie.After-larger Inv-loop μ-loop) → c .before .before .free-at .result ≤ turn c .block-size .result
+part c =
+    let l = turn c .before .before in
+    omega (
+      arith,
+      block c .size,
+      c .before .before .free-at .ensures,
+      free-most (getD (now (l .before .before .args .v)) (l .loop .at) (pos 0)),
+    )
 
-add-free : tie.Need-add-free Inv-loop μ-loop
-add-free c = omega arith
+add-sum : tie.Need-add-sum Inv-loop μ-loop
+add-sum c =
+    let l = turn c .before .before in
+    omega (arith, part c, block c .inside, l .before .before .pre .0, l .loop .inv .1)
 
 add-at : tie.Need-add-at Inv-loop μ-loop
-add-at c = omega arith
+add-at c = omega (arith, block c .inside, turn c .before .before .before .before .pre .0)
 
 loop-less : tie.Need-loop-less Inv-loop μ-loop
-loop-less c = omega arith
+loop-less c = omega (arith, c .before .before .before .if1 .left, turn c .before .loop-test .taken)
 
 loop-again : tie.Need-loop-again Inv-loop μ-loop
 loop-again c =
-    let z = c .before .before .before .before in
-    let l = z .before .before in
-    let a = l .before .before .args in
-    let at = l .loop .at in
-    let n = z .size-at .result in
-    let (below, few, laid) = l .loop .inv in
-    let some : 0 < n = omega arith in
-    let on = Laid (now (a .v)) (now (a .map)) (at + n) in
-    ⊎-elim
-    (λ w. (
-      omega arith,
-      omega (arith, w .1),
-      subst (λ b. on (c .if3 .free) b) (sym (w .2))
-          (subst (λ f. on f false) (sym (w .1))
-          (laid-held (now (a .v)) (now (a .map)) at (l .loop .free) n some (l .loop .after) laid
-          (sym (c .before .has-bit .ensures) ∙ w .0 .taken) (z .size-at .ensures))),
-    ))
-    (λ w. (
-      omega arith,
-      omega (arith, w .4),
-      subst (λ b. on (c .if3 .free) b) (sym (w .5))
-          (subst (λ f. on f true) (sym (w .4))
-          (laid-free (now (a .v)) (now (a .map)) at (l .loop .free) n some
-          (subst (Laid (now (a .v)) (now (a .map)) at (l .loop .free)) (w .1 .left) laid)
-          (w .2 .ensures (not-false _ (w .3 .left))))),
-    ))
-    (c .if3 .came)
+    let b = turn c in
+    let l = b .before .before in
+    let s = l .before .before in
+    let a = s .args in
+    let n = b .block-size .result in
+    let f = c .before .before .free-at in
+    let here = block c in
+    let below = b .before .loop-test .taken in
+    let (inside, few, laid, scans) = l .loop .inv in
+    let some : 0 < n = omega (arith, c .before .before .before .if1 .left) in (
+      here .inside,
+      omega (arith, part c),
+      laid-block (now (a .v)) (now (a .map)) (l .loop .at) (l .loop .sum) n some (l .loop .last) laid here (f .result)
+          (f .ensures),
+      λ k scan.
+          let (come, inv) = scans k scan in (
+            come-on _ k _ _ _ _ come (s .pre .2) below (here .size),
+            rw (c .larger .ensures)
+                (leaf-on _ k _ _ _ (come .scan) (s .pre .2) below (here .size) _ _ _ inv
+                (c .before .weight-at .ensures)),
+          ),
+    )
 
-returns-5 : tie.Need-returns-5 Inv-loop μ-loop
-returns-5 c =
+returns-2 : tie.Need-returns-2 Inv-loop μ-loop
+returns-2 c =
     let l = c .before in
-    let a = l .before .before .args in
-    let (below, few, laid) = l .loop .inv in
-    let e : l .loop .at ≡ length (now (a .v)) = omega arith in
-    λ h. (l .loop .after, rw (sym e) laid)
+    let (inside, few, laid, scans) = l .loop .inv in
+    let none : l .before .before .args .hi - l .loop .at ≡ 0 = omega arith in
+    λ h. record {
+      laid = laid;
+      few = few;
+      high = c .loop-test .left;
+      swept = λ k scan.
+          let (come, inv) = scans k scan in
+          (omega (arith, inv, ap (largest k (l .loop .at)) none), come-end _ k _ _ _ come (c .loop-test .left));
+    }
 
 pub lay-spec : {M : Type 1} → statement M
 lay-spec =
@@ -104,18 +122,15 @@ lay-spec =
     (tie.spec
     Inv-loop
     μ-loop
-    add-bad
     loop-holds
-    size-at-requires
+    block-size-requires
+    add-t15
     returns
-    sub-if2
-    returns-2
-    has-bit-requires
-    returns-3
-    is-free-block-requires
-    returns-4
-    add-free
+    free-at-requires
+    weight-at-requires
+    larger-requires
+    add-sum
     add-at
     loop-less
     loop-again
-    returns-5)
+    returns-2)

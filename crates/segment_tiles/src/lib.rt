@@ -264,58 +264,39 @@ fn is_tiled_over(
     tree_right(index, s)
 }
 
-// A map is wiped whole, so that a small pool gets a small one.
-fn is_tiled_small(
+// The residues and the map are wiped whole, so that few slots get few, and a small pool a small one.
+fn is_tiled_few(
     next: u32,
     arena: &[i32],
     table: &[u32],
     index: &[u32],
     s: usize,
     g: usize,
-    seen: &mut [u8],
-    m: usize,
+    map: &mut [u64],
 ) -> bool
-    requires { ⌜ Measured (now arena) (now index) s g × (length (now arena) ≤ 128) × (0 < m)
-        × (length (now seen) ≡ m) ⌝ }
+    requires { ⌜ Measured (now arena) (now index) s g × (length (now arena) ≤ 64 * length (now map))
+        × (all isZero (now map) ≡ true) ⌝ }
     ensures { λ r. ⌜ (r ≡ true → Stored next (now (arena .entry)) (now (table .entry)) (now (index .entry)) s) ⌝ }
 {
-    let mut map: [u64; 2] = [0; 2];
-    is_tiled_over(next, arena, table, index, s, g, &mut map, seen, m)
+    let mut seen: [u8; 128] = [0; 128];
+    is_tiled_over(next, arena, table, index, s, g, map, &mut seen, 128)
 }
 
-fn is_tiled_middle(
+fn is_tiled_many(
     next: u32,
     arena: &[i32],
     table: &[u32],
     index: &[u32],
     s: usize,
     g: usize,
-    seen: &mut [u8],
-    m: usize,
+    map: &mut [u64],
 ) -> bool
-    requires { ⌜ Measured (now arena) (now index) s g × (length (now arena) ≤ 2048) × (0 < m)
-        × (length (now seen) ≡ m) ⌝ }
+    requires { ⌜ Measured (now arena) (now index) s g × (length (now arena) ≤ 64 * length (now map))
+        × (all isZero (now map) ≡ true) ⌝ }
     ensures { λ r. ⌜ (r ≡ true → Stored next (now (arena .entry)) (now (table .entry)) (now (index .entry)) s) ⌝ }
 {
-    let mut map: [u64; 32] = [0; 32];
-    is_tiled_over(next, arena, table, index, s, g, &mut map, seen, m)
-}
-
-fn is_tiled_large(
-    next: u32,
-    arena: &[i32],
-    table: &[u32],
-    index: &[u32],
-    s: usize,
-    g: usize,
-    seen: &mut [u8],
-    m: usize,
-) -> bool
-    requires { ⌜ Measured (now arena) (now index) s g × (0 < m) × (length (now seen) ≡ m) ⌝ }
-    ensures { λ r. ⌜ (r ≡ true → Stored next (now (arena .entry)) (now (table .entry)) (now (index .entry)) s) ⌝ }
-{
-    let mut map: [u64; 256] = [0; 256];
-    is_tiled_over(next, arena, table, index, s, g, &mut map, seen, m)
+    let mut seen: [u8; 2048] = [0; 2048];
+    is_tiled_over(next, arena, table, index, s, g, map, &mut seen, 2048)
 }
 
 fn is_tiled_by(
@@ -325,36 +306,61 @@ fn is_tiled_by(
     index: &[u32],
     s: usize,
     g: usize,
-    seen: &mut [u8],
-    m: usize,
+    map: &mut [u64],
 ) -> bool
-    requires { ⌜ Measured (now arena) (now index) s g × (0 < m) × (length (now seen) ≡ m) ⌝ }
+    requires { ⌜ Measured (now arena) (now index) s g × (length (now arena) ≤ 64 * length (now map))
+        × (all isZero (now map) ≡ true) ⌝ }
     ensures { λ r. ⌜ (r ≡ true → Stored next (now (arena .entry)) (now (table .entry)) (now (index .entry)) s) ⌝ }
 {
-    if arena.len() <= 128 {
-        return is_tiled_small(next, arena, table, index, s, g, seen, m);
+    if table.len() / 3 <= 16 {
+        return is_tiled_few(next, arena, table, index, s, g, map);
     }
-    if arena.len() <= 2048 {
-        return is_tiled_middle(next, arena, table, index, s, g, seen, m);
-    }
-    is_tiled_large(next, arena, table, index, s, g, seen, m)
+    is_tiled_many(next, arena, table, index, s, g, map)
 }
 
-// The residues are wiped whole too, so that few slots get few.
-fn is_tiled_few(next: u32, arena: &[i32], table: &[u32], index: &[u32], s: usize, g: usize) -> bool
+fn is_tiled_small(
+    next: u32,
+    arena: &[i32],
+    table: &[u32],
+    index: &[u32],
+    s: usize,
+    g: usize,
+) -> bool
+    requires { ⌜ Measured (now arena) (now index) s g × (length (now arena) ≤ 128) ⌝ }
+    ensures { λ r. ⌜ (r ≡ true → Stored next (now (arena .entry)) (now (table .entry)) (now (index .entry)) s) ⌝ }
+{
+    let mut map: [u64; 2] = [0; 2];
+    is_tiled_by(next, arena, table, index, s, g, &mut map)
+}
+
+fn is_tiled_middle(
+    next: u32,
+    arena: &[i32],
+    table: &[u32],
+    index: &[u32],
+    s: usize,
+    g: usize,
+) -> bool
+    requires { ⌜ Measured (now arena) (now index) s g × (length (now arena) ≤ 2048) ⌝ }
+    ensures { λ r. ⌜ (r ≡ true → Stored next (now (arena .entry)) (now (table .entry)) (now (index .entry)) s) ⌝ }
+{
+    let mut map: [u64; 32] = [0; 32];
+    is_tiled_by(next, arena, table, index, s, g, &mut map)
+}
+
+fn is_tiled_large(
+    next: u32,
+    arena: &[i32],
+    table: &[u32],
+    index: &[u32],
+    s: usize,
+    g: usize,
+) -> bool
     requires { ⌜ Measured (now arena) (now index) s g ⌝ }
     ensures { λ r. ⌜ (r ≡ true → Stored next (now (arena .entry)) (now (table .entry)) (now (index .entry)) s) ⌝ }
 {
-    let mut seen: [u8; 128] = [0; 128];
-    is_tiled_by(next, arena, table, index, s, g, &mut seen, 128)
-}
-
-fn is_tiled_many(next: u32, arena: &[i32], table: &[u32], index: &[u32], s: usize, g: usize) -> bool
-    requires { ⌜ Measured (now arena) (now index) s g ⌝ }
-    ensures { λ r. ⌜ (r ≡ true → Stored next (now (arena .entry)) (now (table .entry)) (now (index .entry)) s) ⌝ }
-{
-    let mut seen: [u8; 2048] = [0; 2048];
-    is_tiled_by(next, arena, table, index, s, g, &mut seen, 2048)
+    let mut map: [u64; 256] = [0; 256];
+    is_tiled_by(next, arena, table, index, s, g, &mut map)
 }
 
 // Whether the table holds a valid ledger, and arena and index are its stored form. Where it says no, this may still be
@@ -363,8 +369,11 @@ pub fn is_tiled(next: u32, arena: &[i32], table: &[u32], index: &[u32], s: usize
     requires { ⌜ Measured (now arena) (now index) s g ⌝ }
     ensures { λ r. ⌜ (r ≡ true → Stored next (now (arena .entry)) (now (table .entry)) (now (index .entry)) s) ⌝ }
 {
-    if table.len() / 3 <= 16 {
-        return is_tiled_few(next, arena, table, index, s, g);
+    if arena.len() <= 128 {
+        return is_tiled_small(next, arena, table, index, s, g);
     }
-    is_tiled_many(next, arena, table, index, s, g)
+    if arena.len() <= 2048 {
+        return is_tiled_middle(next, arena, table, index, s, g);
+    }
+    is_tiled_large(next, arena, table, index, s, g)
 }

@@ -32,7 +32,7 @@ otherThan t x j = not (eqb (recordAt t j .ticket) x)
 
 -- what is kept of a ticket at its residue: tickets that share a residue rarely share this too
 abbrev pub markOf : ℕ → ℕ
-markOf x = x / 128 % 251 + 1
+markOf x = x / 2048 % 128 + 1
 
 -- what is kept where tickets with several marks share a residue
 abbrev pub several : ℕ

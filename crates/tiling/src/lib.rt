@@ -27,7 +27,7 @@ fn unlike_earlier(table: &[u32], i: usize, ticket: u32) -> bool
 fn mark_of(ticket: u32) -> u8
     ensures { λ r. ⌜ r ≡ markOf ticket ⌝ }
 {
-    (ticket / 128 % 251) as u8 + 1
+    (ticket / 2048 % 128) as u8 + 1
 }
 
 // Whether the ticket of slot i is none of the earlier ones, which are noted; it is noted as well. Only where an earlier

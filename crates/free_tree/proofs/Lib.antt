@@ -7,6 +7,7 @@ pub mod CellLaws
 pub mod StepLaws
 pub mod JoinSteps
 pub mod PartSteps
+pub mod PlaceSteps
 pub mod ChangeSteps
 pub mod ShrinkLaws
 pub mod ShrinkSteps

@@ -5,7 +5,7 @@ use native.Mathlib.Omega.{arith}
 use mathlib.Core.Path.{_≡_, refl, sym, ap, _∙_}
 use mathlib.Core.Bool.{Bool, true, false, cond, not, _&&_}
 use mathlib.Core.List.{List, [], _∷_, _++_}
-use mathlib.Core.Option.{Option, none, some}
+use mathlib.Core.Option.{Option, some}
 use lib.Dec.{leb, ltb}
 use Rattle.words.specs.Lists.{all, firstThat}
 use Rattle.words.proofs.Tests.{false-of, and-l, and-r, and-i, eqb-same, eqb-ne, le-of, of-le, lt-of, of-lt, not-lt, of-ge}

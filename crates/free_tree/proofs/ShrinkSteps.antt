@@ -9,19 +9,24 @@ use mathlib.Core.Logic.{_≢_}
 use mathlib.Core.Bool.{Bool, true, false, _&&_}
 use mathlib.Core.Option.{some}
 use Rattle.words.specs.Lists.{Words, firstThat}
-use Rattle.words.proofs.Tests.{of-lt, of-ge, absurd-some}
+use Rattle.words.proofs.Tests.{eqb-eq, of-lt, of-ge, absurd-some}
 use Rattle.ledger.specs.Runs.{Run, run}
 use Rattle.stored_forms.specs.Tree.{Tree, node, inorder, Form, lengthAt, leftAt, rightAt}
 use Rattle.stored_forms.proofs.NodeLaws.{Readable, within-le}
-use Rattle.free_tree.specs.Shapes.{join, standsAbove, standsOver, shrink, beginsAt}
-use Rattle.free_tree.specs.Held.{cells, NodePut, LeftSet, RightSet, At, Became, NoNodeNor, Beside, BothJoined}
-use Rattle.free_tree.specs.Held.{Room, Inserted, OverRoot, Between, NoNodeOfNor, Settled, Longer, Shrunk}
+use Rattle.free_tree.specs.Shapes.{join, standsAbove, standsOver, shrink, Stops, beginsAt}
+use Rattle.free_tree.specs.Held.{cells, NodePut, At, Became, NoNodeNor, Beside, BothJoined, Placed}
+use Rattle.free_tree.specs.Held.{Room, Inserted, OverRoot, Between, NoNodeOfNor, Settled, Longer}
 use Rattle.free_tree.proofs.RunOrder.{wider}
 use Rattle.free_tree.proofs.CellLaws.{no-node-below, no-node-above, same-zeros, same-tree}
-use Rattle.free_tree.proofs.StepLaws.{count, count-at, rooted, rooted-length, at-none, at-left, at-right}
-use Rattle.free_tree.proofs.StepLaws.{left-replaced, right-replaced}
+use Rattle.free_tree.proofs.StepLaws.{rooted-length, at-none, at-left, at-right}
+use Rattle.free_tree.proofs.PlaceSteps.{Local, place-tree}
+use Rattle.free_tree.proofs.ChangeSteps.{beyond}
 use Rattle.free_tree.proofs.ShrinkLaws.{not-first-join, both-apart, found-left, found-right}
 use Rattle.free_tree.proofs.ShrinkLaws.{found-within, here-size, within-shrink}
+
+-- the tree at the link l has the run at its root
+abbrev pub LongerRoot : Form → ℕ → Words → ℕ → ℕ → ℕ → Type 0
+LongerRoot F bound m l x k = (t : Tree) × (n : ℕ) × Stops (beginsAt x) t × Longer F bound m l (run x n) k t
 
 module _ {F : Form} {bound : ℕ} (readable : Readable F bound) where
   -- ---- above a root
@@ -143,107 +148,100 @@ module _ {F : Form} {bound : ℕ} (readable : Readable F bound) where
       more = p .more;
     }
 
-  -- what holds of every tree with the run, from the code's own number of the root's cell
-  by-root : {m : Words} {l x n k : ℕ} (P : Tree → Type 0)
-      → ((a : Tree) (i : ℕ) (b : Tree) → Longer F bound m l (run x n) k (node a (run (l - 1) i) b)
-      → P (node a (run (l - 1) i) b))
-      → (t : Tree) → Longer F bound m l (run x n) k t → P t
-  by-root {m} {l} {x} {n} {k} P f t p =
-      rooted (λ t. Longer F bound m l (run x n) k t → P t) (longer-root p) (λ a i b q. f a i b) t (p .tree) p
-
-  module _ {m : Words} {l x k : ℕ} (given : (t : Tree) × (n : ℕ) × Longer F bound m l (run x n) k t) where
-    pub longer-tree : (l ≢ 0) × ((t : Tree) × At F bound m l t)
-    longer-tree = let (t, n, p) = given in (longer-root p, (t, p .tree))
-
-    -- the tree of a son, which has the run and fewer nodes
-    pub longer-down-left : {s : ℕ} → s ≡ leftAt F m (l - 1) → x < l - 1
-        → (count F m s < count F m l) × ((t : Tree) × (n : ℕ) × Longer F bound m s (run x n) k t)
-    longer-down-left {s} e h =
-        let (t, n, p) = given in
-        by-root (λ t. (count F m s < count F m l) × ((t : Tree) × (n : ℕ) × Longer F bound m s (run x n) k t))
-        (λ a i b p. let w = longer-left p e h in
-        (omega (arith, count-at readable (w .tree), count-at readable (p .tree)), (a, n, w))) t p
-
-    pub longer-down-right : {s : ℕ} → s ≡ rightAt F m (l - 1) → l - 1 < x
-        → (count F m s < count F m l) × ((t : Tree) × (n : ℕ) × Longer F bound m s (run x n) k t)
-    longer-down-right {s} e h =
-        let (t, n, p) = given in
-        by-root (λ t. (count F m s < count F m l) × ((t : Tree) × (n : ℕ) × Longer F bound m s (run x n) k t))
-        (λ a i b p. let w = longer-right p e h in
-        (omega (arith, count-at readable (w .tree), count-at readable (p .tree)), (b, n, w))) t p
-
-  module _ {m m₁ m′ : Words} {l x k s q : ℕ} (post : Shrunk F bound m m₁ s x k q) where
-    pub shrink-left : s ≡ leftAt F m (l - 1) → x < l - 1 → LeftSet F m₁ m′ (l - 1) q → Shrunk F bound m m′ l x k l
-    shrink-left e h put t n =
-        by-root (λ t. Became F bound m m′ (NoNodeNor t (x + k)) l (shrink x k t))
-        (λ a i b p.
-        let c = l - 1 in
+  -- above the run the step goes down to a son
+  pub shrinks : {m : Words} (x n k : ℕ)
+      → Local F bound m (beginsAt x) x (λ l t. Longer F bound m l (run x n) k t) (shrink x k) (λ t. NoNodeNor t (x + k))
+  shrinks {m} x n k = record {
+    tree = λ p. p .tree;
+    left = λ {l} {a} {b} {q} p e h s.
+        let c = q .start in
         let place = p .tree .within .0 in
-        let low = longer-left p e h in
+        let low = longer-left p s h in
         let more = p .more in
         let end = found-within x n a 0 c place (low .found) .1 in
-        rw (of-lt x c h)
-        (left-replaced readable (p .tree) (post a n low) (λ d o. ((o .0 .0, o .1), o .0 .1)) put
-        (within-shrink x k n more a 0 c place (low .found))
-        (λ d u. (no-node-above a 0 c d place u, λ w. omega arith)))) t
-
-    pub shrink-right : s ≡ rightAt F m (l - 1) → l - 1 < x → RightSet F m₁ m′ (l - 1) q → Shrunk F bound m m′ l x k l
-    shrink-right e h put t n =
-        by-root (λ t. Became F bound m m′ (NoNodeNor t (x + k)) l (shrink x k t))
-        (λ a i b p.
-        let c = l - 1 in
+        record {
+          down = low;
+          same = rw (of-lt x c h);
+          place = within-shrink x k n more a 0 c place (low .found);
+          rest = λ d u. (no-node-above a 0 c d place u, λ w. omega arith);
+          out = λ d o. ((o .0 .0, o .1), o .0 .1);
+        };
+    right = λ {l} {a} {b} {q} p e h s.
+        let c = q .start in
         let place = p .tree .within .2 in
-        let high = longer-right p e h in
-        let start = found-within x n b (c + i) (cells F m) place (high .found) .0 in
-        rw (of-ge x c (omega arith), of-lt c x h)
-        (right-replaced readable (p .tree) (post b n high) (λ d o. ((o .0 .2, o .1), o .0 .1)) put
-        (within-shrink x k n (p .more) b (c + i) (cells F m) place (high .found))
-        (λ d u. (no-node-below b (c + i) (cells F m) d place u, λ w. omega arith)))) t
+        let past = beyond x q e h in
+        let high = longer-right p s past in
+        let start = found-within x n b (c + q .size) (cells F m) place (high .found) .0 in
+        record {
+          down = high;
+          same = rw (of-ge x c h, of-lt c x past);
+          place = within-shrink x k n (p .more) b (c + q .size) (cells F m) place (high .found);
+          rest = λ d u. (no-node-below b (c + q .size) (cells F m) d place u, λ w. omega arith);
+          out = λ d o. ((o .0 .2, o .1), o .0 .1);
+        };
+  }
 
   -- ---- at the run: what is left of it lies between its sons
 
+  pub longer-tree : {m : Words} {l x k : ℕ} → ((t : Tree) × (n : ℕ) × Longer F bound m l (run x n) k t)
+      → (t : Tree) × At F bound m l t
+  longer-tree (t, n, p) = (t, p .tree)
+
+  pub root-tree : {m : Words} {l x k : ℕ} → LongerRoot F bound m l x k → (l ≢ 0) × ((t : Tree) × At F bound m l t)
+  root-tree (t, n, e, p) = (longer-root p, (t, p .tree))
+
+  pub longer-place : {m : Words} {l x k at over : ℕ} → Placed F bound m l (beginsAt x) x at over
+      → ((t : Tree) × (n : ℕ) × Longer F bound m l (run x n) k t) → LongerRoot F bound m at x k
+  longer-place {x = x} {k = k} placed (t, n, p) =
+      let (s, e, q) = place-tree readable (shrinks x n k) placed (t, p) in
+      (s, n, e, q)
+
   module _ {m : Words} {l x k i a b : ℕ} (left : a ≡ leftAt F m (l - 1)) (right : b ≡ rightAt F m (l - 1))
-      (len : i ≡ lengthAt F m (l - 1)) (from : l - 1 ≤ x) (to : x ≤ l - 1) where
+      (len : i ≡ lengthAt F m (l - 1)) where
     by-length : {n : ℕ} (P : Tree → Type 0)
-        → ((ta tb : Tree) → Longer F bound m l (run x n) k (node ta (run (l - 1) i) tb) → P (node ta (run (l - 1) i) tb))
-        → (t : Tree) → Longer F bound m l (run x n) k t → P t
-    by-length {n} P f t p =
-        rooted-length readable (λ t. Longer F bound m l (run x n) k t → P t) (longer-root p) len (λ ta tb q. f ta tb) t
-        (p .tree) p
+        → ((ta tb : Tree) → l - 1 ≡ x → Longer F bound m l (run x n) k (node ta (run (l - 1) i) tb)
+        → P (node ta (run (l - 1) i) tb))
+        → (t : Tree) → Stops (beginsAt x) t → Longer F bound m l (run x n) k t → P t
+    by-length {n} P f t e p =
+        rooted-length readable (λ t. Stops (beginsAt x) t → Longer F bound m l (run x n) k t → P t) (longer-root p) len
+        (λ ta tb q e. f ta tb (eqb-eq (l - 1) x e)) t (p .tree) e p
 
-    longer-here : {n : ℕ} {ta tb : Tree} → Longer F bound m l (run x n) k (node ta (run (l - 1) i) tb) → k < i
-    longer-here {n} {ta} {tb} p =
-        omega (arith, p .more, here-size x n ta (run (l - 1) i) tb 0 (cells F m) (p .tree .within) (omega arith) (p .found))
+    module _ {n : ℕ} {ta tb : Tree} (same : l - 1 ≡ x)
+        (p : Longer F bound m l (run x n) k (node ta (run (l - 1) i) tb)) where
+      longer-here : k < i
+      longer-here =
+          omega (arith, p .more, here-size x n ta (run (l - 1) i) tb 0 (cells F m) (p .tree .within) same (p .found))
 
-    sons-between : {n : ℕ} {ta tb : Tree} → Longer F bound m l (run x n) k (node ta (run (l - 1) i) tb)
-        → Between F bound m a b (run (x + k) (i - k)) ta tb
-    sons-between {n} {ta} {tb} p =
-        let more = longer-here p in
-        let low : suc (l - 1) ≤ suc (x + k) = omega arith in
-        let high : x + k + (i - k) ≤ l - 1 + i = omega arith in
-        record {
-          left = at-left readable (p .tree) left;
-          right = at-right readable (p .tree) right;
-          under = wider ta 0 0 (l - 1) (x + k) (omega arith) (omega arith) (p .tree .within .0);
-          over = wider tb (l - 1 + i) (x + k + (i - k)) (cells F m) (cells F m) high (omega arith) (p .tree .within .2);
-          filled = omega arith;
-          zeros = λ d u v.
-              p .tree .holds .1 d (le-trans (mul-le-mul-left (F .cell) low) u)
-              (lt-of-lt-of-le v (mul-le-mul-left (F .cell) high));
-        }
+      sons-between : Between F bound m a b (run (x + k) (i - k)) ta tb
+      sons-between =
+          let more = longer-here in
+          let low : suc (l - 1) ≤ suc (x + k) = omega arith in
+          let high : x + k + (i - k) ≤ l - 1 + i = omega arith in
+          record {
+            left = at-left readable (p .tree) left;
+            right = at-right readable (p .tree) right;
+            under = wider ta 0 0 (l - 1) (x + k) (omega arith) (omega arith) (p .tree .within .0);
+            over = wider tb (l - 1 + i) (x + k + (i - k)) (cells F m) (cells F m) high (omega arith) (p .tree .within .2);
+            filled = omega arith;
+            zeros = λ d u v.
+                p .tree .holds .1 d (le-trans (mul-le-mul-left (F .cell) low) u)
+                (lt-of-lt-of-le v (mul-le-mul-left (F .cell) high));
+          }
 
-    pub shrink-between : ((t : Tree) × (n : ℕ) × Longer F bound m l (run x n) k t)
+    pub shrink-between : LongerRoot F bound m l x k
         → (k < i) × (x + k < bound) × ((ta : Tree) × (tb : Tree) × Between F bound m a b (run (x + k) (i - k)) ta tb)
-    shrink-between (t, n, p) =
+    shrink-between (t, n, e, p) =
         by-length (λ t. (k < i) × (x + k < bound) × ((ta : Tree) × (tb : Tree) × Between F bound m a b (run (x + k) (i - k)) ta tb))
-        (λ ta tb p.
-        let w = sons-between p in
-        (longer-here p, omega (arith, between-in (ta, tb, w) .1), (ta, tb, w))) t p
+        (λ ta tb same p.
+        let w = sons-between same p in
+        (longer-here same p, omega (arith, between-in (ta, tb, w) .1), (ta, tb, w))) t e p
 
-    pub shrink-here : {m′ : Words} {q : ℕ} → Settled F bound m m′ a b (run (x + k) (i - k)) q → Shrunk F bound m m′ l x k q
-    shrink-here {m′} {q} post t n =
+    pub shrink-here : {m′ : Words} {q n : ℕ} → Settled F bound m m′ a b (run (x + k) (i - k)) q
+        → (t : Tree) → Stops (beginsAt x) t → Longer F bound m l (run x n) k t
+        → Became F bound m m′ (NoNodeNor t (x + k)) q (shrink x k t)
+    shrink-here {m′} {q} post =
         by-length (λ t. Became F bound m m′ (NoNodeNor t (x + k)) q (shrink x k t))
-        (λ ta tb p.
-        let made = post ta tb (sons-between p) in
-        rw (of-ge x (l - 1) from, of-ge (l - 1) x to)
-        (record { tree = made .tree; frame = λ d o. made .frame d (o .0 .0, o .0 .2, o .1); long = made .long })) t
+        (λ ta tb same p.
+        let made = post ta tb (sons-between same p) in
+        rw (of-ge x (l - 1) (omega arith), of-ge (l - 1) x (omega arith))
+        (record { tree = made .tree; frame = λ d o. made .frame d (o .0 .0, o .0 .2, o .1); long = made .long }))

@@ -11,7 +11,7 @@ use Rattle.stored_forms.specs.Tree.{Tree, leaf, node, inorder, Form, cellWords,
 use Rattle.stored_forms.specs.Blocks.{leftmost}
 use Rattle.stored_forms.specs.Blocks.{Within, NotFirst, Holds, Zeros}
 use Rattle.free_tree.specs.Shapes.{top, join, below, above, insert, delete, standsOver, settle, shrink}
-use Rattle.free_tree.specs.Shapes.{beginsAt, linkTo}
+use Rattle.free_tree.specs.Shapes.{Under, Stops, beginsAt, linkTo}
 
 -- a link of the first form is half a word
 abbrev pub links : ℕ
@@ -108,7 +108,7 @@ RightJoined F bound m m′ a b = (ta tb : Tree) → RightWins F bound m a b ta t
 abbrev pub BothJoined : Form → ℕ → Words → Words → ℕ → ℕ → ℕ → Type 0
 BothJoined F bound m m′ a b k = (ta tb : Tree) → Beside F bound m a b ta tb → Joined F bound m m′ ta tb k
 
--- ---- split, insert, delete
+-- ---- split
 
 -- the tree t split at cell x: its parts lie at the links lo and hi
 pub record Parted (F : Form) (bound : ℕ) (m m′ : Words) (x : ℕ) (t : Tree) (lo hi : ℕ) : Type 0 where
@@ -118,6 +118,28 @@ pub record Parted (F : Form) (bound : ℕ) (m m′ : Words) (x : ℕ) (t : Tree)
 -- what the split of the tree at the link l ensures
 abbrev pub Parts : Form → ℕ → Words → Words → ℕ → ℕ → ℕ → ℕ → Type 0
 Parts F bound m m′ l x lo hi = (t : Tree) → At F bound m l t → Parted F bound m m′ x t lo hi
+
+-- ---- the place of a change
+
+-- Where the search by the address of cell x ends in the tree T: at the subtree `sub`, which lies at the link `at` and
+-- whose father has the link `over`.
+pub record Place (F : Form) (bound : ℕ) (m : Words) (stop : Run → Bool) (x : ℕ) (T : Tree) (at over : ℕ) : Type 0 where
+  pub sub : Tree
+  pub tree : At F bound m at sub
+  pub way : Under stop x T sub over
+  pub end : Stops stop sub
+
+-- what that search of the tree at the link l ensures
+abbrev pub Placed : Form → ℕ → Words → ℕ → (Run → Bool) → ℕ → ℕ → ℕ → Type 0
+Placed F bound m l stop x at over = (T : Tree) → At F bound m l T → Place F bound m stop x T at over
+
+-- The link q is set at the node at the link `over`, on the side where cell x is, and the link to the whole is `root` as
+-- before; where there is no such node, q is the link to the whole.
+abbrev pub Hung : Form → Words → Words → ℕ → ℕ → ℕ → ℕ → ℕ → Type 0
+Hung F m m′ root zero x q k = (m′ ≡ m) × (k ≡ q)
+Hung F m m′ root (suc c) x q k = (k ≡ root) × (x < c → LeftSet F m m′ c q) × (c ≤ x → RightSet F m m′ c q)
+
+-- ---- insert, delete
 
 -- no block of the tree overlaps the run
 abbrev pub Apart : Run → Tree → Type 0

@@ -1,7 +1,8 @@
 -- Stephenson's steps on the tree of the free runs, with 01's tie rule, and what each does to the list of the runs.
 -- 01, "Steps, from 000 with this tie rule". Assumes nothing.
-use Prim.Native.Nat.{ℕ, suc, _+_, _-_}
-use mathlib.Core.Bool.{Bool, true, cond, _&&_, _||_}
+use Prim.Native.Nat.{ℕ, suc, _+_, _-_, _≤_, _<_}
+use mathlib.Core.Path.{_≡_}
+use mathlib.Core.Bool.{Bool, true, false, cond, _&&_, _||_}
 use mathlib.Core.List.{List, [], _∷_}
 use mathlib.Core.Option.{Option, none, some}
 use lib.Dec.{eqb, leb, ltb}
@@ -75,6 +76,22 @@ shrink x k leaf = leaf
 shrink x k (node a q b) =
     cond (ltb x (q .start)) (node (shrink x k a) q b)
     (cond (ltb (q .start) x) (node a q (shrink x k b)) (settle (run (x + k) (q .size - k)) a b))
+
+-- ---- the place of a change
+
+-- The search by the address of cell x goes down from the tree T to its subtree t, past nodes that do not stop it. The
+-- last number is the link to t's father, 0 for none.
+pub data Under (stop : Run → Bool) (x : ℕ) (T : Tree) : Tree → ℕ → Type 0 where
+  whole : Under stop x T T 0
+  goLeft : {a b : Tree} {q : Run} {over : ℕ} → Under stop x T (node a q b) over → stop q ≡ false → x < q .start
+      → Under stop x T a (suc (q .start))
+  goRight : {a b : Tree} {q : Run} {over : ℕ} → Under stop x T (node a q b) over → stop q ≡ false → q .start ≤ x
+      → Under stop x T b (suc (q .start))
+
+-- it ends at a node that stops it, or where there is none
+abbrev pub Stops : (Run → Bool) → Tree → Type 0
+Stops stop leaf = Unit {0}
+Stops stop (node a q b) = stop q ≡ true
 
 -- ---- lists of runs, in address order
 

@@ -3,7 +3,7 @@
 ghost use mathlib.Core.Path.{_≡_};
 ghost use mathlib.Core.Logic.{_≢_};
 ghost use mathlib.Core.Bool.{Bool};
-ghost use Prim.Native.Nat.{ℕ, _+_, _<_};
+ghost use Prim.Native.Nat.{ℕ, _+_, _≤_, _<_};
 ghost use Rattle.words.specs.Lists.{firstThat};
 ghost use Rattle.ledger.specs.Runs.{Run, run};
 ghost use Rattle.stored_forms.specs.Tree.{Tree, inorder, formOne, lengthAt, leftAt, rightAt};
@@ -12,7 +12,7 @@ ghost use Rattle.free_tree.specs.Shapes.{standsAbove, endsAt, beginsAt, 
 ghost use Rattle.free_tree.specs.Held.{links, cells, NodePut, LeftSet, RightSet, NodeCleared, At, Beside};
 ghost use Rattle.free_tree.specs.Held.{LeftWins, RightWins, LeftJoined, RightJoined, BothJoined, Parts, Room};
 ghost use Rattle.free_tree.specs.Held.{Inserted, Deleted, OverRoot, Between, Settled, Longer, Shrunk};
-ghost use Rattle.free_tree.specs.Held.{LeftmostFound, RunFound};
+ghost use Rattle.free_tree.specs.Held.{LeftmostFound, RunFound, Placed, Hung};
 
 // ---- one node
 
@@ -142,7 +142,7 @@ pub fn join_trees(arena: &mut [u32], a: usize, b: usize) -> usize
     }
 }
 
-// ---- split, insert, delete
+// ---- split
 
 // The links to the two parts of a tree.
 pub struct Sides {
@@ -183,6 +183,14 @@ pub fn split(arena: &mut [u32], l: usize, x: usize) -> Sides
     }
 }
 
+// ---- the place of a change
+
+// Where a search by address ends: the link to the subtree there, 0 for none, and the link to its father, 0 for none.
+pub struct Place {
+    pub at: usize,
+    pub over: usize,
+}
+
 // Whether a block of `n` cells at cell `x` stands above one of `k` cells at cell `c`.
 fn stands_above(x: usize, n: u32, c: usize, k: u32) -> bool
     ensures { λ r. ⌜ r ≡ standsAbove (run x n) (run c k) ⌝ }
@@ -190,35 +198,86 @@ fn stands_above(x: usize, n: u32, c: usize, k: u32) -> bool
     (k < n) | ((k == n) & (x < c))
 }
 
+// From the link `l` down by the address of cell `x`, to the first node that a block of `n` cells there stands above.
+fn place_for(arena: &[u32], l: usize, x: usize, n: u32) -> Place
+    requires { ⌜ ((t : Tree) × At formOne links (now arena) l t) ⌝ }
+    ensures { λ r. ⌜ Placed formOne links (now (arena .entry)) l (standsAbove (run x n)) x (r .at) (r .over) ⌝ }
+{
+    let mut at = l;
+    let mut over: usize = 0;
+    while at != 0 {
+        let c = at - 1;
+        let k = length_of(arena, c);
+        if stands_above(x, n, c, k) {
+            return Place { at, over };
+        }
+        over = at;
+        if x < c {
+            at = left_of(arena, c);
+        } else {
+            at = right_of(arena, c);
+        }
+    }
+    Place { at, over }
+}
+
+// From the link `l` down by address to the node at cell `x`.
+fn place_of(arena: &[u32], l: usize, x: usize) -> Place
+    requires { ⌜ ((t : Tree) × At formOne links (now arena) l t) ⌝ }
+    ensures { λ r. ⌜ Placed formOne links (now (arena .entry)) l (beginsAt x) x (r .at) (r .over) ⌝ }
+{
+    let mut at = l;
+    let mut over: usize = 0;
+    while at != 0 {
+        let c = at - 1;
+        if c == x {
+            return Place { at, over };
+        }
+        over = at;
+        if x < c {
+            at = left_of(arena, c);
+        } else {
+            at = right_of(arena, c);
+        }
+    }
+    Place { at, over }
+}
+
+// Hangs the tree at the link `q` on the node at the link `over`, on the side where cell `x` is, and returns the link to
+// the whole: `root`, or `q` where there is no node to hang it on. No other link of the tree is written.
+fn hang(arena: &mut [u32], root: usize, over: usize, x: usize, q: usize) -> usize
+    requires { ⌜ over ≤ cells formOne (now arena) ⌝ }
+    requires { ⌜ q < links ⌝ }
+    ensures { λ k. ⌜ Hung formOne (now (arena .entry)) (now (arena .exit)) root over x q k ⌝ }
+{
+    if over == 0 {
+        return q;
+    }
+    let c = over - 1;
+    if c <= x {
+        set_right(arena, c, q);
+        return root;
+    }
+    set_left(arena, c, q);
+    root
+}
+
+// ---- insert, delete
+
 // Inserts the block of `n` cells at cell `x` into the tree at the link `l`, and returns the link to the whole. The
 // block's words beyond its first cell are zero already.
 pub fn insert(arena: &mut [u32], l: usize, x: usize, n: u32) -> usize
     requires { ⌜ ((t : Tree) × Room formOne links (now arena) l (run x n) t) ⌝ }
     ensures { λ r. ⌜ Inserted formOne links (now (arena .entry)) (now (arena .exit)) l (run x n) r ⌝ }
 {
-    if l == 0 {
-        put_node(arena, x, n, 0, 0);
-        return x + 1;
-    }
-    let c = l - 1;
-    let k = length_of(arena, c);
-    if stands_above(x, n, c, k) {
-        let p = split(arena, l, x);
-        let lo = p.lo;
-        let hi = p.hi;
-        put_node(arena, x, n, lo, hi);
-        return x + 1;
-    }
-    if c < x {
-        let s = right_of(arena, c);
-        let q = insert(arena, s, x, n);
-        set_right(arena, c, q);
-    } else {
-        let s = left_of(arena, c);
-        let q = insert(arena, s, x, n);
-        set_left(arena, c, q);
-    }
-    l
+    let p = place_for(arena, l, x, n);
+    let at = p.at;
+    let over = p.over;
+    let s = split(arena, at, x);
+    let lo = s.lo;
+    let hi = s.hi;
+    put_node(arena, x, n, lo, hi);
+    hang(arena, l, over, x, x + 1)
 }
 
 // Takes the block at cell `x` out of the tree at the link `l`, and returns the link to the rest. The block's words
@@ -227,25 +286,17 @@ pub fn delete(arena: &mut [u32], l: usize, x: usize) -> usize
     requires { ⌜ ((t : Tree) × At formOne links (now arena) l t) ⌝ }
     ensures { λ r. ⌜ Deleted formOne links (now (arena .entry)) (now (arena .exit)) l x r ⌝ }
 {
-    if l == 0 {
-        return 0;
-    }
-    let c = l - 1;
-    if x < c {
-        let s = left_of(arena, c);
-        let q = delete(arena, s, x);
-        set_left(arena, c, q);
+    let p = place_of(arena, l, x);
+    let at = p.at;
+    let over = p.over;
+    if at == 0 {
         return l;
     }
-    if c < x {
-        let s = right_of(arena, c);
-        let q = delete(arena, s, x);
-        set_right(arena, c, q);
-        return l;
-    }
+    let c = at - 1;
     let a = left_of(arena, c);
     let b = right_of(arena, c);
-    join_trees(arena, a, b)
+    let q = join_trees(arena, a, b);
+    hang(arena, l, over, x, q)
 }
 
 // ---- shrink
@@ -284,23 +335,15 @@ pub fn shrink(arena: &mut [u32], l: usize, x: usize, k: usize) -> usize
     requires { ⌜ ((t : Tree) × (n : ℕ) × Longer formOne links (now arena) l (run x n) k t) ⌝ }
     ensures { λ r. ⌜ Shrunk formOne links (now (arena .entry)) (now (arena .exit)) l x k r ⌝ }
 {
-    let c = l - 1;
-    if x < c {
-        let s = left_of(arena, c);
-        let q = shrink(arena, s, x, k);
-        set_left(arena, c, q);
-        return l;
-    }
-    if c < x {
-        let s = right_of(arena, c);
-        let q = shrink(arena, s, x, k);
-        set_right(arena, c, q);
-        return l;
-    }
+    let p = place_of(arena, l, x);
+    let at = p.at;
+    let over = p.over;
+    let c = at - 1;
     let a = left_of(arena, c);
     let b = right_of(arena, c);
     let n = length_of(arena, c) as usize;
-    settle(arena, a, b, x + k, (n - k) as u32)
+    let q = settle(arena, a, b, x + k, (n - k) as u32);
+    hang(arena, l, over, x, q)
 }
 
 // ---- searches: each returns a link, 0 for none

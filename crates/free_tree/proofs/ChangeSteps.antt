@@ -114,7 +114,8 @@ module _ {F : Form} {bound : ℕ} (readable : Readable F bound) where
 
   -- and above it the insertion goes down to a son
   pub inserts : {m : Words} (r : Run)
-      → Local F bound m (standsAbove r) (r .start) (λ l t. Room F bound m l r t) (insert r) (λ t. NoNodeNor t (r .start))
+      → Local F bound m (standsAbove r) (r .start) (λ l t. Room F bound m l r t) (insert r)
+      (λ t. NoNodeNor t (r .start))
   inserts {m} r = record {
     tree = λ p. p .tree;
     left = λ {l} {a} {b} {q} p e h s.

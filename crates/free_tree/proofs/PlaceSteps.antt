@@ -12,8 +12,8 @@ use Rattle.stored_forms.specs.Blocks.{Within}
 use Rattle.stored_forms.proofs.NodeLaws.{Readable, link-within}
 use Rattle.free_tree.specs.Shapes.{Under, whole, goLeft, goRight, Stops}
 use Rattle.free_tree.specs.Held.{cells, LeftSet, RightSet, At, Became, Place, Placed, Hung}
-use Rattle.free_tree.proofs.StepLaws.{rooted-length, at-none, at-small, at-left, at-right, left-kept, right-kept}
-use Rattle.free_tree.proofs.StepLaws.{left-replaced, right-replaced}
+use Rattle.free_tree.proofs.StepLaws.{rooted-length, at-none, at-small, at-left, at-right}
+use Rattle.free_tree.proofs.StepLaws.{left-kept, right-kept, left-replaced, right-replaced}
 
 -- ---- the way down
 
@@ -78,8 +78,8 @@ module _ {F : Form} {m m′ : Words} {over x q : ℕ} (root : ℕ) (z : over ≢
 
 -- ---- the change of a son
 
--- The change f of a tree with R, which leaves cells that are `off` it alone, is at the node a q b the change of its left
--- son, in the son's place; of its right son.
+-- The change f of a tree that meets R touches no cell that is `off` the tree. At the node a q b it is the change of the
+-- left son, in the son's place; of the right son.
 pub record InLeft (R : ℕ → Tree → Type 0) (f : Tree → Tree) (off : Tree → ℕ → Type 0) (a : Tree) (q : Run) (b : Tree)
     : Type 0 where
   pub down : R (link a) a
@@ -195,7 +195,8 @@ module _ {F : Form} {bound : ℕ} (readable : Readable F bound) {m : Words} {sto
         carried p (w .way) .stay (rw (w .tree .at) (made (w .sub) (there p w)))
 
     -- the subtree there was changed
-    module _ {m₁ : Words} {q : ℕ} (made : (t : Tree) → Stops stop t → R at t → Became F bound m m₁ (off t) q (f t)) where
+    module _ {m₁ : Words} {q : ℕ}
+        (made : (t : Tree) → Stops stop t → R at t → Became F bound m m₁ (off t) q (f t)) where
       pub place-ready : ((T : Tree) × R l T) → (over ≤ cells F m₁) × (q < bound)
       place-ready (T, p) =
           let w = placed T (local .tree p) in

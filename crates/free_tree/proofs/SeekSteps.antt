@@ -14,10 +14,11 @@ use Rattle.stored_forms.specs.Tree.{Tree, leaf, node, inorder, Form, lengthAt, 
 use Rattle.stored_forms.specs.Blocks.{rootFits, leftmost}
 use Rattle.stored_forms.proofs.TreeLaws.{longEnough}
 use Rattle.stored_forms.proofs.NodeLaws.{Readable}
-use Rattle.free_tree.specs.Shapes.{linkTo}
-use Rattle.free_tree.specs.Held.{cells, At, LeftmostFound, RunFound}
+use Rattle.free_tree.specs.Shapes.{beginsAt, linkTo}
+use Rattle.free_tree.specs.Held.{cells, At, Placed, LeftmostFound, RunFound}
 use Rattle.free_tree.proofs.RunOrder.{within-all, firstThat-past, firstThat-before}
 use Rattle.free_tree.proofs.StepLaws.{rooted-length, at-none, at-left, at-right}
+use Rattle.free_tree.proofs.ShrinkLaws.{place-found}
 
 -- the link to the leftmost fit of a tree whose root fits, else the last link that fitted
 abbrev fitOr : ℕ → Tree → ℕ → ℕ
@@ -102,6 +103,13 @@ module _ {F : Form} {bound : ℕ} (readable : Readable F bound) where
   run-end {p = p} z inv T q =
       let (t, r, e) = inv T q in
       sym (ap linkTo (e ∙ at-none (λ t. firstThat p (inorder t) ≡ none) z refl t r))
+
+  -- the run that begins at cell x is where the search for its place ends
+  pub run-place : {m : Words} {root x at over : ℕ} → Placed F bound m root (beginsAt x) x at over
+      → RunFound F bound m root (beginsAt x) at
+  run-place {m} placed T p =
+      let w = placed T p in
+      sym (place-found 0 (cells F m) (p .within) (w .sub) (w .way) (w .end) ∙ w .tree .at)
 
   -- k is the root's length, and no run on one side of it passes
   module _ {m : Words} {root l k : ℕ} {p : Run → Bool} (z : l ≢ 0) (len : k ≡ lengthAt F m (l - 1))

@@ -150,7 +150,8 @@ module _ {F : Form} {bound : ℕ} (readable : Readable F bound) where
 
   -- above the run the step goes down to a son
   pub shrinks : {m : Words} (x n k : ℕ)
-      → Local F bound m (beginsAt x) x (λ l t. Longer F bound m l (run x n) k t) (shrink x k) (λ t. NoNodeNor t (x + k))
+      → Local F bound m (beginsAt x) x (λ l t. Longer F bound m l (run x n) k t) (shrink x k)
+      (λ t. NoNodeNor t (x + k))
   shrinks {m} x n k = record {
     tree = λ p. p .tree;
     left = λ {l} {a} {b} {q} p e h s.
@@ -221,7 +222,8 @@ module _ {F : Form} {bound : ℕ} (readable : Readable F bound) where
             left = at-left readable (p .tree) left;
             right = at-right readable (p .tree) right;
             under = wider ta 0 0 (l - 1) (x + k) (omega arith) (omega arith) (p .tree .within .0);
-            over = wider tb (l - 1 + i) (x + k + (i - k)) (cells F m) (cells F m) high (omega arith) (p .tree .within .2);
+            over =
+                wider tb (l - 1 + i) (x + k + (i - k)) (cells F m) (cells F m) high (omega arith) (p .tree .within .2);
             filled = omega arith;
             zeros = λ d u v.
                 p .tree .holds .1 d (le-trans (mul-le-mul-left (F .cell) low) u)
@@ -231,7 +233,9 @@ module _ {F : Form} {bound : ℕ} (readable : Readable F bound) where
     pub shrink-between : LongerRoot F bound m l x k
         → (k < i) × (x + k < bound) × ((ta : Tree) × (tb : Tree) × Between F bound m a b (run (x + k) (i - k)) ta tb)
     shrink-between (t, n, e, p) =
-        by-length (λ t. (k < i) × (x + k < bound) × ((ta : Tree) × (tb : Tree) × Between F bound m a b (run (x + k) (i - k)) ta tb))
+        by-length
+        (λ t.
+        (k < i) × (x + k < bound) × ((ta : Tree) × (tb : Tree) × Between F bound m a b (run (x + k) (i - k)) ta tb))
         (λ ta tb same p.
         let w = sons-between same p in
         (longer-here same p, omega (arith, between-in (ta, tb, w) .1), (ta, tb, w))) t e p

@@ -123,7 +123,8 @@ Parts F bound m m′ l x lo hi = (t : Tree) → At F bound m l t → Parted F bo
 
 -- Where the search by the address of cell x ends in the tree T: at the subtree `sub`, which lies at the link `at` and
 -- whose father has the link `over`.
-pub record Place (F : Form) (bound : ℕ) (m : Words) (stop : Run → Bool) (x : ℕ) (T : Tree) (at over : ℕ) : Type 0 where
+pub record Place (F : Form) (bound : ℕ) (m : Words) (stop : Run → Bool) (x : ℕ) (T : Tree) (at over : ℕ)
+    : Type 0 where
   pub sub : Tree
   pub tree : At F bound m at sub
   pub way : Under stop x T sub over

@@ -243,8 +243,8 @@ fn place_of(arena: &[u32], l: usize, x: usize) -> Place
     Place { at, over }
 }
 
-// Hangs the tree at the link `q` on the node at the link `over`, on the side where cell `x` is, and returns the link to
-// the whole: `root`, or `q` where there is no node to hang it on. No other link of the tree is written.
+// Hangs the tree at the link `q` on the node at the link `over`, on the side where cell `x` is, and returns the link
+// to the whole: `root`, or `q` where there is no such node. The nodes above it keep their links, so none is written.
 fn hang(arena: &mut [u32], root: usize, over: usize, x: usize, q: usize) -> usize
     requires { ⌜ over ≤ cells formOne (now arena) ⌝ }
     requires { ⌜ q < links ⌝ }
@@ -392,17 +392,6 @@ pub fn beginning_at(arena: &[u32], root: usize, x: usize) -> usize
     requires { ⌜ ((t : Tree) × At formOne links (now arena) root t) ⌝ }
     ensures { λ r. ⌜ RunFound formOne links (now (arena .entry)) root (beginsAt x) r ⌝ }
 {
-    let mut l = root;
-    while l != 0 {
-        let c = l - 1;
-        if c == x {
-            return l;
-        }
-        if x < c {
-            l = left_of(arena, c);
-        } else {
-            l = right_of(arena, c);
-        }
-    }
-    0
+    let p = place_of(arena, root, x);
+    p.at
 }

@@ -26,7 +26,8 @@ sub-c c = search needs
 left-of-requires : tie.Need-left-of-requires
 left-of-requires c κs =
     let d = c .before .before in
-    at-in readable-one (c .before .if1 .left) (place-at readable-one (d .place-of .ensures) (d .before .before .before .pre))
+    at-in readable-one (c .before .if1 .left)
+    (place-at readable-one (d .place-of .ensures) (d .before .before .before .pre))
 
 right-of-requires : tie.Need-right-of-requires
 right-of-requires c κs =
@@ -37,7 +38,8 @@ right-of-requires c κs =
 join-trees-requires : tie.Need-join-trees-requires
 join-trees-requires c κs =
     let d = c .before .before .before .before .before in
-    sons-beside readable-one (d .if1 .left) (c .before .before .before .left-of .ensures) (c .before .right-of .ensures)
+    sons-beside readable-one (d .if1 .left) (c .before .before .before .left-of .ensures)
+    (c .before .right-of .ensures)
     (place-at readable-one (d .before .place-of .ensures) (d .before .before .before .before .pre))
 
 hang-requires : tie.Need-hang-requires

@@ -35,21 +35,23 @@ add-hang c = search needs
 
 hang-requires : tie.Need-hang-requires
 hang-requires c κs =
-    let d = c .before .before .before .before .before .before .before .before .before in
+    let j = c .before .before .before in
+    let d = j .before .before .before .before .before .before in
     let s = d .before .before .before in
     place-ready readable-one (inserts readable-one (run (s .args .x) (s .args .n))) (d .place-for .ensures)
-    (insert-here readable-one (c .before .before .before .before .before .before .before .split .ensures) (c .before .before .before .put-node .ensures)) (s .pre)
+    (insert-here readable-one (j .before .before .before .before .split .ensures) (j .put-node .ensures)) (s .pre)
 
 same-length : tie.Need-same-length
 same-length c = search needs
 
 returns : tie.Need-returns
 returns c =
-    let d = c .before .before .before .before .before .before .before .before .before .before .before .before in
+    let j = c .before .before .before .before .before .before in
+    let d = j .before .before .before .before .before .before in
     let s = d .before .before .before .args in
     place-hung readable-one (inserts readable-one (run (s .x) (s .n))) (d .place-for .ensures)
-    (insert-here readable-one (c .before .before .before .before .before .before .before .before .before .before .split .ensures)
-    (c .before .before .before .before .before .before .put-node .ensures)) (c .before .before .hang .ensures)
+    (insert-here readable-one (j .before .before .before .before .split .ensures) (j .put-node .ensures))
+    (c .before .before .hang .ensures)
 
 pub insert-spec : {M : Type 1} → statement M
 insert-spec =

@@ -9,7 +9,8 @@ use Rattle.stored_forms.proofs.NodeLaws.{readable-one}
 use Rattle.free_tree.specs.Shapes.{standsAbove}
 use Rattle.free_tree.specs.Held.{links}
 use Rattle.free_tree.proofs.StepLaws.{count, at-in, down-left, down-right}
-use Rattle.free_tree.proofs.PlaceSteps.{Seeking, seek-start, seek-tree, seek-end, seek-stop, seek-left, seek-right}
+use Rattle.free_tree.proofs.PlaceSteps.{Seeking, seek-start, seek-tree, seek-end, seek-stop}
+use Rattle.free_tree.proofs.PlaceSteps.{seek-left, seek-right}
 use Rattle.free_tree.proofs.place_for.Statement.{statement}
 use Rattle.free_tree.proofs.place_for.Tie as tie
 

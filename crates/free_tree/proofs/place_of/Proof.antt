@@ -1,5 +1,5 @@
--- `free_tree::place_of` meets its contract. The loop's invariant: the search is at the link `at`, below the link `over`.
--- The measure is the number of nodes there. Assumes nothing.
+-- `free_tree::place_of` meets its contract. The loop's invariant: the search is at the link `at`, below the link
+-- `over`. The measure is the number of nodes there. Assumes nothing.
 use native.Mathlib.Omega.{arith}
 use mathlib.Core.Path.{refl}
 use borrow.Author.Tests.{eq-eqb}
@@ -9,7 +9,8 @@ use Rattle.stored_forms.proofs.NodeLaws.{readable-one}
 use Rattle.free_tree.specs.Shapes.{beginsAt}
 use Rattle.free_tree.specs.Held.{links}
 use Rattle.free_tree.proofs.StepLaws.{count, at-in, down-left, down-right}
-use Rattle.free_tree.proofs.PlaceSteps.{Seeking, seek-start, seek-tree, seek-end, seek-stop, seek-left, seek-right}
+use Rattle.free_tree.proofs.PlaceSteps.{Seeking, seek-start, seek-tree, seek-end, seek-stop}
+use Rattle.free_tree.proofs.PlaceSteps.{seek-left, seek-right}
 use Rattle.free_tree.proofs.place_of.Statement.{statement}
 use Rattle.free_tree.proofs.place_of.Tie as tie
 

@@ -77,8 +77,9 @@ hang-requires c κs =
     let s = d .before .before .before in
     let (t, n, p) = s .pre in
     place-ready readable-one (shrinks readable-one (s .args .x) n (s .args .k)) (d .place-of .ensures)
-    (shrink-here readable-one (j .before .before .before .before .before .before .left-of .ensures) (j .before .before .before .before .right-of .ensures)
-    (j .before .before .length-of .ensures) (j .settle .ensures)) (t, p)
+    (shrink-here readable-one (j .before .before .before .before .before .before .left-of .ensures)
+    (j .before .before .before .before .right-of .ensures) (j .before .before .length-of .ensures)
+    (j .settle .ensures)) (t, p)
 
 same-length : tie.Need-same-length
 same-length c = search needs
@@ -89,8 +90,9 @@ returns c t n =
     let d = j .before .before .before .before .before .before .before .before in
     let s = d .before .before .before .args in
     place-hung readable-one (shrinks readable-one (s .x) n (s .k)) (d .place-of .ensures)
-    (shrink-here readable-one (j .before .before .before .before .before .before .left-of .ensures) (j .before .before .before .before .right-of .ensures)
-    (j .before .before .length-of .ensures) (j .settle .ensures)) (c .before .before .hang .ensures) t
+    (shrink-here readable-one (j .before .before .before .before .before .before .left-of .ensures)
+    (j .before .before .before .before .right-of .ensures) (j .before .before .length-of .ensures)
+    (j .settle .ensures)) (c .before .before .hang .ensures) t
 
 pub shrink-spec : {M : Type 1} → statement M
 shrink-spec =

@@ -92,6 +92,15 @@ pub fn put_held(v: &mut [i32], at: usize, n: usize)
     v[at] = h;
 }
 
+// Whether a held block of n words begins here, by one comparison.
+pub fn is_held(v: &[i32], at: usize, n: usize) -> bool
+    requires { ⌜ (at < length (now v)) × (n < 2 ^ 31) ⌝ }
+    ensures { λ r. ⌜ (r ≡ true → getD (now (v .entry)) at (pos 0) ≡ negℤ (pos n)) ⌝ }
+{
+    let h = negated(free_word(n as u32));
+    v[at] == h
+}
+
 // Whether s is a number of segments: a power of two, 1 to 256.
 pub fn is_segments(s: u32) -> bool
     ensures { λ r. ⌜ r ≡ isPower s depth ⌝ }

@@ -1,6 +1,7 @@
 // A quick test of the segment pool: blocks that lie side by side from the first word to the last, and an index that is
 // theirs. No unit is marked: the map has a bit for each word, set only where a record's block begins.
 use control_words::free_at;
+use control_words::is_held;
 use control_words::size_at;
 use control_words::weight_at;
 use ledger::Rule;
@@ -191,10 +192,7 @@ fn map_row(
     }
     let r = read_row(table, i);
     let at = r.address as usize - 1;
-    if size_at(v, at) != u {
-        return words + 1;
-    }
-    if free_at(v, at) != 0 {
+    if !is_held(v, at, u) {
         return words + 1;
     }
     put_bit(&mut *map, at);

@@ -1,11 +1,15 @@
 -- `segment_tiles::map_row` meets its contract. Assumes nothing.
 use Prim.Native.Nat.{_-_, _≤_}
 use native.Mathlib.Omega.{arith}
-use mathlib.Core.Path.{_≡_, _∙_, sym, ap}
+use mathlib.Core.Path.{_≡_, _∙_, ap}
 use borrow.Author.Needs.{needs}
 use denote.Ref.{now}
+use lib.IntN.{pos, natAbs}
 use lib.ListN.{length}
+use Rattle.words.proofs.Tests.{not-false}
 use Rattle.ledger.specs.declared.Row.{Row}
+use Rattle.control_words.specs.Control.{freeSize}
+use Rattle.control_words.proofs.SignLaws.{abs-neg, free-neg}
 use Rattle.segment_tiles.proofs.HeadLaws.{head-inside, joined-none, joined-live}
 use Rattle.segment_tiles.proofs.map_row.Statement.{statement}
 use Rattle.segment_tiles.proofs.map_row.Tie as tie
@@ -62,8 +66,12 @@ cast-at c = search needs
 sub-at : tie.Need-sub-at
 sub-at c = place (c .before) .0
 
-size-at-requires : tie.Need-size-at-requires
-size-at-requires c κs = let (low, high) = place (c .before) in omega arith
+is-held-requires : tie.Need-is-held-requires
+is-held-requires c κs =
+    let (low, high) = place (c .before) in
+    let few = start (c .before) .pre .0 in
+    let fits = c .before .before .if2 .left in
+    (omega arith, omega arith)
 
 add-result : tie.Need-add-result
 add-result c = search needs
@@ -74,47 +82,35 @@ same-length-3 c = search needs
 returns-3 : tie.Need-returns-3
 returns-3 c = λ h. absurd (omega arith)
 
-free-at-requires : tie.Need-free-at-requires
-free-at-requires c κs = let (low, high) = place (c .before .before .before) in omega arith
-
-add-result-2 : tie.Need-add-result-2
-add-result-2 c = search needs
+put-bit-requires : tie.Need-put-bit-requires
+put-bit-requires c κs =
+    let r = c .before .before .before .before in
+    let (low, high) = place r in
+    omega (arith, start r .pre .1)
 
 same-length-4 : tie.Need-same-length-4
 same-length-4 c = search needs
 
-returns-4 : tie.Need-returns-4
-returns-4 c = λ h. absurd (omega arith)
-
-put-bit-requires : tie.Need-put-bit-requires
-put-bit-requires c κs =
-    let r = c .before .before .before .before .before .before in
-    let (low, high) = place r in
-    omega (arith, start r .pre .1)
-
 same-length-5 : tie.Need-same-length-5
 same-length-5 c = search needs
 
-same-length-6 : tie.Need-same-length-6
-same-length-6 c = search needs
-
-returns-5 : tie.Need-returns-5
-returns-5 c =
+returns-4 : tie.Need-returns-4
+returns-4 c =
     let p = c .before .before in
-    let f = p .before .before in
-    let z = f .before .before .before in
-    let r = z .before .before in
+    let t = p .before .before in
+    let h = t .before in
+    let r = h .before .before in
     let e = entry r in
     let s = start r in
     let a = s .args in
     let (few, long, below, some, wide, noted, heads) = s .pre in
     let u = e .enter-row .result in
     let (joins, next) = e .enter-row .ensures (r .before .if2 .left) in
-    λ h. joined-live (now (a .v)) (a .next) (now (a .table)) (a .i) u joins (now (a .map)) (p .put-bit .last .0)
+    let word = h .is-held .ensures (not-false (h .is-held .result) (t .if3 .left)) in
+    λ l. joined-live (now (a .v)) (a .next) (now (a .table)) (a .i) u joins (now (a .map)) (p .put-bit .last .0)
     (e .enter-row .last .1 .1 .1 .1 .1 .0) (a .m) (r .read-row .result .address - 1) next heads
     (r .before .before .if1 .left) (ap (λ (q : Row). q .address - 1) (r .read-row .ensures))
-    (sym (z .size-at .ensures) ∙ f .before .before .if3 .left) (sym (f .before .free-at .ensures) ∙ f .if4 .left)
-    (p .put-bit .ensures)
+    (ap natAbs word ∙ abs-neg (pos u)) (ap freeSize word ∙ free-neg u) (p .put-bit .ensures)
 
 pub map-row-spec : {M : Type 1} → statement M
 map-row-spec =
@@ -128,15 +124,11 @@ map-row-spec =
     read-row-requires
     cast-at
     sub-at
-    size-at-requires
+    is-held-requires
     add-result
     same-length-3
     returns-3
-    free-at-requires
-    add-result-2
-    same-length-4
-    returns-4
     put-bit-requires
+    same-length-4
     same-length-5
-    same-length-6
-    returns-5)
+    returns-4)

@@ -96,6 +96,7 @@ pub fn put_held(v: &mut [i32], at: usize, n: usize)
 pub fn is_held(v: &[i32], at: usize, n: usize) -> bool
     requires { ⌜ (at < length (now v)) × (n < 2 ^ 31) ⌝ }
     ensures { λ r. ⌜ (r ≡ true → getD (now (v .entry)) at (pos 0) ≡ negℤ (pos n)) ⌝ }
+    ensures { λ r. ⌜ (getD (now (v .entry)) at (pos 0) ≡ negℤ (pos n) → r ≡ true) ⌝ }
 {
     let h = negated(free_word(n as u32));
     v[at] == h

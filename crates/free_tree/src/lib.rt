@@ -183,6 +183,17 @@ pub fn split(arena: &mut [u32], l: usize, x: usize) -> Sides
     }
 }
 
+// The same, without a call where there is no tree, which is so at most places of an insertion.
+fn parts(arena: &mut [u32], l: usize, x: usize) -> Sides
+    requires { ⌜ ((t : Tree) × At formOne links (now arena) l t) ⌝ }
+    ensures { λ r. ⌜ Parts formOne links (now (arena .entry)) (now (arena .exit)) l x (r .lo) (r .hi) ⌝ }
+{
+    if l == 0 {
+        return Sides { lo: 0, hi: 0 };
+    }
+    split(arena, l, x)
+}
+
 // ---- the place of a change
 
 // Where a search by address ends: the link to the subtree there, 0 for none, and the link to its father, 0 for none.
@@ -273,7 +284,7 @@ pub fn insert(arena: &mut [u32], l: usize, x: usize, n: u32) -> usize
     let p = place_for(arena, l, x, n);
     let at = p.at;
     let over = p.over;
-    let s = split(arena, at, x);
+    let s = parts(arena, at, x);
     let lo = s.lo;
     let hi = s.hi;
     put_node(arena, x, n, lo, hi);

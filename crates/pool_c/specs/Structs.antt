@@ -12,7 +12,12 @@ abbrev pub headOf : TreeHead → tree-head.Head
 headOf h = record { root = h .root; next = h .next }
 
 abbrev pub answerOf : Answer → calls.Answer
-answerOf r = record { number = r .number; ticket = r .ticket; address = r .address; words = r .words }
+answerOf r = record {
+  number = r .told .number;
+  ticket = r .told .ticket;
+  address = r .place .address;
+  words = r .place .words;
+}
 
 abbrev pub treeOutcome : TreeOutcome → tree.Outcome
 treeOutcome r = record { head = headOf (r .head); answer = answerOf (r .answer) }

@@ -19,11 +19,22 @@ pub struct TreeHead {
     pub next: u32,
 }
 
-// lf_answer
+// lf_answer, in two halves: a caller in C reads eight bytes of it at a time, and finds them soonest if they were
+// written so.
 #[repr(C)]
 pub struct Answer {
+    pub told: Told,
+    pub place: Place,
+}
+
+#[repr(C)]
+pub struct Told {
     pub number: u32,
     pub ticket: u32,
+}
+
+#[repr(C)]
+pub struct Place {
     pub address: u32,
     pub words: u32,
 }
@@ -44,15 +55,25 @@ pub struct SegmentOutcome {
 
 // ---- from the pools' structs to those of C
 
+// Both halves are passed, which is what makes the compiler write each at once.
+fn both(told: Told, place: Place) -> Answer
+    ensures { λ r. ⌜ (r .told ≡ told) × (r .place ≡ place) ⌝ }
+{
+    Answer { told, place }
+}
+
 fn c_answer(answer: calls::Answer) -> Answer
     ensures { λ r. ⌜ answerOf r ≡ answer ⌝ }
 {
-    Answer {
+    let told = Told {
         number: answer.number,
         ticket: answer.ticket,
+    };
+    let place = Place {
         address: answer.address,
         words: answer.words,
-    }
+    };
+    both(told, place)
 }
 
 fn c_tree_outcome(done: tree_pool::Outcome) -> TreeOutcome

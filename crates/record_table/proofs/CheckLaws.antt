@@ -6,21 +6,21 @@ use native.Mathlib.Omega.{arith}
 use mathlib.Core.Path.{_≡_, refl, sym, ap, _∙_}
 use mathlib.Core.Logic.{_≢_}
 use mathlib.Core.Bool.{Bool, true, false, not, _&&_, _||_, or-true, true≢false}
-use lib.Dec.{eqb, leb}
+use lib.Dec.{eqb, leb, ltb}
 use lib.ListN.{length, getD, set}
 use lib.Seq.{getD-set-same, getD-set-other}
 use Rattle.words.specs.Lists.{Words, all, pairwise, isZero, zeroAt}
 use Rattle.words.specs.Counted.{every}
-use Rattle.words.proofs.Tests.{and-l, not-true, eqb-eq, eqb-ne}
+use Rattle.words.proofs.Tests.{and-l, not-true, eqb-eq, eqb-ne, of-gt}
 use Rattle.words.proofs.ListLaws.{all-listFrom}
 use Rattle.words.proofs.CountedLaws.{every-at, every-of, every-same}
 use Rattle.ledger.specs.declared.Row.{Row}
 use Rattle.ledger.specs.declared.Rule.{Rule}
 use Rattle.ledger.specs.Records.{Ledger, recordAt, slots, recordsOf, isEmpty}
-use Rattle.ledger.specs.Units.{span, first, past, apart, valid}
+use Rattle.ledger.specs.Units.{span, first, past, fits, apart, valid}
 use Rattle.ledger.proofs.UnitLaws.{Fitted, fits-facts}
 use Rattle.record_table.specs.Checks.{rowOk, differ, beside, unlike, newAt, Gathered, AllInside}
-use Rattle.record_table.specs.Checks.{Noted}
+use Rattle.record_table.specs.Checks.{residueOf, Noted}
 use Rattle.record_table.proofs.PairLaws.{after, or-every, pairs, pairs-both}
 
 -- ---- the records by their slots
@@ -61,30 +61,32 @@ new-differ ids t g =
 
 module _ (m : ℕ) (seen ids : Words) (n i : ℕ) (N : Noted m seen ids n (i + 1)) where
   -- a ticket whose residue no later one has is none of them
-  pub residue-new : zeroAt ids i ≡ false → zeroAt seen (getD ids i 0 % m) ≡ true → newAt ids n i ≡ true
+  pub residue-new : zeroAt ids i ≡ false → zeroAt seen (residueOf m (getD ids i 0)) ≡ true → newAt ids n i ≡ true
   residue-new live none =
       rw live (every-of (unlike ids i) (i + 1) (n - (i + 1))
       (λ j a b. go j a (omega arith) (ℕ-discrete (getD ids i 0) (getD ids j 0))))
     where
       go : (j : ℕ) → i + 1 ≤ j → j < n → Dec (getD ids i 0 ≡ getD ids j 0) → unlike ids i j ≡ true
-      go j a b (yes e) = absurd (true≢false (sym none ∙ ap (λ t. zeroAt seen (t % m)) e ∙ N j a b (rw e at live)))
+      go j a b (yes e) =
+          absurd (true≢false (sym none ∙ ap (λ t. zeroAt seen (residueOf m t)) e ∙ N j a b (rw e at live)))
       go j a b (no e) = rw (eqb-ne (getD ids i 0) (getD ids j 0) e)
 
   pub note-none : zeroAt ids i ≡ true → Noted m seen ids n i
   note-none z j a b live = go (ℕ-discrete j i)
     where
-      go : Dec (j ≡ i) → zeroAt seen (getD ids j 0 % m) ≡ false
+      go : Dec (j ≡ i) → zeroAt seen (residueOf m (getD ids j 0)) ≡ false
       go (yes e) = absurd (true≢false (sym z ∙ ap (zeroAt ids) (sym e) ∙ live))
       go (no e) = N j (omega arith) b live
 
-  pub note-next : (at : ℕ) → at ≡ getD ids i 0 % m → at < length seen → Noted m (set seen at 1) ids n i
-  note-next at is h j a b live = go (ℕ-discrete (getD ids j 0 % m) at) (ℕ-discrete j i)
+  pub note-next : (at : ℕ) → at ≡ residueOf m (getD ids i 0) → at < length seen → Noted m (set seen at 1) ids n i
+  note-next at is h j a b live = go (ℕ-discrete (residueOf m (getD ids j 0)) at) (ℕ-discrete j i)
     where
-      go : Dec (getD ids j 0 % m ≡ at) → Dec (j ≡ i)
-          → zeroAt (set seen at 1) (getD ids j 0 % m) ≡ false
+      go : Dec (residueOf m (getD ids j 0) ≡ at) → Dec (j ≡ i)
+          → zeroAt (set seen at 1) (residueOf m (getD ids j 0)) ≡ false
       go (yes e) d = ap (zeroAt (set seen at 1)) e ∙ ap isZero (getD-set-same seen at 1 0 h)
-      go (no e) (yes d) = absurd (e (ap (λ k. getD ids k 0 % m) d ∙ sym is))
-      go (no e) (no d) = ap isZero (getD-set-other seen at (getD ids j 0 % m) 1 0 e) ∙ N j (omega arith) b live
+      go (no e) (yes d) = absurd (e (ap (λ k. residueOf m (getD ids k 0)) d ∙ sym is))
+      go (no e) (no d) =
+          ap isZero (getD-set-other seen at (residueOf m (getD ids j 0)) 1 0 e) ∙ N j (omega arith) b live
 
 -- ---- numbers of a record that fit a machine word
 
@@ -106,6 +108,20 @@ module _ (ρ : Rule) where
         mul-div-le (r .address - ρ .lead) (ρ .unit),
         mul-div-le (r .words + ρ .lead + (ρ .unit - 1)) (ρ .unit),
       ))
+
+  -- a record with an address too low for the words before it does not fit
+  pub low-unfit : (W next : ℕ) (r : Row) → r .address < ρ .lead → fits ρ W next r ≡ false
+  unfolding fits
+  low-unfit W next r h =
+      second-false
+      (not (eqb (r .ticket) 0) && (eqb next 0 || ltb (r .ticket) next) && leb 1 (r .words))
+      (leb (ρ .lead) (r .address)) (eqb ((r .address - ρ .lead) % ρ .unit) 0) (leb (ρ .unit * past ρ r) W)
+      (of-gt (ρ .lead) (r .address) h)
+    where
+      second-false : (a b c d : Bool) → b ≡ false → (a && b && c && d) ≡ false
+      second-false false b c d q = refl
+      second-false true false c d q = refl
+      second-false true true c d q = absurd (true≢false q)
 
 -- ---- the parts of the check
 

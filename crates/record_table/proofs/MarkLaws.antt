@@ -1,17 +1,17 @@
 -- Laws of the units of records, and of the map that they are marked in. Assumes nothing.
-use Prim.Native.Nat.{ℕ, zero, suc, _+_, _-_, _≤_, _<_}
+use Prim.Native.Nat.{ℕ, _+_, _-_, _≤_, _<_}
 use native.Mathlib.Nat.{sub-zero}
 use native.Mathlib.Decide.{decLe}
 use native.Mathlib.Omega.{arith}
 use mathlib.Core.Path.{_≡_, refl, sym, ap, _∙_}
 use mathlib.Core.Bool.{Bool, true, false, cond, not, _&&_, _||_, and-true, and-false, true≢false}
-use mathlib.Core.List.{[], _∷_}
 use lib.Dec.{leb}
 use lib.ListN.{length}
 use Rattle.words.specs.Lists.{Words, all, pairwise, isZero, zeroAt}
 use Rattle.words.specs.Counted.{every, within}
 use Rattle.words.specs.Places.{wiped}
-use Rattle.words.proofs.Tests.{false-of, bool-iff, and-l, and-r, not-true, of-not, le-of, not-le, within-of}
+use Rattle.words.proofs.Tests.{false-of, bool-iff, not-true, of-not, le-of, not-le, within-of}
+use Rattle.words.proofs.ListLaws.{zeros-at}
 use Rattle.words.proofs.CountedLaws.{every-at, every-of, every-next, every-not, every-end}
 use Rattle.words.proofs.PlaceLaws.{length-wiped, wiped-in, wiped-out}
 use Rattle.ledger.specs.declared.Row.{Row}
@@ -83,18 +83,13 @@ pub record Marking (ρ : Rule) (t m : Words) (i : ℕ) : Type 0 where
   pub marks : (u : ℕ) → zeroAt m u ≡ clear ρ t i u
   pub left : pairwise (beside ρ) (recordsOf t) ≡ every (before (beside ρ) (recordAt t)) i (slots t - i)
 
-all-zero-at : (m : Words) → all isZero m ≡ true → (u : ℕ) → zeroAt m u ≡ true
-all-zero-at [] e u = refl
-all-zero-at (x ∷ m) e zero = and-l (isZero x) (all isZero m) e
-all-zero-at (x ∷ m) e (suc u) = all-zero-at m (and-r (isZero x) (all isZero m) e) u
-
 module _ (ρ : Rule) (t : Words) where
   pub mark-start : (m : Words) → AllInside ρ (length m) t → all isZero m ≡ true → Marking ρ t m 0
   unfolding recordsOf
   mark-start m inside e = record {
     upto = omega arith;
     inside = inside;
-    marks = all-zero-at m e;
+    marks = λ u. ap isZero (zeros-at m e u);
     left = rw sub-zero (pairs-back (beside ρ) (recordAt t) (slots t));
   }
 

@@ -1,8 +1,9 @@
 -- The check of a table in parts: each record by itself, the tickets, and the units. Together they are `valid`.
 -- Assumes nothing.
-use Prim.Native.Nat.{ℕ, _+_, _-_, _%_, _≤_, _<_}
+use Prim.Native.Nat.{ℕ, _+_, _-_, _≤_, _<_}
 use mathlib.Core.Path.{_≡_}
 use mathlib.Core.Bool.{Bool, true, false, cond, not, _||_}
+use lib.Bits.{bitAnd}
 use lib.Dec.{eqb, leb}
 use lib.ListN.{getD}
 use Rattle.words.specs.Lists.{Words, isZero, zeroAt}
@@ -31,9 +32,13 @@ unlike ids i j = not (eqb (getD ids i 0) (getD ids j 0))
 abbrev pub newAt : Words → ℕ → ℕ → Bool
 newAt ids n i = zeroAt ids i || every (unlike ids i) (i + 1) (n - (i + 1))
 
+-- the residue of a ticket by m, a power of two: its low bits
+abbrev pub residueOf : ℕ → ℕ → ℕ
+residueOf m x = bitAnd x (m - 1)
+
 -- the residue, by m, of each ticket from the i-th on, of n, is noted where the ticket is not 0
 abbrev pub Noted : ℕ → Words → Words → ℕ → ℕ → Type 0
-Noted m seen ids n i = (j : ℕ) → i ≤ j → j < n → zeroAt ids j ≡ false → zeroAt seen (getD ids j 0 % m) ≡ false
+Noted m seen ids n i = (j : ℕ) → i ≤ j → j < n → zeroAt ids j ≡ false → zeroAt seen (residueOf m (getD ids j 0)) ≡ false
 
 -- the tickets of a table, slot by slot
 abbrev pub Gathered : Words → Words → ℕ → Type 0

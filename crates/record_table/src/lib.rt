@@ -12,7 +12,7 @@ ghost use mathlib.Core.Logic.{_≢_};
 ghost use Rattle.ledger.specs.Records.{recordWords, recordAt, slots, recordsOf, tableOf, isEmpty, hasTicket};
 ghost use Rattle.ledger.specs.Units.{span, first, past, fits, valid};
 ghost use Rattle.record_table.specs.Slots.{ticketSlot, emptySlot, Without, Reached};
-ghost use Rattle.record_table.specs.Checks.{rowOk, differ, unlike, newAt, Gathered, Noted};
+ghost use Rattle.record_table.specs.Checks.{rowOk, differ, unlike, newAt, Gathered, residueOf, Noted};
 ghost use Rattle.record_table.specs.Checks.{beside, Inside, AllInside, Marks, room, marked};
 
 // The slot that a search found.
@@ -204,11 +204,15 @@ pub fn past_unit(rule: Rule, r: Row) -> usize
 
 // ---- the check
 
-// A record by itself, in an arena of so many words. Any numbers may stand in it: nothing wraps.
+// A record by itself, in an arena of so many words. Any numbers may stand in it: nothing wraps. An address too low for
+// the words before it goes first, which spares the others a test for that.
 fn live_fits(rule: Rule, words: usize, next: u32, r: Row) -> bool
     requires { ⌜ 0 < rule .unit ⌝ }
     ensures { λ b. ⌜ b ≡ fits rule words next r ⌝ }
 {
+    if r.address < rule.lead {
+        return false;
+    }
     let begin = begin_of(rule, r);
     let end = rule.unit as usize * past_unit(rule, r);
     (r.ticket != 0)
@@ -271,19 +275,13 @@ fn unlike_later(ids: &[u32], n: usize, i: usize) -> bool
     ok
 }
 
-// A ticket's place among m residues; the numbers in use here are spared the division. Tickets follow one another, so
-// those alive together rarely share one.
+// A ticket's place among m residues. Tickets follow one another, so those alive together rarely share one. Without a
+// division, for this is asked of every record; any m is safe, and a power of two spreads them.
 pub fn residue(ticket: u32, m: usize) -> usize
     requires { ⌜ 0 < m ⌝ }
-    ensures { λ r. ⌜ (r ≡ ticket % m) × (r < m) ⌝ }
+    ensures { λ r. ⌜ (r ≡ residueOf m ticket) × (r < m) ⌝ }
 {
-    if m == 128 {
-        return (ticket % 128) as usize;
-    }
-    if m == 2048 {
-        return (ticket % 2048) as usize;
-    }
-    ticket as usize % m
+    ticket as usize & (m - 1)
 }
 
 // Ticket i is none of the later ones, whose residues are noted; its own is noted as well. Only where a later ticket

@@ -4,6 +4,7 @@ use mathlib.Core.Logic.{_≢_}
 use mathlib.Core.Bool.{true, false}
 use mathlib.Core.List.{List, []}
 use lib.IntN.{ℤ}
+use lib.Dec.{eqb}
 use Prim.Native.Nat.{ℕ}
 use Rattle.words.specs.Lists.{Words}
 use Rattle.ledger.specs.declared.Row.{Row}
@@ -16,7 +17,8 @@ use Rattle.call_parts.proofs.AskLaws.{RefusedBy}
 use Rattle.call_parts.proofs.GateLaws.{gate, gate-refuses}
 use Rattle.segment_pool.specs.declared.Head.{Head}
 use Rattle.segment_pool.specs.declared.Outcome.{Outcome}
-use Rattle.segment_pool.specs.Promises.{segmentPool, Left, handed, left, acted, refusedWith}
+use Rattle.segment_pool.specs.declared.Effect.{Effect}
+use Rattle.segment_pool.specs.Promises.{segmentPool, Left, handed, left, acted, refusedWith, granted, vacated}
 
 pub acted-left : (act : Act) (p : Pool) (S : ℕ) (o : Outcome) (b : List ℤ) (u x : Words)
     → o .answer ≡ answerTo segmentEngine p act → segmentPool S (o .head .next) b u x ≡ poolAfter segmentEngine p act
@@ -31,6 +33,11 @@ acted-left act p S o b u x w e =
       buffers = [];
     }
 
+-- equal outcomes leave the same
+pub same-left : (act : Act) (p : Pool) {o y : Outcome} (b : List ℤ) (u x : Words) → o ≡ y
+    → handed y b u x [] ≡ acted act p → handed o b u x [] ≡ acted act p
+same-left act p b u x e h = ap (λ (k : Outcome). handed k b u x []) e ∙ h
+
 module _ (h : Head) (S : ℕ) (v : List ℤ) (t x : Words) where
   abbrev p : Pool
   p = segmentPool S (h .next) v t x
@@ -38,8 +45,18 @@ module _ (h : Head) (S : ℕ) (v : List ℤ) (t x : Words) where
   pub refused-left : (act : Act) (o : Outcome) (n : ℕ) → o ≡ refusedWith h n → RefusedBy segmentEngine p act n
       → handed o v t x [] ≡ acted act p
   refused-left act o n e r =
-      ap (λ (y : Outcome). handed y v t x []) e
-      ∙ acted-left act p S (refusedWith h n) v t x (sym (r .0)) (sym (r .1))
+      same-left act p v t x e (acted-left act p S (refusedWith h n) v t x (sym (r .0)) (sym (r .1)))
+
+  -- refused in the effect alone: the outcome that it comes to is the refusal
+  pub granted-refused : (e : Effect) (n : ℕ) → e .number ≡ n → eqb n 0 ≡ false
+      → (k : ℕ) → RefusedBy segmentEngine p (ask k) n → handed (granted h k e) v t x [] ≡ acted (ask k) p
+  granted-refused e n is some k =
+      let refuses : eqb (e .number) 0 ≡ false = ap (λ (m : ℕ). eqb m 0) is ∙ some in
+      refused-left (ask k) (granted h k e) n (rw refuses (ap (refusedWith h) is))
+
+  pub vacated-refused : (n : ℕ) → eqb n 0 ≡ false → (r : Row) → RefusedBy segmentEngine p (give r) n
+      → handed (vacated h r n) v t x [] ≡ acted (give r) p
+  vacated-refused n some r = refused-left (give r) (vacated h r n) n (rw some)
 
   -- ---- whole calls
 

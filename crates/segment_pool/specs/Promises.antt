@@ -3,6 +3,7 @@ use Prim.Native.Nat.{ℕ, _+_, _*_, _<_, _^_}
 use mathlib.Core.Path.{_≡_}
 use mathlib.Core.Bool.{Bool, cond}
 use mathlib.Core.List.{List, [], _++_, map}
+use lib.Dec.{eqb}
 use denote.Ref.{RefT, now}
 use lib.IntN.{ℤ, pos}
 use lib.ListN.{length, getD, take, drop}
@@ -10,7 +11,8 @@ use lib.Signed.{mag}
 use mir.Syntax.{w32}
 use mir.Val.{ofZ}
 use Rattle.words.specs.Lists.{Words}
-use Rattle.calls.specs.Pool.{Pool, lengths, stored}
+use Rattle.ledger.specs.declared.Row.{Row}
+use Rattle.calls.specs.Pool.{Pool, lengths, stored, nextAfter}
 use Rattle.calls.specs.declared.Answer.{Answer}
 use Rattle.calls.specs.Step.{Slice, arenaPart, placeholder, nothing, Act, refusal, answerTo, poolAfter}
 use Rattle.calls.specs.Step.{requests, answerWords, answersOf, countedOf, poolAfterAll}
@@ -18,6 +20,7 @@ use Rattle.calls.specs.Step as machine
 use Rattle.calls.specs.Pool as memory
 use Rattle.segment_pool.specs.declared.Head.{Head}
 use Rattle.segment_pool.specs.declared.Outcome.{Outcome}
+use Rattle.segment_pool.specs.declared.Effect.{Effect}
 use Rattle.calls.specs.Engines.{segmentEngine}
 
 -- signed words by their 32 bits, as the machine has them; two signed words with the same bits are one
@@ -98,6 +101,20 @@ ran rs bs p = (
 -- the head as it came, with a refusal
 abbrev pub refusedWith : Head → ℕ → Outcome
 refusedWith h n = record { head = h; answer = refusal n }
+
+-- what an allocation of n words comes to by its effect: a refusal, or the next ticket at the address that was found
+abbrev pub granted : Head → ℕ → Effect → Outcome
+granted h n e =
+    cond (eqb (e .number) 0)
+    (record {
+      head = record { next = nextAfter (h .next) };
+      answer = machine.granted (record { ticket = h .next; address = e .address; words = n });
+    })
+    (refusedWith h (e .number))
+
+-- what a release comes to by its number: a refusal, or the named record once more; no ticket is used up
+abbrev pub vacated : Head → Row → ℕ → Outcome
+vacated h r n = cond (eqb n 0) (record { head = h; answer = machine.granted r }) (refusedWith h n)
 
 -- ---- slices
 

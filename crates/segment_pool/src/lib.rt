@@ -19,7 +19,7 @@ ghost use Rattle.calls.specs.Step.{ask, give, answerTo, poolAfter};
 ghost use Rattle.calls.specs.Engines.{segmentEngine};
 ghost use Rattle.call_parts.specs.Parts.{namedIn, actOf, requestAt, withAnswer};
 ghost use Rattle.segment_pool.specs.Granting.{Found};
-ghost use Rattle.segment_pool.specs.Promises.{handed, left, acted, ran, refusedWith};
+ghost use Rattle.segment_pool.specs.Promises.{handed, left, acted, ran, refusedWith, granted, vacated};
 ghost use Rattle.segment_pool.specs.Promises.{asWords, segmentPool, gateOf, RightLengths, Ranged, sliceOf, whole};
 
 // What a call is passed and hands back: the next ticket, 0 when none is left.
@@ -31,6 +31,14 @@ pub struct Head {
 pub struct Outcome {
     pub head: Head,
     pub answer: Answer,
+}
+
+// What an allocation on a sound pool has come to, as far as its caller does not know it: number, and the address of
+// the block that was granted. It is small, because a struct comes back through memory: an outcome that is read there at
+// once costs a wait.
+struct Effect {
+    number: u32,
+    address: u32,
 }
 
 // ---- the tests before every call
@@ -77,12 +85,12 @@ fn is_stored_over(
 {
     let words = arena.len();
     let rule = Rule { unit: 1, lead: 1 };
-    if !record_table::table_check(rule, words, next, table, &mut *used) {
+    if !record_table::table_check(rule, words, next, &*table, &mut *used) {
         return false;
     }
     ranged(arena);
     let g = segment_index::segment_size(words, s as usize);
-    segment_check::pool_right(arena, index, used, table, s as usize, g)
+    segment_check::pool_right(&*arena, &*index, &*used, &*table, s as usize, g)
 }
 
 // The exact check, with every unit marked. It is what refuses a pool.
@@ -92,7 +100,7 @@ fn is_stored_marked(s: u32, next: u32, arena: &[i32], table: &[u32], index: &[u3
         ≡ stored segmentEngine (segmentPool s next (now (arena .entry)) (now (table .entry)) (now (index .entry))) ⌝ }
 {
     let mut used: [u8; 16384] = [0; 16384];
-    is_stored_over(s, next, arena, table, index, &mut used)
+    is_stored_over(s, next, &*arena, &*table, &*index, &mut used)
 }
 
 // Whether head and lent memory are the stored form of a ledger. Where blocks lie side by side and the index is theirs,
@@ -103,10 +111,10 @@ fn is_stored(s: u32, next: u32, arena: &[i32], table: &[u32], index: &[u32]) -> 
         ≡ stored segmentEngine (segmentPool s next (now (arena .entry)) (now (table .entry)) (now (index .entry))) ⌝ }
 {
     let g = segment_index::segment_size(arena.len(), s as usize);
-    if segment_tiles::is_tiled(next, arena, table, index, s as usize, g) {
+    if segment_tiles::is_tiled(next, &*arena, &*table, &*index, s as usize, g) {
         return true;
     }
-    is_stored_marked(s, next, arena, table, index)
+    is_stored_marked(s, next, &*arena, &*table, &*index)
 }
 
 // The number of the tests that stand before every call: 8, 1, or 0 for a sound pool.
@@ -114,10 +122,10 @@ fn gate_number(s: u32, next: u32, arena: &[i32], table: &[u32], index: &[u32]) -
     ensures { λ r. ⌜ r
         ≡ gateOf (segmentPool s next (now (arena .entry)) (now (table .entry)) (now (index .entry))) ⌝ }
 {
-    if !right_lengths(s, arena, table, index) {
+    if !right_lengths(s, &*arena, &*table, &*index) {
         return 8;
     }
-    if !is_stored(s, next, arena, table, index) {
+    if !is_stored(s, next, &*arena, &*table, &*index) {
         return 1;
     }
     0
@@ -131,7 +139,7 @@ pub fn find(head: Head, s: u32, arena: &[i32], table: &[u32], index: &[u32], nam
         ≡ step segmentEngine (find named)
         (segmentPool s (head .next) (now (arena .entry)) (now (table .entry)) (now (index .entry))) .answer ⌝ }
 {
-    let number = gate_number(s, head.next, arena, table, index);
+    let number = gate_number(s, head.next, &*arena, &*table, &*index);
     if number != 0 {
         return call_parts::refused(number);
     }
@@ -175,7 +183,7 @@ pub fn format(s: u32, arena: &mut [i32], table: &mut [u32], index: &mut [u32]) -
         ≡ left (step segmentEngine format
         (segmentPool s 0 (now (arena .entry)) (now (table .entry)) (now (index .entry)))) ⌝ }
 {
-    if !right_lengths(s, arena, table, index) {
+    if !right_lengths(s, &*arena, &*table, &*index) {
         return Outcome {
             head: Head { next: 0 },
             answer: call_parts::refused(8),
@@ -207,6 +215,13 @@ fn refused_with(head: Head, number: u32) -> Outcome
     }
 }
 
+// The effect of an allocation that is refused: none.
+fn no_effect(number: u32) -> Effect
+    ensures { λ r. ⌜ r .number ≡ number ⌝ }
+{
+    Effect { number, address: 0 }
+}
+
 // Takes the first words of the free block that was found, under the next ticket.
 fn place(
     head: Head,
@@ -217,27 +232,23 @@ fn place(
     words: u32,
     slot: usize,
     at: usize,
-) -> Outcome
+) -> Effect
     requires { ⌜ Found head s (now arena) (now table) (now index) words slot at ⌝ }
-    ensures { λ r. ⌜ handed r (now (arena .exit)) (now (table .exit)) (now (index .exit)) []
+    ensures { λ r. ⌜ handed (granted head words r) (now (arena .exit)) (now (table .exit)) (now (index .exit)) []
         ≡ acted (ask words)
         (segmentPool s (head .next) (now (arena .entry)) (now (table .entry)) (now (index .entry))) ⌝ }
 {
     let n = record_table::span_of(Rule { unit: 1, lead: 1 }, words);
     let g = segment_index::segment_size(arena.len(), s as usize);
     segment_cores::allot(arena, index, s as usize, g, at, n);
+    let address = (at + 1) as u32;
     let new = Row {
         ticket: head.next,
-        address: (at + 1) as u32,
+        address,
         words,
     };
     record_table::write_row(table, slot, new);
-    Outcome {
-        head: Head {
-            next: call_parts::next_after(head.next),
-        },
-        answer: call_parts::succeeded(new),
-    }
+    Effect { number: 0, address }
 }
 
 // An allocation on a sound pool: the tests in the order of their numbers, then the search.
@@ -248,29 +259,50 @@ fn grant(
     table: &mut [u32],
     index: &mut [u32],
     words: u32,
-) -> Outcome
+) -> Effect
     requires { ⌜ sound segmentEngine (segmentPool s (head .next) (now arena) (now table) (now index)) ≡ true ⌝ }
-    ensures { λ r. ⌜ handed r (now (arena .exit)) (now (table .exit)) (now (index .exit)) []
+    ensures { λ r. ⌜ handed (granted head words r) (now (arena .exit)) (now (table .exit)) (now (index .exit)) []
         ≡ acted (ask words)
         (segmentPool s (head .next) (now (arena .entry)) (now (table .entry)) (now (index .entry))) ⌝ }
 {
     if (words == 0) | (16384 < words) {
-        return refused_with(head, 2);
+        return no_effect(2);
     }
     let Slot::At(slot) = record_table::empty_slot(table) else {
-        return refused_with(head, 3);
+        return no_effect(3);
     };
     let next = head.next;
     if next == 0 {
-        return refused_with(head, 4);
+        return no_effect(4);
     }
     ranged(arena);
     let d = control_words::depth_of(s);
     let at = segment_cores::search(arena, index, s as usize, d, words + 1);
     if at == arena.len() {
-        return refused_with(head, 5);
+        return no_effect(5);
     }
     place(head, s, arena, table, index, words, slot, at)
+}
+
+// The outcome of an allocation with this effect.
+fn outcome_of_grant(head: Head, words: u32, done: Effect) -> Outcome
+    ensures { λ r. ⌜ r ≡ granted head words done ⌝ }
+{
+    let number = done.number;
+    if number != 0 {
+        return refused_with(head, number);
+    }
+    let new = Row {
+        ticket: head.next,
+        address: done.address,
+        words,
+    };
+    Outcome {
+        head: Head {
+            next: call_parts::next_after(head.next),
+        },
+        answer: call_parts::succeeded(new),
+    }
 }
 
 // Words under the next ticket, at the lowest address where enough free words lie together.
@@ -286,11 +318,12 @@ pub fn allocate(
         ≡ left (step segmentEngine (allocate words)
         (segmentPool s (head .next) (now (arena .entry)) (now (table .entry)) (now (index .entry)))) ⌝ }
 {
-    let number = gate_number(s, head.next, arena, table, index);
+    let number = gate_number(s, head.next, &*arena, &*table, &*index);
     if number != 0 {
         return refused_with(head, number);
     }
-    grant(head, s, arena, table, index, words)
+    let done = grant(head, s, arena, table, index, words);
+    outcome_of_grant(head, words, done)
 }
 
 // ---- release
@@ -304,10 +337,10 @@ fn give_back(
     index: &mut [u32],
     named: Row,
     slot: usize,
-) -> Outcome
+) -> u32
     requires { ⌜ (sound segmentEngine (segmentPool s (head .next) (now arena) (now table) (now index))
         ≡ true) × (namedIn (now table) named ≡ Named.Slot slot) ⌝ }
-    ensures { λ r. ⌜ handed r (now (arena .exit)) (now (table .exit)) (now (index .exit)) []
+    ensures { λ r. ⌜ handed (vacated head named r) (now (arena .exit)) (now (table .exit)) (now (index .exit)) []
         ≡ acted (give named)
         (segmentPool s (head .next) (now (arena .entry)) (now (table .entry)) (now (index .entry))) ⌝ }
 {
@@ -323,13 +356,10 @@ fn give_back(
         words: 0,
     };
     record_table::write_row(table, slot, none);
-    Outcome {
-        head,
-        answer: call_parts::succeeded(named),
-    }
+    0
 }
 
-// A release on a sound pool.
+// A release on a sound pool: its number.
 fn vacate(
     head: Head,
     s: u32,
@@ -337,15 +367,28 @@ fn vacate(
     table: &mut [u32],
     index: &mut [u32],
     named: Row,
-) -> Outcome
+) -> u32
     requires { ⌜ sound segmentEngine (segmentPool s (head .next) (now arena) (now table) (now index)) ≡ true ⌝ }
-    ensures { λ r. ⌜ handed r (now (arena .exit)) (now (table .exit)) (now (index .exit)) []
+    ensures { λ r. ⌜ handed (vacated head named r) (now (arena .exit)) (now (table .exit)) (now (index .exit)) []
         ≡ acted (give named)
         (segmentPool s (head .next) (now (arena .entry)) (now (table .entry)) (now (index .entry))) ⌝ }
 {
     match call_parts::named_slot(table, named) {
-        Named::Refused(number) => refused_with(head, number),
+        Named::Refused(number) => number,
         Named::Slot(slot) => give_back(head, s, arena, table, index, named, slot),
+    }
+}
+
+// The outcome of a release with this number.
+fn outcome_of_release(head: Head, named: Row, number: u32) -> Outcome
+    ensures { λ r. ⌜ r ≡ vacated head named number ⌝ }
+{
+    if number != 0 {
+        return refused_with(head, number);
+    }
+    Outcome {
+        head: Head { next: head.next },
+        answer: call_parts::succeeded(named),
     }
 }
 
@@ -363,11 +406,12 @@ pub fn release(
         ≡ left (step segmentEngine (release named)
         (segmentPool s (head .next) (now (arena .entry)) (now (table .entry)) (now (index .entry)))) ⌝ }
 {
-    let number = gate_number(s, head.next, arena, table, index);
+    let number = gate_number(s, head.next, &*arena, &*table, &*index);
     if number != 0 {
         return refused_with(head, number);
     }
-    vacate(head, s, arena, table, index, named)
+    let done = vacate(head, s, arena, table, index, named);
+    outcome_of_release(head, named, done)
 }
 
 // ---- list
@@ -387,8 +431,14 @@ fn serve(
         (segmentPool s (head .next) (now (arena .entry)) (now (table .entry)) (now (index .entry))) ⌝ }
 {
     match request {
-        Request::Ask(words) => grant(head, s, arena, table, index, words),
-        Request::Give(named) => vacate(head, s, arena, table, index, named),
+        Request::Ask(words) => {
+            let done = grant(head, s, arena, table, index, words);
+            outcome_of_grant(head, words, done)
+        }
+        Request::Give(named) => {
+            let done = vacate(head, s, arena, table, index, named);
+            outcome_of_release(head, named, done)
+        }
         Request::Bad => refused_with(head, 9),
     }
 }
@@ -465,7 +515,7 @@ pub fn list(
     if !call_parts::list_suits(asked, answers) {
         return refused_with(head, 8);
     }
-    let number = gate_number(s, head.next, arena, table, index);
+    let number = gate_number(s, head.next, &*arena, &*table, &*index);
     if number != 0 {
         return refused_with(head, number);
     }

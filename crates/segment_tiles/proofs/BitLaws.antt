@@ -1,18 +1,17 @@
 -- Laws of bits: a power of two has one, and a map with one more set. Assumes nothing.
-use Prim.Native.Nat.{ℕ, zero, suc, _+_, _-_, _*_, _/_, _%_, _^_, _<_}
+use Prim.Native.Nat.{ℕ, suc, _+_, _-_, _*_, _/_, _%_, _^_, _<_}
 use native.Mathlib.Decide.{ℕ-discrete, decLt}
 use native.Mathlib.Nat.{pow-suc, one-mul, div-eq-of-lt, zero-div}
 use native.Mathlib.Omega.{arith}
 use mathlib.Core.Bool.{true, false≢true}
-use mathlib.Core.List.{[], _∷_}
-use mathlib.Core.Path.{_≡_, refl, sym, ap, _∙_}
+use mathlib.Core.Path.{_≡_, sym, ap, _∙_}
 use lib.Bits.{bitOr, or-step, or-shr}
 use lib.Dec.{eqb, lit<}
 use lib.ListN.{length, getD, set}
 use lib.Pow.{pow-add, pow-lt, shl-exact, shl-shr}
 use lib.Seq.{getD-set-same, getD-set-other}
 use Rattle.words.specs.Lists.{Words, all, isZero}
-use Rattle.words.proofs.Tests.{and-l, and-r, eqb-eq}
+use Rattle.words.proofs.ListLaws.{zeros-at}
 use Rattle.segment_tiles.specs.BitMaps.{bitOf, bitAt}
 
 -- ---- a number
@@ -63,13 +62,8 @@ bit-other map k j h q = rw (one-moved (k % 64) (omega arith)) (go (ℕ-discrete 
         ∙ or-other old (k % 64) (j % 64) (λ s. q (omega arith)) ∙ ap (λ n. bitOf (getD map n 0) (j % 64)) (sym e)
     go (no d) = ap (λ n. bitOf n (j % 64)) (getD-set-other map (k / 64) (j / 64) w 0 d)
 
-zero-at : (m : Words) → all isZero m ≡ true → (u : ℕ) → getD m u 0 ≡ 0
-zero-at [] e u = refl
-zero-at (x ∷ m) e zero = eqb-eq x 0 (and-l (isZero x) (all isZero m) e)
-zero-at (x ∷ m) e (suc u) = zero-at m (and-r (isZero x) (all isZero m) e) u
-
 -- a map that is all zero has no bit set
 pub no-bit : (map : Words) → all isZero map ≡ true → (k : ℕ) → bitAt map k ≡ true → ⊥
 no-bit map z k e =
     false≢true
-    (sym (ap (λ n. bitOf n (k % 64)) (zero-at map z (k / 64)) ∙ ap (λ n. eqb (n % 2) 1) (zero-div (2 ^ (k % 64)))) ∙ e)
+    (sym (ap (λ n. bitOf n (k % 64)) (zeros-at map z (k / 64)) ∙ ap (λ n. eqb (n % 2) 1) (zero-div (2 ^ (k % 64)))) ∙ e)

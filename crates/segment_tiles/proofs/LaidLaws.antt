@@ -1,9 +1,8 @@
 -- Laws of blocks that lie side by side: none yet, and one more, held or free. Assumes nothing.
 use Prim.Native.Nat.{ℕ, suc, _+_, _-_, _≤_, _<_}
-use native.Mathlib.Decide.{decLt, ℕ-discrete}
-use native.Mathlib.Nat.{add-zero}
+use native.Mathlib.Decide.{decLt}
 use native.Mathlib.Omega.{arith}
-use mathlib.Core.Bool.{Bool, true, false, not, true≢false}
+use mathlib.Core.Bool.{Bool, true, false, true≢false}
 use mathlib.Core.List.{List, [], _∷_, _++_}
 use mathlib.Core.Logic.{_≢_}
 use mathlib.Core.Path.{_≡_, refl, sym, ap, _∙_}
@@ -13,14 +12,15 @@ use lib.ListN.{getD}
 use Rattle.words.specs.Lists.{Words, all}
 use Rattle.words.specs.Counted.{every, within}
 use Rattle.words.specs.Signed.{zeroAtZ}
-use Rattle.words.proofs.Tests.{and-l, and-r, and-i, or-l, or-r, eqb-same, eqb-ne, lt-of, of-lt, of-gt, within-in}
+use Rattle.words.proofs.Tests.{and-l, and-r, and-i, or-l, or-r, eqb-same, lt-of, of-lt, of-gt, within-in}
 use Rattle.words.proofs.ListLaws.{all-append}
 use Rattle.ledger.specs.Runs.{Run, run, Gapped, covered}
+use Rattle.stored_forms.specs.Segments.{weight}
 use Rattle.control_words.specs.Control.{freeSize}
 use Rattle.segment_check.specs.Right.{runRight}
 use Rattle.tiling.specs.Tiles.{total}
 use Rattle.segment_tiles.specs.BitMaps.{bitAt}
-use Rattle.segment_tiles.specs.Laid.{heldFrom, blockRight, endsBefore, Laid, Block}
+use Rattle.segment_tiles.specs.Laid.{heldFrom, blockRight, endsBefore, Laid}
 
 -- ---- a list of runs with one more at its end
 
@@ -56,13 +56,18 @@ covered-last (q ∷ rs) r u h =
 
 -- ---- what a control word says is free
 
-pub free-most : (z : ℤ) → freeSize z ≤ natAbs z
-free-most (pos n) = omega arith
-free-most (negsuc n) = omega arith
-
 pub free-whole : (z : ℤ) → freeSize z ≢ 0 → freeSize z ≡ natAbs z
 free-whole (pos n) h = refl
 free-whole (negsuc n) h = absurd (h refl)
+
+pub free-weight : (z : ℤ) → freeSize z ≢ 0 → freeSize z ≡ weight z
+free-weight (pos n) h = refl
+free-weight (negsuc n) h = absurd (h refl)
+
+-- what it counts for where nothing is free
+pub held-weight : (z : ℤ) → freeSize z ≡ 0 → 0 < natAbs z → 1 ≡ weight z
+held-weight (pos n) e h = absurd (omega (arith, e))
+held-weight (negsuc n) e h = refl
 
 -- ---- block after block
 
@@ -79,7 +84,7 @@ module _ (v : List ℤ) (map : Words) where
 
   module _ (at free n : ℕ) (some : 0 < n) where
     -- a held block more
-    laid-held : (after : Bool) → Laid v map at free after → bitAt map at ≡ true
+    pub laid-held : (after : Bool) → Laid v map at free after → bitAt map at ≡ true
         → n ≡ natAbs (getD v at (pos 0)) → Laid v map (at + n) free false
     laid-held after L set size = record {
       runs = L .runs;
@@ -99,10 +104,11 @@ module _ (v : List ℤ) (map : Words) where
         go u l e (no h) = (at, omega arith, omega (arith, says))
 
     -- a free block more, not right after a free one
-    laid-free : Laid v map at free false → runRight v at (at + n) ≡ true → Laid v map (at + n) (free + n) true
-    laid-free L right = record {
+    pub laid-free : (after : Bool) → after ≡ false → Laid v map at free after → runRight v at (at + n) ≡ true
+        → Laid v map (at + n) (free + n) true
+    laid-free after apart L right = record {
       runs = L .runs ++ run at n ∷ [];
-      gapped = gapped-last (L .runs) 0 at at n (L .gapped) (L .ends refl) (omega arith) (omega arith) some;
+      gapped = gapped-last (L .runs) 0 at at n (L .gapped) (L .ends apart) (omega arith) (omega arith) some;
       ends = λ e. absurd (true≢false e);
       sum = total-last (L .runs) (run at n) ∙ ap (λ s. s + n) (L .sum);
       words =
@@ -115,18 +121,6 @@ module _ (v : List ℤ) (map : Words) where
             → (k : ℕ) × (k ≤ u) × (u < k + heldFrom v map k)
         go u l (a, b) (yes h) = L .rest u h a
         go u l (a, b) (no h) = absurd (true≢false (sym (within-in at (at + n) u (omega arith) l) ∙ b))
-
-    -- a block more, of which f words are free
-    pub laid-block : (after : Bool) → Laid v map at free after → Block v map at after n → (f : ℕ)
-        → f ≡ freeSize (getD v at (pos 0)) → Laid v map (at + n) (free + f) (not (eqb f 0))
-    laid-block after L B f is = go (ℕ-discrete f 0)
-      where
-        go : Dec (f ≡ 0) → Laid v map (at + n) (free + f) (not (eqb f 0))
-        go (yes z) = rw (z, add-zero free) (laid-held after L (B .held (sym is ∙ z)) (B .size))
-        go (no z) =
-            let (first, right) = B .free (λ e. z (is ∙ e)) in
-            let whole : f ≡ n = is ∙ free-whole (getD v at (pos 0)) (λ e. z (is ∙ e)) ∙ sym (B .size) in
-            rw (eqb-ne f 0 z, whole) (laid-free (rw first at L) right)
 
 -- ---- a free block, by its tests
 

@@ -1,23 +1,72 @@
 -- Laws of blocks that are laid segment by segment, each with its two words in the index. Assumes nothing.
-use Prim.Native.Nat.{ℕ, _+_, _*_, _≤_, _<_, min}
+use Prim.Native.Nat.{ℕ, _+_, _-_, _*_, _≤_, _<_, min}
 use native.Mathlib.Nat.{zero-mul}
 use native.Mathlib.Omega.{arith}
-use mathlib.Core.Bool.{Bool, true, false}
+use mathlib.Core.Bool.{Bool, true, false, not, _||_}
 use mathlib.Core.List.{List}
-use mathlib.Core.Path.{_≡_, refl, sym, ap₂, _∙_, subst}
+use mathlib.Core.Path.{_≡_, refl, sym, ap, ap₂, _∙_, subst}
 use lib.IntN.{ℤ}
-use lib.ListN.{length}
+use lib.Dec.{eqb, ltb}
+use lib.ListN.{length, getD}
 use Rattle.words.specs.Counted.{every}
 use Rattle.words.specs.Lists.{Words}
-use Rattle.words.proofs.Tests.{and-i}
+use Rattle.words.proofs.Tests.{and-i, or-l, or-r, not-false, eqb-eq, eqb-same, not-lt, of-lt, of-ge}
+use Rattle.stored_forms.specs.Segments.{largest}
 use Rattle.stored_forms.proofs.SegmentLaws.{segment-size}
 use Rattle.record_table.proofs.PairLaws.{every-last}
 use Rattle.segment_blocks.specs.Upkeep.{Ground, firstFrom}
+use Rattle.segment_blocks.proofs.ScanLaws.{come-start, come-end}
 use Rattle.segment_blocks.proofs.BuildLaws.{Passing, pass-start, pass-facing, pass-on}
 use Rattle.segment_blocks.proofs.UpkeepLaws.{sizes-some, leaf-right, first-right}
 use Rattle.segment_check.specs.Right.{Measured, twoRight, segmentRight}
 use Rattle.segment_tiles.specs.Laid.{Laid, Strip, Matched}
 use Rattle.segment_tiles.proofs.LaidLaws.{laid-start}
+
+-- no block begins from `at` up to hi, where blocks have led past that
+pub strip-none : (v : List ℤ) (map : Words) (at hi free : ℕ) (after : Bool) → Laid v map at free after → free ≤ at
+    → hi ≤ at → Strip v map at hi at free after 0
+strip-none v map at hi free after laid few high = record {
+  laid = laid;
+  few = few;
+  high = high;
+  swept = λ c S. (sym (ap (largest c at) none), come-end v c at hi at (come-start v c at hi S) high);
+}
+  where
+    none : hi - at ≡ 0
+    none = omega arith
+
+-- the index has the two words of a segment where a block begins, and of one where none does
+module _ (t : Words) (s k at hi W : ℕ) where
+  two-words : (most first : ℕ) → getD t (s + k) 0 ≡ most → getD t (2 * s + k) 0 ≡ first
+      → twoRight t s k most first ≡ true
+  two-words most first a b =
+      and-i (eqb most (getD t (s + k) 0)) (eqb first (getD t (2 * s + k) 0)) (ap (eqb most) a ∙ eqb-same most)
+      (ap (eqb first) b ∙ eqb-same first)
+
+  pub two-laid : (most next : ℕ) → at < hi
+      → (not (eqb (getD t (2 * s + k) 0) at) || ltb W next || not (eqb (getD t (s + k) 0) most)) ≡ false
+      → (next ≤ W) × (twoRight t s k most (firstFrom at hi W) ≡ true)
+  two-laid most next below test =
+      let first = not (eqb (getD t (2 * s + k) 0) at) in
+      let leaf = not (eqb (getD t (s + k) 0) most) in
+      let ab = or-l (first || ltb W next) leaf test in (
+        not-lt W next (or-r first (ltb W next) ab),
+        rw (of-lt at hi below)
+            (two-words most at
+            (eqb-eq (getD t (s + k) 0) most
+            (not-false (eqb (getD t (s + k) 0) most) (or-r (first || ltb W next) leaf test)))
+            (eqb-eq (getD t (2 * s + k) 0) at
+            (not-false (eqb (getD t (2 * s + k) 0) at) (or-l first (ltb W next) ab)))),
+      )
+
+  pub two-none : hi ≤ at → (not (eqb (getD t (2 * s + k) 0) W) || not (eqb (getD t (s + k) 0) 0)) ≡ false
+      → twoRight t s k 0 (firstFrom at hi W) ≡ true
+  two-none past test =
+      let first = not (eqb (getD t (2 * s + k) 0) W) in
+      let leaf = not (eqb (getD t (s + k) 0) 0) in
+      rw (of-ge at hi past)
+      (two-words 0 W (eqb-eq (getD t (s + k) 0) 0 (not-false (eqb (getD t (s + k) 0) 0) (or-r first leaf test)))
+      (eqb-eq (getD t (2 * s + k) 0) W (not-false (eqb (getD t (2 * s + k) 0) W) (or-l first leaf test))))
 
 -- The segments before k are laid, and the next block begins at `at`. If the blocks are those with control words c, the
 -- index has these segments' leaves and first blocks.

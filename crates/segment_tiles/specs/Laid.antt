@@ -3,7 +3,6 @@
 use Prim.Native.Nat.{ℕ, _+_, _-_, _≤_, _<_}
 use mathlib.Core.Bool.{Bool, true, false, cond}
 use mathlib.Core.List.{List}
-use mathlib.Core.Logic.{_≢_}
 use mathlib.Core.Path.{_≡_}
 use lib.Dec.{ltb}
 use lib.IntN.{ℤ, pos, natAbs}
@@ -14,7 +13,6 @@ use Rattle.ledger.specs.Records.{recordAt, recordsOf, isEmpty}
 use Rattle.ledger.specs.Units.{first, valid}
 use Rattle.ledger.specs.Runs.{Run, Gapped, covered}
 use Rattle.stored_forms.specs.Segments.{segmentRule, segmentIndex, largest}
-use Rattle.control_words.specs.Control.{freeSize}
 use Rattle.segment_blocks.specs.Blocks.{Scan, Reaches}
 use Rattle.segment_blocks.specs.Upkeep.{Ground}
 use Rattle.segment_places.specs.Stores.{arenaOf}
@@ -52,12 +50,11 @@ pub record HeldBlock (v : List ℤ) (map : Words) (at n : ℕ) : Type 0 where
   pub inside : at + n ≤ length v
   pub set : bitAt map at ≡ true
 
--- a block of n words that may follow: held, or free and not after a free one
-pub record Block (v : List ℤ) (map : Words) (at : ℕ) (after : Bool) (n : ℕ) : Type 0 where
-  pub size : n ≡ natAbs (getD v at (pos 0))
+-- n words are a free block, and the block before is held
+pub record FreeBlock (v : List ℤ) (at : ℕ) (after : Bool) (n : ℕ) : Type 0 where
+  pub apart : after ≡ false
   pub inside : at + n ≤ length v
-  pub held : freeSize (getD v at (pos 0)) ≡ 0 → bitAt map at ≡ true
-  pub free : freeSize (getD v at (pos 0)) ≢ 0 → (after ≡ false) × (runRight v at (at + n) ≡ true)
+  pub right : runRight v at (at + n) ≡ true
 
 -- Blocks lie side by side up to `next`, the first place at or past hi. If the blocks are those with control words c,
 -- `most` is the largest weight of those from `from` up to hi.

@@ -3,11 +3,8 @@
 use control_words::free_at;
 use control_words::is_held;
 use control_words::size_at;
-use control_words::weight_at;
 use ledger::Rule;
 use record_table::read_row;
-use segment_blocks::first_from;
-use segment_check::segment_right;
 use segment_check::tree_right;
 use segment_index::larger;
 use segment_index::lesser;
@@ -15,13 +12,15 @@ use words::zero_part_signed;
 ghost use mathlib.Core.Path.{_≡_};
 ghost use mathlib.Core.Bool.{true};
 ghost use Prim.Native.Nat.{ℕ, _+_, _*_, _≤_, _<_};
-ghost use lib.ListN.{length};
+ghost use lib.IntN.{pos};
+ghost use lib.ListN.{length, getD};
 ghost use Rattle.words.specs.Lists.{all, isZero};
 ghost use Rattle.ledger.specs.Records.{slots};
+ghost use Rattle.control_words.specs.Control.{freeSize};
 ghost use Rattle.segment_check.specs.Right.{Measured};
 ghost use Rattle.tiling.specs.Tiles.{Noted};
 ghost use Rattle.segment_tiles.specs.BitMaps.{bitAt};
-ghost use Rattle.segment_tiles.specs.Laid.{Laid, HeldBlock, Block, Strip, Matched};
+ghost use Rattle.segment_tiles.specs.Laid.{Laid, HeldBlock, FreeBlock, Strip, Matched};
 ghost use Rattle.segment_tiles.specs.Laid.{Heads, Joined, Headed, Stored};
 
 // ---- the map, 64 words of the arena to an entry
@@ -63,26 +62,16 @@ fn held_size(v: &[i32], map: &[u64], at: usize) -> usize
     0
 }
 
-// The size of the block that begins at a word; 0 if it is none of a sound pool. `after` says whether the block before it
-// is free.
-fn block_size(v: &[i32], map: &[u64], at: usize, after: bool) -> usize
-    requires { ⌜ (at < length (now v)) × (length (now v) ≤ 64 * length (now map)) ⌝ }
-    ensures { λ n. ⌜ (0 < n → Block (now (v .entry)) (now (map .entry)) at after n) ⌝ }
+// Whether the n words that a control word says are free are a free block of a sound pool: inside, and zero behind the
+// control word. `after` says whether the block before is free; two free ones don't touch.
+fn is_free_block(v: &[i32], at: usize, n: usize, after: bool) -> bool
+    requires { ⌜ (at < length (now v)) × (0 < n) × (n ≡ freeSize (getD (now v) at (pos 0))) ⌝ }
+    ensures { λ r. ⌜ (r ≡ true → FreeBlock (now (v .entry)) at after n) ⌝ }
 {
-    let n = free_at(v, at);
-    if n == 0 {
-        return held_size(v, map, at);
+    if after | (v.len() - at < n) {
+        return false;
     }
-    if after {
-        return 0;
-    }
-    if v.len() - at < n {
-        return 0;
-    }
-    if !zero_part_signed(v, at + 1, at + n) {
-        return 0;
-    }
-    n
+    zero_part_signed(v, at + 1, at + n)
 }
 
 // Where blocks that are laid have led: the next one begins at `next`, past the arena's end if one is wrong. So many words
@@ -94,7 +83,20 @@ struct Stand {
     most: u32,
 }
 
-// Lays the blocks that begin from `from` up to hi, behind others that have led to `from`.
+// Where a wrong block leads in an arena of w words.
+fn nowhere(w: usize) -> Stand
+    requires { ⌜ w ≤ 16384 ⌝ }
+    ensures { λ r. ⌜ w < r .next ⌝ }
+{
+    Stand {
+        next: w + 1,
+        free: 0,
+        after: false,
+        most: 0,
+    }
+}
+
+// Lays the blocks that begin from `from` up to hi, behind others that have led to `from`. A held block weighs 1.
 fn lay(v: &[i32], map: &[u64], from: usize, hi: usize, free: usize, after: bool) -> Stand
     requires { ⌜ (length (now v) ≤ 16384) × (length (now v) ≤ 64 * length (now map)) × (hi ≤ length (now v))
         × (from ≤ length (now v)) × (free ≤ from) × Laid (now v) (now map) from free after ⌝ }
@@ -108,20 +110,24 @@ fn lay(v: &[i32], map: &[u64], from: usize, hi: usize, free: usize, after: bool)
     let mut last = after;
     let mut most: u32 = 0;
     while at < hi {
-        let n = block_size(v, map, at, last);
-        if n == 0 {
-            return Stand {
-                next: v.len() + 1,
-                free: 0,
-                after: false,
-                most: 0,
-            };
-        }
         let f = free_at(v, at);
-        most = larger(most, weight_at(v, at));
-        sum += f;
-        last = f != 0;
-        at += n;
+        if f == 0 {
+            let n = held_size(v, map, at);
+            if n == 0 {
+                return nowhere(v.len());
+            }
+            most = larger(most, 1);
+            last = false;
+            at += n;
+        } else {
+            if !is_free_block(v, at, f, last) {
+                return nowhere(v.len());
+            }
+            most = larger(most, f as u32);
+            sum += f;
+            last = true;
+            at += f;
+        }
     }
     Stand {
         next: at,
@@ -147,17 +153,22 @@ fn lay_all(v: &[i32], map: &[u64], t: &[u32], s: usize, g: usize) -> usize
     let mut k: usize = 0;
     while k < s {
         let hi = lesser((k + 1) * g, w);
-        let stand = lay(v, map, at, hi, free, after);
-        if w < stand.next {
-            return w + 1;
+        let first = t[2 * s + k] as usize;
+        if at < hi {
+            let stand = lay(v, map, at, hi, free, after);
+            if (first != at) | (w < stand.next) | (t[s + k] != stand.most) {
+                return w + 1;
+            }
+            at = stand.next;
+            free = stand.free;
+            after = stand.after;
+            k += 1;
+        } else {
+            if (first != w) | (t[s + k] != 0) {
+                return w + 1;
+            }
+            k += 1;
         }
-        if !segment_right(t, s, k, stand.most, first_from(at, hi, w)) {
-            return w + 1;
-        }
-        at = stand.next;
-        free = stand.free;
-        after = stand.after;
-        k += 1;
     }
     free
 }
@@ -183,14 +194,14 @@ fn map_row(
 {
     let words = v.len();
     let rule = Rule { unit: 1, lead: 1 };
-    let u = tiling::enter_row(rule, words, next, table, i, &mut *seen, m);
+    let r = read_row(table, i);
+    let u = tiling::enter_row(rule, words, next, table, i, r, &mut *seen, m);
     if u == 0 {
         return 0;
     }
     if words < u {
         return u;
     }
-    let r = read_row(table, i);
     let at = r.address as usize - 1;
     if !is_held(v, at, u) {
         return words + 1;
@@ -277,7 +288,17 @@ fn is_tiled_few(
     ensures { λ r. ⌜ (r ≡ true → Stored next (now (arena .entry)) (now (table .entry)) (now (index .entry)) s) ⌝ }
 {
     let mut seen: [u8; 128] = [0; 128];
-    is_tiled_over(next, arena, table, index, s, g, map, &mut seen, 128)
+    is_tiled_over(
+        next,
+        &*arena,
+        &*table,
+        &*index,
+        s,
+        g,
+        &mut *map,
+        &mut seen,
+        128,
+    )
 }
 
 fn is_tiled_many(
@@ -294,7 +315,17 @@ fn is_tiled_many(
     ensures { λ r. ⌜ (r ≡ true → Stored next (now (arena .entry)) (now (table .entry)) (now (index .entry)) s) ⌝ }
 {
     let mut seen: [u8; 2048] = [0; 2048];
-    is_tiled_over(next, arena, table, index, s, g, map, &mut seen, 2048)
+    is_tiled_over(
+        next,
+        &*arena,
+        &*table,
+        &*index,
+        s,
+        g,
+        &mut *map,
+        &mut seen,
+        2048,
+    )
 }
 
 fn is_tiled_by(
@@ -311,9 +342,9 @@ fn is_tiled_by(
     ensures { λ r. ⌜ (r ≡ true → Stored next (now (arena .entry)) (now (table .entry)) (now (index .entry)) s) ⌝ }
 {
     if table.len() / 3 <= 16 {
-        return is_tiled_few(next, arena, table, index, s, g, map);
+        return is_tiled_few(next, &*arena, &*table, &*index, s, g, &mut *map);
     }
-    is_tiled_many(next, arena, table, index, s, g, map)
+    is_tiled_many(next, &*arena, &*table, &*index, s, g, &mut *map)
 }
 
 fn is_tiled_small(
@@ -328,7 +359,7 @@ fn is_tiled_small(
     ensures { λ r. ⌜ (r ≡ true → Stored next (now (arena .entry)) (now (table .entry)) (now (index .entry)) s) ⌝ }
 {
     let mut map: [u64; 2] = [0; 2];
-    is_tiled_by(next, arena, table, index, s, g, &mut map)
+    is_tiled_by(next, &*arena, &*table, &*index, s, g, &mut map)
 }
 
 fn is_tiled_middle(
@@ -343,7 +374,7 @@ fn is_tiled_middle(
     ensures { λ r. ⌜ (r ≡ true → Stored next (now (arena .entry)) (now (table .entry)) (now (index .entry)) s) ⌝ }
 {
     let mut map: [u64; 32] = [0; 32];
-    is_tiled_by(next, arena, table, index, s, g, &mut map)
+    is_tiled_by(next, &*arena, &*table, &*index, s, g, &mut map)
 }
 
 fn is_tiled_large(
@@ -358,7 +389,7 @@ fn is_tiled_large(
     ensures { λ r. ⌜ (r ≡ true → Stored next (now (arena .entry)) (now (table .entry)) (now (index .entry)) s) ⌝ }
 {
     let mut map: [u64; 256] = [0; 256];
-    is_tiled_by(next, arena, table, index, s, g, &mut map)
+    is_tiled_by(next, &*arena, &*table, &*index, s, g, &mut map)
 }
 
 // Whether the table holds a valid ledger, and arena and index are its stored form. Where it says no, this may still be
@@ -368,10 +399,10 @@ pub fn is_tiled(next: u32, arena: &[i32], table: &[u32], index: &[u32], s: usize
     ensures { λ r. ⌜ (r ≡ true → Stored next (now (arena .entry)) (now (table .entry)) (now (index .entry)) s) ⌝ }
 {
     if arena.len() <= 128 {
-        return is_tiled_small(next, arena, table, index, s, g);
+        return is_tiled_small(next, &*arena, &*table, &*index, s, g);
     }
     if arena.len() <= 2048 {
-        return is_tiled_middle(next, arena, table, index, s, g);
+        return is_tiled_middle(next, &*arena, &*table, &*index, s, g);
     }
-    is_tiled_large(next, arena, table, index, s, g)
+    is_tiled_large(next, &*arena, &*table, &*index, s, g)
 }

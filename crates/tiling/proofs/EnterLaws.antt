@@ -1,5 +1,6 @@
--- Laws of records that are entered slot after slot, and of the residues of their tickets. Assumes nothing.
-use Prim.Native.Nat.{ℕ, _+_, _%_, _<_}
+-- Laws of records that are entered slot after slot, and of the marks that are noted at the residues of their tickets.
+-- Assumes nothing.
+use Prim.Native.Nat.{ℕ, _+_, _<_}
 use native.Mathlib.Omega.{arith}
 use native.Mathlib.Decide.{ℕ-discrete}
 use native.Mathlib.Numerals.{add-one}
@@ -16,7 +17,7 @@ use Rattle.ledger.specs.declared.Row.{Row}
 use Rattle.ledger.specs.declared.Rule.{Rule}
 use Rattle.ledger.specs.Records.{recordAt, isEmpty}
 use Rattle.ledger.specs.Units.{span}
-use Rattle.record_table.specs.Checks.{rowOk, differ}
+use Rattle.record_table.specs.Checks.{rowOk, differ, residueOf}
 use Rattle.record_table.proofs.PairLaws.{every-last}
 use Rattle.tiling.specs.Tiles.{unitsOf, newAt, otherThan, markOf, several, notes, Noted, Joins, Entered}
 
@@ -86,7 +87,8 @@ noted-start m seen t j h = absurd (omega arith)
 
 module _ (m : ℕ) (seen t : Words) (i : ℕ) (N : Noted m seen t i) where
   -- a ticket that is not noted at its residue is none of the earlier ones
-  pub unnoted-new : notes (getD seen (recordAt t i .ticket % m) 0) (recordAt t i .ticket) ≡ false → newAt t i ≡ true
+  pub unnoted-new : notes (getD seen (residueOf m (recordAt t i .ticket)) 0) (recordAt t i .ticket) ≡ false
+      → newAt t i ≡ true
   unnoted-new none =
       every-of (λ j. differ (recordAt t j) (recordAt t i)) 0 i
       (λ j a b. go j (omega arith) (isZero (recordAt t j .ticket)) refl
@@ -97,18 +99,18 @@ module _ (m : ℕ) (seen t : Words) (i : ℕ) (N : Noted m seen t i) where
           → (z || otherThan t (recordAt t i .ticket) j) ≡ true
       go j b true q d = refl
       go j b false q (yes e) =
-          absurd (true≢false (sym (N j b q) ∙ ap (λ x. notes (getD seen (x % m) 0) x) e ∙ none))
+          absurd (true≢false (sym (N j b q) ∙ ap (λ x. notes (getD seen (residueOf m x) 0) x) e ∙ none))
       go j b false q (no e) = rw (eqb-ne (recordAt t j .ticket) (recordAt t i .ticket) e)
 
   -- a ticket that is noted already
   pub note-same : (isZero (recordAt t i .ticket) ≡ false
-      → notes (getD seen (recordAt t i .ticket % m) 0) (recordAt t i .ticket) ≡ true)
+      → notes (getD seen (residueOf m (recordAt t i .ticket)) 0) (recordAt t i .ticket) ≡ true)
       → Noted m seen t (i + 1)
   note-same e j h live = go (ℕ-discrete j i)
     where
-      go : Dec (j ≡ i) → notes (getD seen (recordAt t j .ticket % m) 0) (recordAt t j .ticket) ≡ true
+      go : Dec (j ≡ i) → notes (getD seen (residueOf m (recordAt t j .ticket)) 0) (recordAt t j .ticket) ≡ true
       go (yes q) =
-          ap (λ k. notes (getD seen (recordAt t k .ticket % m) 0) (recordAt t k .ticket)) q
+          ap (λ k. notes (getD seen (residueOf m (recordAt t k .ticket)) 0) (recordAt t k .ticket)) q
           ∙ e (ap (λ k. isZero (recordAt t k .ticket)) (sym q) ∙ live)
       go (no q) = N j (omega arith) live
 
@@ -116,37 +118,39 @@ module _ (m : ℕ) (seen t : Words) (i : ℕ) (N : Noted m seen t i) where
   note-none e = note-same (λ live. absurd (true≢false (sym (zero-ticket (recordAt t i) e) ∙ live)))
 
   -- v notes the ticket, and all that was noted at its residue
-  pub note-next : (at v : ℕ) → at ≡ recordAt t i .ticket % m → at < length seen → notes v (recordAt t i .ticket) ≡ true
-      → ((y : ℕ) → notes (getD seen at 0) y ≡ true → notes v y ≡ true) → Noted m (set seen at v) t (i + 1)
-  note-next at v is h own keeps j l live = go (ℕ-discrete (recordAt t j .ticket % m) at) (ℕ-discrete j i)
+  pub note-next : (at v : ℕ) → at ≡ residueOf m (recordAt t i .ticket) → at < length seen
+      → notes v (recordAt t i .ticket) ≡ true → ((y : ℕ) → notes (getD seen at 0) y ≡ true → notes v y ≡ true)
+      → Noted m (set seen at v) t (i + 1)
+  note-next at v is h own keeps j l live = go (ℕ-discrete (residueOf m (recordAt t j .ticket)) at) (ℕ-discrete j i)
     where
       x : ℕ
       x = recordAt t j .ticket
 
-      go : Dec (x % m ≡ at) → Dec (j ≡ i) → notes (getD (set seen at v) (x % m) 0) x ≡ true
+      go : Dec (residueOf m x ≡ at) → Dec (j ≡ i) → notes (getD (set seen at v) (residueOf m x) 0) x ≡ true
       go (yes e) d =
-          ap (λ k. notes (getD (set seen at v) k 0) x) e ∙ ap (λ k. notes k x) (getD-set-same seen at v 0 h) ∙ at-place d
+          ap (λ k. notes (getD (set seen at v) k 0) x) e ∙ ap (λ k. notes k x) (getD-set-same seen at v 0 h)
+          ∙ at-place d
         where
           at-place : Dec (j ≡ i) → notes v x ≡ true
           at-place (yes d) = ap (λ k. notes v (recordAt t k .ticket)) d ∙ own
           at-place (no d) = keeps x (ap (λ k. notes (getD seen k 0) x) (sym e) ∙ N j (omega arith) live)
-      go (no e) (yes d) = absurd (e (ap (λ k. recordAt t k .ticket % m) d ∙ sym is))
+      go (no e) (yes d) = absurd (e (ap (λ k. residueOf m (recordAt t k .ticket)) d ∙ sym is))
       go (no e) (no d) =
-          ap (λ k. notes k x) (getD-set-other seen at (x % m) v 0 e) ∙ N j (omega arith) live
+          ap (λ k. notes k x) (getD-set-other seen at (residueOf m x) v 0 e) ∙ N j (omega arith) live
 
   -- what the code holds of slot i: its ticket, the ticket's place and mark, and what is kept there
-  module _ (x at mark kept : ℕ) (own : x ≡ recordAt t i .ticket) (is : at ≡ x % m) (h : at < length seen)
+  module _ (x at mark kept : ℕ) (own : x ≡ recordAt t i .ticket) (is : at ≡ residueOf m x) (h : at < length seen)
       (made : mark ≡ markOf x) (was : kept ≡ getD seen at 0) where
     new-if : notes kept x ≡ false → newAt t i ≡ true
     new-if e =
         unnoted-new
-        (ap (λ y. notes (getD seen (y % m) 0) y) (sym own) ∙ ap (λ k. notes (getD seen k 0) x) (sym is)
+        (ap (λ y. notes (getD seen (residueOf m y) 0) y) (sym own) ∙ ap (λ k. notes (getD seen k 0) x) (sym is)
         ∙ ap (λ v. notes v x) (sym was) ∙ e)
 
     put : (v : ℕ) → notes v x ≡ true → ((y : ℕ) → notes kept y ≡ true → notes v y ≡ true)
         → Noted m (set seen at v) t (i + 1)
     put v e keeps =
-        note-next at v (is ∙ ap (λ y. y % m) own) h (ap (notes v) (sym own) ∙ e)
+        note-next at v (is ∙ ap (λ y. residueOf m y) own) h (ap (notes v) (sym own) ∙ e)
         (λ y q. keeps y (ap (λ k. notes k y) was ∙ q))
 
     pub first-there : kept ≡ 0 → (newAt t i ≡ true) × Noted m (set seen at mark) t (i + 1)
@@ -169,7 +173,7 @@ module _ (m : ℕ) (seen t : Words) (i : ℕ) (N : Noted m seen t i) where
     pub noted-there : (not (eqb kept mark) && not (eqb kept several)) ≡ false → Noted m seen t (i + 1)
     noted-there e =
         note-same
-        (λ live. ap (λ y. notes (getD seen (y % m) 0) y) (sym own) ∙ ap (λ k. notes (getD seen k 0) x) (sym is)
+        (λ live. ap (λ y. notes (getD seen (residueOf m y) 0) y) (sym own) ∙ ap (λ k. notes (getD seen k 0) x) (sym is)
         ∙ ap (λ v. notes v x) (sym was) ∙ ap (λ k. eqb kept k || eqb kept several) (sym made)
         ∙ either (eqb kept mark) (eqb kept several) e)
       where

@@ -14,7 +14,7 @@ use Rattle.ledger.specs.declared.Rule.{Rule}
 use Rattle.ledger.specs.Records.{Ledger, recordAt, isEmpty}
 use Rattle.ledger.specs.Units.{span, free}
 use Rattle.ledger.specs.Runs.{Run, Gapped, covered}
-use Rattle.record_table.specs.Checks.{rowOk, differ}
+use Rattle.record_table.specs.Checks.{rowOk, differ, residueOf}
 
 -- ---- the records, slot after slot
 
@@ -46,7 +46,7 @@ notes v x = eqb v (markOf x) || eqb v several
 abbrev pub Noted : ℕ → Words → Words → ℕ → Type 0
 Noted m seen t i =
     (j : ℕ) → j < i → isZero (recordAt t j .ticket) ≡ false
-    → notes (getD seen (recordAt t j .ticket % m) 0) (recordAt t j .ticket) ≡ true
+    → notes (getD seen (residueOf m (recordAt t j .ticket)) 0) (recordAt t j .ticket) ≡ true
 
 -- slot i fits by itself in an arena of W words, its ticket is none of the earlier ones, and it has u units
 abbrev pub Joins : Rule → ℕ → ℕ → Words → ℕ → ℕ → Type 0
@@ -65,10 +65,6 @@ pub record Entered (ρ : Rule) (W next : ℕ) (t : Words) (i held : ℕ) : Type 
 -- s says of a unit how many from it on are held, or 0 where it knows of none
 abbrev pub Spans : Rule → Ledger → (ℕ → ℕ) → Type 0
 Spans ρ L s = (k u : ℕ) → k ≤ u → u < k + s k → free ρ L u ≡ false
-
--- each unit from lo up to hi is among those that s says something of
-abbrev pub Paved : (ℕ → ℕ) → ℕ → ℕ → Type 0
-Paved s lo hi = (u : ℕ) → lo ≤ u → u < hi → (k : ℕ) × (k ≤ u) × (u < k + s k)
 
 -- the units of some runs together
 abbrev pub total : List Run → ℕ

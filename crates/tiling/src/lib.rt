@@ -1,4 +1,5 @@
 // Records that are entered slot after slot, for a check that lays tiles.
+use ledger::Row;
 use ledger::Rule;
 ghost use mathlib.Core.Path.{_≡_};
 ghost use mathlib.Core.Bool.{true};
@@ -52,23 +53,23 @@ fn is_new(seen: &mut [u8], m: usize, table: &[u32], i: usize, ticket: u32) -> bo
     unlike_earlier(table, i, ticket)
 }
 
-// The units of slot i where it may follow those before it: it fits by itself, and its ticket is none of theirs. More
-// than the arena's words if it may not.
+// The units of the record r of slot i where it may follow those before it: it fits by itself, and its ticket is none of
+// theirs. More than the arena's words if it may not. The caller reads the record, for it has more to do with it.
 pub fn enter_row(
     rule: Rule,
     words: usize,
     next: u32,
     table: &[u32],
     i: usize,
+    r: Row,
     seen: &mut [u8],
     m: usize,
 ) -> usize
-    requires { ⌜ (0 < rule .unit) × (words < 4294967296) × (i < slots (now table)) × (0 < m)
-        × (length (now seen) ≡ m) × Noted m (now seen) (now table) i ⌝ }
+    requires { ⌜ (0 < rule .unit) × (words < 4294967296) × (i < slots (now table)) × (r ≡ recordAt (now table) i) ⌝ }
+    requires { ⌜ (0 < m) × (length (now seen) ≡ m) × Noted m (now seen) (now table) i ⌝ }
     ensures { λ u. ⌜ (u ≤ words → Joins rule words next (now (table .entry)) i u
         × Noted m (now (seen .exit)) (now (table .entry)) (i + 1)) ⌝ }
 {
-    let r = record_table::read_row(table, i);
     if record_table::is_empty(r) {
         return 0;
     }

@@ -28,7 +28,7 @@ fn all_held(used: &[u8], lo: usize, hi: usize) -> bool
     if hi <= lo {
         return true;
     }
-    words::set_part_bytes(used, lo, hi)
+    words::set_part_bytes(&*used, lo, hi)
 }
 
 // Whether no free unit follows at unit e.
@@ -48,7 +48,7 @@ fn is_next(used: &[u8], units: usize, k: usize, c: usize, z: usize) -> bool
     ensures { λ r. ⌜ Says r (ahead (now (used .entry)) units k ≡ run c z ∷ ahead (now (used .entry)) units (c + z)) ⌝ }
 {
     let e = c + z;
-    all_held(used, k, c) & words::zero_part_bytes(used, c, e) & is_closed(used, units, e)
+    all_held(&*used, k, c) & words::zero_part_bytes(&*used, c, e) & is_closed(&*used, units, e)
 }
 
 // ---- the walk
@@ -99,7 +99,7 @@ fn node_ok(
     if units - c < z {
         return false;
     }
-    is_next(used, units, k, c, z) & words::zero_part(arena, 2 * c + 2, 2 * (c + z))
+    is_next(&*used, units, k, c, z) & words::zero_part(arena, 2 * c + 2, 2 * (c + z))
 }
 
 // Left part, node, right part: whether the blocks of the tree at the link are the free runs from unit k on, each
@@ -133,16 +133,24 @@ fn walk(
     }
     let c = link - 1;
     let z = length_of(arena, c) as usize;
-    let before = walk(arena, used, units, left_of(arena, c), z, k, allowed - 1);
+    let before = walk(&*arena, &*used, units, left_of(arena, c), z, k, allowed - 1);
     let next = before.next;
     let left = before.left;
     if !before.ok {
         return stopped(left);
     }
-    if !node_ok(arena, used, units, next, limit, c, z) {
+    if !node_ok(&*arena, &*used, units, next, limit, c, z) {
         return stopped(left);
     }
-    walk(arena, used, units, right_of(arena, c), z + 1, c + z, left)
+    walk(
+        &*arena,
+        &*used,
+        units,
+        right_of(arena, c),
+        z + 1,
+        c + z,
+        left,
+    )
 }
 
 // Whether the arena holds the tree of the map's free runs, from the root link on, and zeros in the rest of their
@@ -152,9 +160,9 @@ pub fn tree_ok(arena: &[u32], used: &[u8], units: usize, root: usize, allowed: u
     requires { ⌜ length (ahead (now used) units 0) ≤ allowed ⌝ }
     ensures { λ r. ⌜ Says r (Shows (now (arena .entry)) (now (used .entry)) units root) ⌝ }
 {
-    let seen = walk(arena, used, units, root, units + 1, 0, allowed);
+    let seen = walk(&*arena, &*used, units, root, units + 1, 0, allowed);
     let next = seen.next;
-    seen.ok & all_held(used, next, units)
+    seen.ok & all_held(&*used, next, units)
 }
 
 // ---- the gate
@@ -192,11 +200,11 @@ fn is_stored_over(root: u32, next: u32, arena: &[u32], table: &[u32], used: &mut
 {
     let words = arena.len();
     let rule = Rule { unit: 2, lead: 0 };
-    if !record_table::table_check(rule, words, next, table, &mut *used) {
+    if !record_table::table_check(rule, words, next, &*table, &mut *used) {
         return false;
     }
-    let allowed = count_live(table) + 1;
-    tree_ok(arena, used, words / 2, root as usize, allowed)
+    let allowed = count_live(&*table) + 1;
+    tree_ok(&*arena, &*used, words / 2, root as usize, allowed)
 }
 
 // The exact check, with every unit marked. It is what refuses a pool.
@@ -205,7 +213,7 @@ fn is_stored_marked(root: u32, next: u32, arena: &[u32], table: &[u32]) -> bool
     ensures { λ r. ⌜ r ≡ stored treeEngine (treePool root next (now (arena .entry)) (now (table .entry))) ⌝ }
 {
     let mut used: [u8; 8192] = [0; 8192];
-    is_stored_over(root, next, arena, table, &mut used)
+    is_stored_over(root, next, &*arena, &*table, &mut used)
 }
 
 // Whether head and lent memory are the stored form of a ledger. Records and free blocks that lie side by side are
@@ -214,20 +222,20 @@ pub fn is_stored(root: u32, next: u32, arena: &[u32], table: &[u32]) -> bool
     requires { ⌜ lengths treeEngine (treePool root next (now arena) (now table)) ≡ true ⌝ }
     ensures { λ r. ⌜ r ≡ stored treeEngine (treePool root next (now (arena .entry)) (now (table .entry))) ⌝ }
 {
-    if tree_tiles::is_tiled(root, next, arena, table) {
+    if tree_tiles::is_tiled(root, next, &*arena, &*table) {
         return true;
     }
-    is_stored_marked(root, next, arena, table)
+    is_stored_marked(root, next, &*arena, &*table)
 }
 
 // The number of the tests that stand before every call: 8, 1, or 0 for a sound pool.
 pub fn gate_number(root: u32, next: u32, arena: &[u32], table: &[u32]) -> u32
     ensures { λ r. ⌜ r ≡ gateOf treeEngine (treePool root next (now (arena .entry)) (now (table .entry))) ⌝ }
 {
-    if !right_lengths(arena, table) {
+    if !right_lengths(&*arena, &*table) {
         return 8;
     }
-    if !is_stored(root, next, arena, table) {
+    if !is_stored(root, next, &*arena, &*table) {
         return 1;
     }
     0

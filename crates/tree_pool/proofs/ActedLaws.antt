@@ -4,6 +4,7 @@ use mathlib.Core.Logic.{_≢_}
 use mathlib.Core.Bool.{true, false}
 use mathlib.Core.List.{[]}
 use Prim.Native.Nat.{ℕ}
+use lib.Dec.{eqb}
 use Rattle.words.specs.Lists.{Words}
 use Rattle.ledger.specs.declared.Row.{Row}
 use Rattle.calls.specs.Pool.{Pool, sound}
@@ -16,18 +17,37 @@ use Rattle.call_parts.proofs.AskLaws.{RefusedBy}
 use Rattle.call_parts.proofs.GateLaws.{gate, gate-refuses}
 use Rattle.tree_pool.specs.declared.Head.{Head}
 use Rattle.tree_pool.specs.declared.Outcome.{Outcome}
-use Rattle.tree_pool.specs.Promises.{poolOf, Left, handed, left, acted, refusedWith}
+use Rattle.tree_pool.specs.declared.Effect.{Effect}
+use Rattle.tree_pool.specs.Promises.{poolOf, Left, handed, left, acted, refusedWith, granted, vacated}
 
 pub acted-left : (act : Act) (p : Pool) (o : Outcome) (b u : Words) → o .answer ≡ answerTo treeEngine p act
     → poolOf (o .head) b u ≡ poolAfter treeEngine p act → handed o b u [] ≡ acted act p
 acted-left act p o b u x e =
     λ i. record { answer = x i; head = e i .head; arena = e i .arena; table = e i .table; buffers = [] }
 
+-- equal outcomes leave the same
+pub same-left : (act : Act) (p : Pool) {o x : Outcome} (b u : Words) → o ≡ x → handed x b u [] ≡ acted act p
+    → handed o b u [] ≡ acted act p
+same-left act p b u e h = ap (λ (y : Outcome). handed y b u []) e ∙ h
+
 pub refused-left : (act : Act) (h : Head) (a t : Words) (o : Outcome) (x : ℕ) → o ≡ refusedWith h x
     → RefusedBy treeEngine (poolOf h a t) act x → handed o a t [] ≡ acted act (poolOf h a t)
 refused-left act h a t o x e r =
-    ap (λ (y : Outcome). handed y a t []) e
-    ∙ acted-left act (poolOf h a t) (refusedWith h x) a t (sym (r .0)) (sym (r .1))
+    same-left act (poolOf h a t) a t e
+    (acted-left act (poolOf h a t) (refusedWith h x) a t (sym (r .0)) (sym (r .1)))
+
+-- refused in the effect alone: the outcome that it comes to is the refusal
+module _ (h : Head) (a t : Words) (e : Effect) (x : ℕ) (is : e .number ≡ x) (some : eqb x 0 ≡ false) where
+  refuses : eqb (e .number) 0 ≡ false
+  refuses = ap (λ (k : ℕ). eqb k 0) is ∙ some
+
+  pub granted-refused : (n : ℕ) → RefusedBy treeEngine (poolOf h a t) (ask n) x
+      → handed (granted h n e) a t [] ≡ acted (ask n) (poolOf h a t)
+  granted-refused n = refused-left (ask n) h a t (granted h n e) x (rw refuses (ap (refusedWith h) is))
+
+  pub vacated-refused : (r : Row) → RefusedBy treeEngine (poolOf h a t) (give r) x
+      → handed (vacated h r e) a t [] ≡ acted (give r) (poolOf h a t)
+  vacated-refused r = refused-left (give r) h a t (vacated h r e) x (rw refuses (ap (refusedWith h) is))
 
 -- ---- whole calls
 

@@ -22,7 +22,8 @@ use Rattle.calls.specs.Step.{refusal, done, format, formatted, step}
 use Rattle.calls.specs.Engines.{treeEngineOf, treeEngine}
 use Rattle.tree_check.specs.Gate.{treePool}
 use Rattle.tree_check.proofs.GateLaws.{InRange, in-range}
-use Rattle.tree_pool.specs.Promises.{Left, handed, left}
+use Rattle.tree_pool.specs.declared.Outcome.{Outcome}
+use Rattle.tree_pool.specs.Promises.{Left, handed, left, refusedWith}
 use Rattle.tree_pool.proofs.StoredLaws.{Shows, stored-pool}
 
 blank-free : (k u : ℕ) → free (formRule formOne) (replicate k emptyRow) u ≡ true
@@ -77,9 +78,9 @@ blank-shows a b k h even put =
 abbrev pub blankPool : Words → Words → Pool
 blankPool a t = treePool 0 0 a t
 
-pub format-refused : (a t : Words) (x : Answer) → false ≡ lengths treeEngine (blankPool a t) → x ≡ refusal 8
-    → handed (record { head = record { root = 0; next = 0 }; answer = x }) a t []
-    ≡ left (step treeEngine format (blankPool a t))
+pub format-refused : (a t : Words) (x : Outcome) → false ≡ lengths treeEngine (blankPool a t)
+    → x ≡ refusedWith (record { root = 0; next = 0 }) 8
+    → handed x a t [] ≡ left (step treeEngine format (blankPool a t))
 unfolding step formatted treeEngine treeEngineOf
 format-refused a t x e h = rw (← e, h)
 

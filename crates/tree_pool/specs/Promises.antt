@@ -1,11 +1,14 @@
 -- What the tree pool's calls hand back and leave, and the machine's outcome, in one form. Assumes nothing.
 use Prim.Native.Nat.{ℕ, _+_, _*_}
+use mathlib.Core.Bool.{cond}
 use mathlib.Core.List.{List, [], _∷_, _++_}
+use lib.Dec.{eqb}
 use denote.Ref.{RefT, now}
 use lib.ListN.{length, take, drop}
 use Rattle.words.specs.Lists.{Words}
+use Rattle.ledger.specs.declared.Row.{Row}
 use Rattle.calls.specs.declared.Answer.{Answer}
-use Rattle.calls.specs.Pool.{Pool}
+use Rattle.calls.specs.Pool.{Pool, nextAfter}
 use Rattle.calls.specs.Step.{Slice, arenaPart, placeholder, nothing, Act, refusal, answerTo, poolAfter}
 use Rattle.calls.specs.Step.{requests, answerWords, answersOf, countedOf, poolAfterAll}
 use Rattle.calls.specs.Engines.{treeEngine}
@@ -14,6 +17,7 @@ use Rattle.calls.specs.Pool as memory
 use Rattle.tree_check.specs.Gate.{treePool}
 use Rattle.tree_pool.specs.declared.Head.{Head}
 use Rattle.tree_pool.specs.declared.Outcome.{Outcome}
+use Rattle.tree_pool.specs.declared.Effect.{Effect}
 
 -- the pool that a call is lent
 abbrev pub poolOf : Head → Words → Words → Pool
@@ -67,6 +71,23 @@ ran rs bs p = (
 -- the head as it came, with a refusal
 abbrev pub refusedWith : Head → ℕ → Outcome
 refusedWith h n = record { head = h; answer = refusal n }
+
+-- what an allocation of n words comes to by its effect: a refusal, or the next ticket at the address that was found
+abbrev pub granted : Head → ℕ → Effect → Outcome
+granted h n e =
+    cond (eqb (e .number) 0)
+    (record {
+      head = record { root = e .root; next = nextAfter (h .next) };
+      answer = machine.granted (record { ticket = h .next; address = e .address; words = n });
+    })
+    (refusedWith h (e .number))
+
+-- what a release comes to by its effect: a refusal, or the named record once more; no ticket is used up
+abbrev pub vacated : Head → Row → Effect → Outcome
+vacated h r e =
+    cond (eqb (e .number) 0)
+    (record { head = record { root = e .root; next = h .next }; answer = machine.granted r })
+    (refusedWith h (e .number))
 
 -- ---- slices
 

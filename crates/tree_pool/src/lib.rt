@@ -18,7 +18,8 @@ ghost use Rattle.calls.specs.Engines.{treeEngine};
 ghost use Rattle.call_parts.specs.Parts.{namedIn, actOf, requestAt, withAnswer};
 ghost use Rattle.tree_check.specs.Gate.{treePool};
 ghost use Rattle.tree_pool.specs.Granting.{Found};
-ghost use Rattle.tree_pool.specs.Promises.{poolOf, handed, left, acted, ran, refusedWith, sliceOf, whole};
+ghost use Rattle.tree_pool.specs.Promises.{poolOf, handed, left, acted, ran, refusedWith, granted, vacated};
+ghost use Rattle.tree_pool.specs.Promises.{sliceOf, whole};
 
 // What a call is passed and hands back: the root link and the next ticket, 0 when none is left.
 pub struct Head {
@@ -32,6 +33,15 @@ pub struct Outcome {
     pub answer: Answer,
 }
 
+// What a request on a sound pool has come to, as far as its caller does not know it: number, root link, and the
+// address of the block that was granted. It is small, because a struct comes back through memory: an outcome that is
+// read there at once costs a wait.
+struct Effect {
+    number: u32,
+    root: u32,
+    address: u32,
+}
+
 // ---- find and look
 
 // Is this ticket, address and words live?
@@ -39,7 +49,7 @@ pub fn find(head: Head, arena: &[u32], table: &[u32], named: Row) -> Answer
     ensures { λ r. ⌜ r
         ≡ step treeEngine (find named) (poolOf head (now (arena .entry)) (now (table .entry))) .answer ⌝ }
 {
-    let number = tree_check::gate_number(head.root, head.next, arena, table);
+    let number = tree_check::gate_number(head.root, head.next, &*arena, &*table);
     if number != 0 {
         return call_parts::refused(number);
     }
@@ -73,6 +83,16 @@ pub fn look<'a>(
 
 // ---- format
 
+// A refusal: the head as it came.
+fn refused_with(head: Head, number: u32) -> Outcome
+    ensures { λ r. ⌜ r ≡ refusedWith head number ⌝ }
+{
+    Outcome {
+        head,
+        answer: call_parts::refused(number),
+    }
+}
+
 // A pool with no record: one free block, next ticket 1. It takes no head and any contents; refused, it writes nothing
 // and hands back a head of zeros.
 pub fn format(arena: &mut [u32], table: &mut [u32]) -> Outcome
@@ -80,10 +100,7 @@ pub fn format(arena: &mut [u32], table: &mut [u32]) -> Outcome
         ≡ left (step treeEngine format (treePool 0 0 (now (arena .entry)) (now (table .entry)))) ⌝ }
 {
     if !tree_check::right_lengths(arena, table) {
-        return Outcome {
-            head: Head { root: 0, next: 0 },
-            answer: call_parts::refused(8),
-        };
+        return refused_with(Head { root: 0, next: 0 }, 8);
     }
     let cells = (arena.len() / 2) as u32;
     words::wipe(arena);
@@ -102,13 +119,14 @@ pub fn format(arena: &mut [u32], table: &mut [u32]) -> Outcome
 
 // ---- allocate
 
-// A refusal: the head as it came.
-fn refused_with(head: Head, number: u32) -> Outcome
-    ensures { λ r. ⌜ r ≡ refusedWith head number ⌝ }
+// The effect of a request that is refused: none.
+fn no_effect(number: u32) -> Effect
+    ensures { λ r. ⌜ r .number ≡ number ⌝ }
 {
-    Outcome {
-        head,
-        answer: call_parts::refused(number),
+    Effect {
+        number,
+        root: 0,
+        address: 0,
     }
 }
 
@@ -120,50 +138,71 @@ fn place(
     words: u32,
     slot: usize,
     block: usize,
-) -> Outcome
+) -> Effect
     requires { ⌜ Found head (now arena) (now table) words slot block ⌝ }
-    ensures { λ r. ⌜ handed r (now (arena .exit)) (now (table .exit)) []
+    ensures { λ r. ⌜ handed (granted head words r) (now (arena .exit)) (now (table .exit)) []
         ≡ acted (ask words) (poolOf head (now (arena .entry)) (now (table .entry))) ⌝ }
 {
     let cells = record_table::span_of(Rule { unit: 2, lead: 0 }, words);
     let root = free_blocks::take_cells(arena, head.root as usize, block, cells);
+    let address = (2 * (block - 1)) as u32;
     let new = Row {
         ticket: head.next,
-        address: (2 * (block - 1)) as u32,
+        address,
         words,
     };
     record_table::write_row(table, slot, new);
-    Outcome {
-        head: Head {
-            root: root as u32,
-            next: call_parts::next_after(head.next),
-        },
-        answer: call_parts::succeeded(new),
+    Effect {
+        number: 0,
+        root: root as u32,
+        address,
     }
 }
 
 // An allocation on a sound pool: the tests in the order of their numbers, then the leftmost fit.
-fn grant(head: Head, arena: &mut [u32], table: &mut [u32], words: u32) -> Outcome
+fn grant(head: Head, arena: &mut [u32], table: &mut [u32], words: u32) -> Effect
     requires { ⌜ sound treeEngine (poolOf head (now arena) (now table)) ≡ true ⌝ }
-    ensures { λ r. ⌜ handed r (now (arena .exit)) (now (table .exit)) []
+    ensures { λ r. ⌜ handed (granted head words r) (now (arena .exit)) (now (table .exit)) []
         ≡ acted (ask words) (poolOf head (now (arena .entry)) (now (table .entry))) ⌝ }
 {
     if (words == 0) | (16384 < words) {
-        return refused_with(head, 2);
+        return no_effect(2);
     }
     let Slot::At(slot) = record_table::empty_slot(table) else {
-        return refused_with(head, 3);
+        return no_effect(3);
     };
     let next = head.next;
     if next == 0 {
-        return refused_with(head, 4);
+        return no_effect(4);
     }
     let cells = record_table::span_of(Rule { unit: 2, lead: 0 }, words);
     let block = free_tree::leftmost_fit(arena, head.root as usize, cells as u32);
     if block == 0 {
-        return refused_with(head, 5);
+        return no_effect(5);
     }
     place(head, arena, table, words, slot, block)
+}
+
+// The outcome of an allocation with this effect.
+fn outcome_of_grant(head: Head, words: u32, done: Effect) -> Outcome
+    ensures { λ r. ⌜ r ≡ granted head words done ⌝ }
+{
+    let number = done.number;
+    if number != 0 {
+        return refused_with(head, number);
+    }
+    let new = Row {
+        ticket: head.next,
+        address: done.address,
+        words,
+    };
+    Outcome {
+        head: Head {
+            root: done.root,
+            next: call_parts::next_after(head.next),
+        },
+        answer: call_parts::succeeded(new),
+    }
 }
 
 // Words under the next ticket, at the lowest address where enough free cells lie together.
@@ -171,20 +210,21 @@ pub fn allocate(head: Head, arena: &mut [u32], table: &mut [u32], words: u32) ->
     ensures { λ r. ⌜ handed r (now (arena .exit)) (now (table .exit)) []
         ≡ left (step treeEngine (allocate words) (poolOf head (now (arena .entry)) (now (table .entry)))) ⌝ }
 {
-    let number = tree_check::gate_number(head.root, head.next, arena, table);
+    let number = tree_check::gate_number(head.root, head.next, &*arena, &*table);
     if number != 0 {
         return refused_with(head, number);
     }
-    grant(head, arena, table, words)
+    let done = grant(head, arena, table, words);
+    outcome_of_grant(head, words, done)
 }
 
 // ---- release
 
 // Gives back the cells of the named record, which stands in the slot, and empties the slot.
-fn give_back(head: Head, arena: &mut [u32], table: &mut [u32], named: Row, slot: usize) -> Outcome
+fn give_back(head: Head, arena: &mut [u32], table: &mut [u32], named: Row, slot: usize) -> Effect
     requires { ⌜ (sound treeEngine (poolOf head (now arena) (now table))
         ≡ true) × (namedIn (now table) named ≡ Named.Slot slot) ⌝ }
-    ensures { λ r. ⌜ handed r (now (arena .exit)) (now (table .exit)) []
+    ensures { λ r. ⌜ handed (vacated head named r) (now (arena .exit)) (now (table .exit)) []
         ≡ acted (give named) (poolOf head (now (arena .entry)) (now (table .entry))) ⌝ }
 {
     let lo = record_table::first_unit(Rule { unit: 2, lead: 0 }, named);
@@ -196,24 +236,39 @@ fn give_back(head: Head, arena: &mut [u32], table: &mut [u32], named: Row, slot:
         words: 0,
     };
     record_table::write_row(table, slot, none);
-    Outcome {
-        head: Head {
-            root: root as u32,
-            next: head.next,
-        },
-        answer: call_parts::succeeded(named),
+    Effect {
+        number: 0,
+        root: root as u32,
+        address: 0,
     }
 }
 
 // A release on a sound pool.
-fn vacate(head: Head, arena: &mut [u32], table: &mut [u32], named: Row) -> Outcome
+fn vacate(head: Head, arena: &mut [u32], table: &mut [u32], named: Row) -> Effect
     requires { ⌜ sound treeEngine (poolOf head (now arena) (now table)) ≡ true ⌝ }
-    ensures { λ r. ⌜ handed r (now (arena .exit)) (now (table .exit)) []
+    ensures { λ r. ⌜ handed (vacated head named r) (now (arena .exit)) (now (table .exit)) []
         ≡ acted (give named) (poolOf head (now (arena .entry)) (now (table .entry))) ⌝ }
 {
     match call_parts::named_slot(table, named) {
-        Named::Refused(number) => refused_with(head, number),
+        Named::Refused(number) => no_effect(number),
         Named::Slot(slot) => give_back(head, arena, table, named, slot),
+    }
+}
+
+// The outcome of a release with this effect.
+fn outcome_of_release(head: Head, named: Row, done: Effect) -> Outcome
+    ensures { λ r. ⌜ r ≡ vacated head named done ⌝ }
+{
+    let number = done.number;
+    if number != 0 {
+        return refused_with(head, number);
+    }
+    Outcome {
+        head: Head {
+            root: done.root,
+            next: head.next,
+        },
+        answer: call_parts::succeeded(named),
     }
 }
 
@@ -223,11 +278,12 @@ pub fn release(head: Head, arena: &mut [u32], table: &mut [u32], named: Row) -> 
     ensures { λ r. ⌜ handed r (now (arena .exit)) (now (table .exit)) []
         ≡ left (step treeEngine (release named) (poolOf head (now (arena .entry)) (now (table .entry)))) ⌝ }
 {
-    let number = tree_check::gate_number(head.root, head.next, arena, table);
+    let number = tree_check::gate_number(head.root, head.next, &*arena, &*table);
     if number != 0 {
         return refused_with(head, number);
     }
-    vacate(head, arena, table, named)
+    let done = vacate(head, arena, table, named);
+    outcome_of_release(head, named, done)
 }
 
 // ---- list
@@ -239,8 +295,14 @@ pub fn serve(head: Head, arena: &mut [u32], table: &mut [u32], request: Request)
         ≡ acted (actOf request) (poolOf head (now (arena .entry)) (now (table .entry))) ⌝ }
 {
     match request {
-        Request::Ask(words) => grant(head, arena, table, words),
-        Request::Give(named) => vacate(head, arena, table, named),
+        Request::Ask(words) => {
+            let done = grant(head, arena, table, words);
+            outcome_of_grant(head, words, done)
+        }
+        Request::Give(named) => {
+            let done = vacate(head, arena, table, named);
+            outcome_of_release(head, named, done)
+        }
         Request::Bad => refused_with(head, 9),
     }
 }
@@ -307,7 +369,7 @@ pub fn list(
     if !call_parts::list_suits(asked, answers) {
         return refused_with(head, 8);
     }
-    let number = tree_check::gate_number(head.root, head.next, arena, table);
+    let number = tree_check::gate_number(head.root, head.next, &*arena, &*table);
     if number != 0 {
         return refused_with(head, number);
     }

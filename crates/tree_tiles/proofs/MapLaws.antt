@@ -1,15 +1,11 @@
 -- The map of a table's records, slot after slot. Assumes nothing.
-use Prim.Native.Nat.{ℕ, zero, suc, _+_, _*_, _≤_, _<_}
-use native.Mathlib.Decide.{ℕ-discrete, decLe, decLt}
+use Prim.Native.Nat.{ℕ, _+_, _*_, _/_, _≤_, _<_}
+use native.Mathlib.Decide.{decLe, decLt}
 use native.Mathlib.Omega.{arith}
-use mathlib.Core.Path.{_≡_, refl, sym, ap, _∙_, subst}
+use mathlib.Core.Path.{_≡_, refl, _∙_, subst}
 use mathlib.Core.Logic.{_≢_}
 use mathlib.Core.Bool.{Bool, true, false}
-use mathlib.Core.List.{[], _∷_}
-use lib.ListN.{length, set}
-use lib.Seq.{getD-set-same, getD-set-other}
 use Rattle.words.specs.Lists.{Words, all, isZero}
-use Rattle.words.proofs.Tests.{and-l, and-r, eqb-eq}
 use Rattle.ledger.specs.declared.Row.{Row}
 use Rattle.ledger.specs.Records.{recordAt, slots, isEmpty}
 use Rattle.ledger.specs.Units.{span, first, past, covers}
@@ -18,17 +14,12 @@ use Rattle.record_table.specs.Checks.{rowOk}
 use Rattle.tiling.specs.Tiles.{unitsOf, Noted, Joins, Entered}
 use Rattle.tiling.proofs.TileLaws.{held-by}
 use Rattle.tiling.proofs.EnterLaws.{enter-start, enter-next, noted-start}
-use Rattle.tree_tiles.specs.Maps.{cellRule, spanAt, Adds, Mapped}
+use Rattle.tree_tiles.specs.Maps.{cellRule, Covers, Adds, Mapped}
+use Rattle.tree_tiles.proofs.SpanLaws.{no-units}
 
-all-zero : (map : Words) → all isZero map ≡ true → (k : ℕ) → spanAt map k ≡ 0
-all-zero [] e k = refl
-all-zero (x ∷ xs) e zero = eqb-eq x 0 (and-l (isZero x) (all isZero xs) e)
-all-zero (x ∷ xs) e (suc k) = all-zero xs (and-r (isZero x) (all isZero xs) e) k
-
--- what the map says is held is held by one of the first i slots
+-- what the map covers is held by one of the first i slots
 abbrev Known : Words → Words → ℕ → Type 0
-Known t map i =
-    (k u : ℕ) → k ≤ u → u < k + spanAt map k → (j : ℕ) × (j < i) × (covers cellRule u (recordAt t j) ≡ true)
+Known t map i = (u : ℕ) → Covers map u → (j : ℕ) × (j < i) × (covers cellRule u (recordAt t j) ≡ true)
 
 -- the first i slots are entered and in the map
 pub record Mapping (W next : ℕ) (t : Words) (m : ℕ) (map seen : Words) (held i : ℕ) : Type 0 where
@@ -52,25 +43,13 @@ module _ (W next : ℕ) (r : Row) (n : ℕ) (some : n ≢ 0) (ok : rowOk cellRul
       go true e = absurd (some (units ∙ rw e))
       go false e = (fits-facts cellRule (omega arith) W next r (rw e at ok), units ∙ rw e)
 
-  pub units-inside : (map : Words) → W ≤ 2 * length map → first cellRule r + n ≤ length map
-  units-inside map h = let (f, long) = live-row in omega (arith, f .units, past-is r)
-
--- ---- a span that is noted, in one place after another
-
-pub adds-more : (map map′ : Words) (lo n at v : ℕ) → at < length map′ → lo ≤ at → at + v ≤ lo + n → Adds map map′ lo n
-    → Adds map (set map′ at v) lo n
-adds-more map map′ lo n at v h low high old k u a b out = go (ℕ-discrete k at)
-  where
-    go : Dec (k ≡ at) → u < k + spanAt map k
-    go (yes e) =
-        let there : spanAt (set map′ at v) k ≡ v = ap (spanAt (set map′ at v)) e ∙ getD-set-same map′ at v 0 h in
-        absurd (out (omega arith) (omega arith))
-    go (no e) = let there = getD-set-other map′ at k v 0 e in old k u a (omega arith) out
+  pub units-inside : first cellRule r + n ≤ W / 2
+  units-inside = let (f, long) = live-row in omega (arith, f .units, past-is r)
 
 -- the map with the units of slot i
 known-next : (W next : ℕ) (t map map′ : Words) (i n : ℕ) → Joins cellRule W next t i n
     → Adds map map′ (first cellRule (recordAt t i)) n → Known t map i → Known t map′ (i + 1)
-known-next W next t map map′ i n (ok, new, units) adds known k u a b =
+known-next W next t map map′ i n (ok, new, units) adds known u c =
     go (decLe (first cellRule (recordAt t i)) u) (decLt u (first cellRule (recordAt t i) + n))
   where
     r : Row
@@ -78,7 +57,7 @@ known-next W next t map map′ i n (ok, new, units) adds known k u a b =
 
     older : ((first cellRule r ≤ u) → u < first cellRule r + n → ⊥)
         → (j : ℕ) × (j < i + 1) × (covers cellRule u (recordAt t j) ≡ true)
-    older out = let (j, x, y) = known k u a (adds k u a b out) in (j, omega arith, y)
+    older out = let (j, x, y) = known u (adds u c out) in (j, omega arith, y)
 
     go : Dec (first cellRule r ≤ u) → Dec (u < first cellRule r + n)
         → (j : ℕ) × (j < i + 1) × (covers cellRule u (recordAt t j) ≡ true)
@@ -95,7 +74,7 @@ module _ {W next : ℕ} {t : Words} {m : ℕ} where
     entered = enter-start cellRule W next t;
     low = omega arith;
     residues = noted-start m seen t;
-    known = λ k u a b. absurd (omega (arith, all-zero map e k));
+    known = λ u (p, a, b). absurd (omega (arith, no-units map e p));
   }
 
   pub map-next : {map seen : Words} {held i : ℕ} (n : ℕ) (map′ seen′ : Words) → Mapping W next t m map seen held i
@@ -118,5 +97,5 @@ module _ {W next : ℕ} {t : Words} {m : ℕ} where
       let all : i ≡ slots t = omega arith in
       record {
         entered = subst (λ j. Entered cellRule W next t j held) all (c .entered);
-        spans = λ k u a b. let (j, x, y) = c .known k u a b in held-by cellRule t j u (omega arith) y;
+        spans = λ u k. let (j, x, y) = c .known u k in held-by cellRule t j u (omega arith) y;
       }

@@ -12,31 +12,31 @@ use Rattle.words.proofs.Tests.{and-l, and-r, eqb-eq}
 use Rattle.words.proofs.CountedLaws.{every-at}
 use Rattle.ledger.specs.Runs.{Run, Gapped}
 use Rattle.ledger.proofs.RunLaws.{gapped-weaken}
-use Rattle.tiling.specs.Tiles.{Paved}
-use Rattle.tree_tiles.specs.Maps.{spanAt}
+use Rattle.tree_tiles.specs.Maps.{Knows, Covers, Paved}
 use Rattle.tree_tiles.specs.Lay.{earliest, Placed}
 
 -- ---- records side by side
 
-pub paved-more : (s : ℕ → ℕ) (lo k n : ℕ) → s k ≡ n → Paved s lo k → Paved s lo (k + n)
-paved-more s lo k n e p u a b = go (decLe k u)
+pub paved-none : (map : Words) (lo : ℕ) → Paved map lo lo
+paved-none map lo u a b = absurd (omega arith)
+
+-- a span behind the records so far
+pub paved-more : (map : Words) (lo k n : ℕ) → Knows map k n → Paved map lo k → Paved map lo (k + n)
+paved-more map lo k n (j, e, f) p u a b = go (decLe k u)
   where
-    go : Dec (k ≤ u) → (j : ℕ) × (j ≤ u) × (u < j + s j)
-    go (yes h) = (k, h, omega arith)
+    go : Dec (k ≤ u) → Covers map u
+    go (yes h) = (j, omega arith, omega arith)
     go (no h) = p u a (omega arith)
 
-pub paved-none : (s : ℕ → ℕ) (lo : ℕ) → Paved s lo lo
-paved-none s lo u a b = absurd (omega arith)
-
 -- records that lead to unit k lead to unit hi, where that is k
-pub paved-end : (s : ℕ → ℕ) (lo k hi : ℕ) → k ≡ hi → lo ≤ k → Paved s lo k → (lo ≤ hi) × Paved s lo hi
-paved-end s lo k hi e h p = (omega arith, λ u a b. p u a (omega arith))
+pub paved-end : (map : Words) (lo k hi : ℕ) → k ≡ hi → lo ≤ k → Paved map lo k → (lo ≤ hi) × Paved map lo hi
+paved-end map lo k hi e h p = (omega arith, λ u a b. p u a (omega arith))
 
 -- ---- one node
 
 module _ {m map : Words} {N k limit c z : ℕ} where
   pub placed : (x y : Bool) → earliest k ≤ c → 1 ≤ z → c + z ≤ N → z < limit
-      → (x ≡ true → (k ≤ c) × Paved (spanAt map) k c)
+      → (x ≡ true → (k ≤ c) × Paved map k c)
       → y ≡ every (zeroAt m) (2 * c + 2) (2 * (c + z) - (2 * c + 2))
       → (x && y) ≡ true → Placed m map N k limit c z
   placed x y apart some inside short paved clear e = record {

@@ -15,14 +15,14 @@ use Rattle.ledger.specs.Runs.{covered, freeRuns}
 use Rattle.stored_forms.specs.Tree.{Tree, link, inorder, formOne}
 use Rattle.stored_forms.specs.Blocks.{Holds}
 use Rattle.stored_forms.proofs.TreeLaws.{tree-unique, freeTree-one}
-use Rattle.tiling.specs.Tiles.{Paved, Tiled}
+use Rattle.tiling.specs.Tiles.{Tiled}
 use Rattle.tiling.proofs.TileLaws.{tiled-valid}
-use Rattle.tree_tiles.specs.Maps.{cellRule, spanAt, Mapped, Shown}
+use Rattle.tree_tiles.specs.Maps.{cellRule, Paved, Mapped, Shown}
 use Rattle.tree_tiles.specs.Lay.{Found}
 use Rattle.tree_tiles.proofs.PaveLaws.{gapped-wider}
 
 module _ {root next limit : ℕ} {m t map : Words} {held end sum : ℕ} (mapped : Mapped (length m) next t held map)
-    (x : Found m map (length m / 2) root limit 0 0 end sum) (behind : Paved (spanAt map) end (length m / 2)) where
+    (x : Found m map (length m / 2) root limit 0 0 end sum) (behind : Paved map end (length m / 2)) where
   -- the tree's runs are free tiles, and records lie in the rest
   tiled : Tiled cellRule (recordsOf t) (length m / 2) (inorder (x .tree))
   tiled = record {
@@ -32,8 +32,8 @@ module _ {root next limit : ℕ} {m t map : Words} {held end sum : ℕ} (mapped 
     where
       go : (u : ℕ) → u < length m / 2 → covered (inorder (x .tree)) u ≡ false → Dec (end ≤ u)
           → free cellRule (recordsOf t) u ≡ false
-      go u l e (yes h) = let (k, a, b) = behind u h l in mapped .spans k u a b
-      go u l e (no h) = let (k, a, b) = x .paved u (omega arith) (omega arith) e in mapped .spans k u a b
+      go u l e (yes h) = mapped .spans u (behind u h l)
+      go u l e (no h) = mapped .spans u (x .paved u (omega arith) (omega arith) e)
 
   stored-tiles : sum + held ≡ length m / 2 → Shown root next m t
   unfolding formOne
@@ -49,7 +49,7 @@ module _ {root next limit : ℕ} {m t map : Words} {held end sum : ℕ} (mapped 
 -- what the last two tests say, together
 pub tiles-say : {root next limit : ℕ} {m t map : Words} {held end sum : ℕ} (b : Bool)
     → Mapped (length m) next t held map → Found m map (length m / 2) root limit 0 0 end sum
-    → (b ≡ true → (end ≤ length m / 2) × Paved (spanAt map) end (length m / 2))
+    → (b ≡ true → (end ≤ length m / 2) × Paved map end (length m / 2))
     → (b && eqb (sum + held) (length m / 2)) ≡ true → Shown root next m t
 tiles-say {m = m} {held = held} {sum = sum} b mapped x behind e =
     stored-tiles mapped x (behind (and-l b (eqb (sum + held) (length m / 2)) e) .1)

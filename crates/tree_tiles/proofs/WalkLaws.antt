@@ -13,7 +13,7 @@ use Rattle.stored_forms.specs.Tree.{Tree, leaf, node, inorder, formOne}
 use Rattle.stored_forms.specs.Tree.{lengthAt, leftAt, rightAt}
 use Rattle.tiling.proofs.TileLaws.{covered-append, total-append}
 use Rattle.tree_tiles.specs.declared.Laid.{Laid}
-use Rattle.tree_tiles.specs.Maps.{spanAt}
+use Rattle.tree_tiles.specs.Maps.{Covers}
 use Rattle.tree_tiles.specs.Lay.{earliest, Ready, right, Placed, Found, Walked}
 use Rattle.tree_tiles.proofs.PaveLaws.{gapped-join}
 use Rattle.tree_tiles.proofs.LimitLaws.{node-heaped, node-short}
@@ -64,8 +64,7 @@ module _ {m map : Words} {N : ℕ} where
     b = y .tree
 
     -- a unit in none of the runs lies before the node, or behind it
-    join-paved : (u : ℕ) → k ≤ u → u < last → covered (inorder (node a q b)) u ≡ false
-        → (j : ℕ) × (j ≤ u) × (u < j + spanAt map j)
+    join-paved : (u : ℕ) → k ≤ u → u < last → covered (inorder (node a q b)) u ≡ false → Covers map u
     join-paved u lo hi e =
         let parts = sym (covered-append (inorder a) (q ∷ inorder b) u) ∙ e in
         let left = or-l (covered (inorder a) u) (covered (q ∷ inorder b) u) parts in
@@ -75,7 +74,7 @@ module _ {m map : Words} {N : ℕ} where
         go left own right (decLe next u) (decLe c u) (decLe (c + z) u)
       where
         go : covered (inorder a) u ≡ false → within c (c + z) u ≡ false → covered (inorder b) u ≡ false
-            → Dec (next ≤ u) → Dec (c ≤ u) → Dec (c + z ≤ u) → (j : ℕ) × (j ≤ u) × (u < j + spanAt map j)
+            → Dec (next ≤ u) → Dec (c ≤ u) → Dec (c + z ≤ u) → Covers map u
         go left own right (no s) d f = x .paved u lo (omega arith) left
         go left own right (yes s) (no d) f = p .paved u s (omega arith)
         go left own right (yes s) (yes d) (no f) = absurd (false≢true (sym own ∙ within-in c (c + z) u d (omega arith)))

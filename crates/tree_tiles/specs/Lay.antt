@@ -9,9 +9,9 @@ use Rattle.words.specs.Lists.{Words, all}
 use Rattle.ledger.specs.Runs.{Run, Gapped, covered}
 use Rattle.stored_forms.specs.Tree.{Tree, link, inorder, Heaped, formOne}
 use Rattle.stored_forms.specs.Blocks.{Zeros, Holds}
-use Rattle.tiling.specs.Tiles.{Paved, total}
+use Rattle.tiling.specs.Tiles.{total}
 use Rattle.tree_tiles.specs.declared.Laid.{Laid}
-use Rattle.tree_tiles.specs.Maps.{spanAt}
+use Rattle.tree_tiles.specs.Maps.{Covers, Paved, Roomy}
 
 -- where a free run may begin at the earliest, behind tiles that end at unit k: no two free runs touch
 abbrev pub earliest : ℕ → ℕ
@@ -21,9 +21,9 @@ earliest k = k + min k 1
 abbrev pub under : ℕ → Run → Bool
 under z r = ltb (r .size) z
 
--- N units of two words, each with its place in the map; a link to any of them fits in 16 bits.
+-- N units of two words, and a map with room for them; a link to any of them fits in 16 bits.
 pub record Ready (m map : Words) (N : ℕ) : Type 0 where
-  pub places : N ≤ length map
+  pub places : Roomy map N
   pub cells : 2 * N ≤ length m
   pub small : N < 65536
 
@@ -35,7 +35,7 @@ right next left free = record { ok = true; next = next; left = left; free = free
 -- block's other words are zero.
 pub record Placed (m map : Words) (N k limit c z : ℕ) : Type 0 where
   pub apart : earliest k ≤ c
-  pub paved : Paved (spanAt map) k c
+  pub paved : Paved map k c
   pub some : 1 ≤ z
   pub inside : c + z ≤ N
   pub short : z < limit
@@ -54,8 +54,7 @@ pub record Found (m map : Words) (N l limit k before next free : ℕ) : Type 0 w
   pub inside : next ≤ N
   pub size : before + total (inorder tree) ≡ free
   pub few : free ≤ next
-  pub paved : (u : ℕ) → k ≤ u → u < next → covered (inorder tree) u ≡ false
-      → (a : ℕ) × (a ≤ u) × (u < a + spanAt map a)
+  pub paved : (u : ℕ) → k ≤ u → u < next → covered (inorder tree) u ≡ false → Covers map u
 
 -- The walk's answer: what is left of the allowance, and where it says yes, such a tree.
 pub record Walked (m map : Words) (N l limit k allowed before : ℕ) (r : Laid) : Type 0 where

@@ -1,34 +1,62 @@
--- The map of a table's records: at some units how many from there on are held; and what the whole test says.
+-- The map of a table's records: spans of units that are held, each in its place; and what the whole test says.
 -- 01, "Stored form of the tree pool". Assumes nothing.
-use Prim.Native.Nat.{ℕ, _+_, _≤_, _<_}
+use Prim.Native.Nat.{ℕ, _+_, _*_, _≤_, _<_}
 use mathlib.Core.Path.{_≡_}
-use mathlib.Core.Bool.{true}
+use mathlib.Core.Bool.{Bool, true, false, cond}
+use lib.Dec.{eqb}
 use lib.ListN.{length, getD}
 use Rattle.words.specs.Lists.{Words}
 use Rattle.ledger.specs.declared.Rule.{Rule}
 use Rattle.ledger.specs.Records.{recordsOf, slots}
-use Rattle.ledger.specs.Units.{valid}
+use Rattle.ledger.specs.Units.{valid, free}
 use Rattle.stored_forms.specs.Tree.{link, formOne, formRule, freeTree}
 use Rattle.stored_forms.specs.Blocks.{Holds}
-use Rattle.tiling.specs.Tiles.{Entered, Spans}
+use Rattle.tiling.specs.Tiles.{Entered}
 
 -- a unit of the tree pool is one cell of two words
 abbrev pub cellRule : Rule
 cellRule = record { unit = 2; lead = 0 }
 
--- how many units from unit k on the map says are held
-abbrev pub spanAt : Words → ℕ → ℕ
-spanAt map k = getD map k 0
+-- two bytes as one number, the lower one first
+abbrev pub pairAt : Words → ℕ → ℕ
+pairAt map i = getD map i 0 + 256 * getD map (i + 1) 0
 
--- what the second map says is held and the first does not lies among the n units from unit lo on
+-- a map of 320 bytes has 80 places of four bytes; any other has a place of one byte for each unit
+abbrev pub isEntries : Words → Bool
+isEntries map = eqb (length map) 320
+
+-- the first unit of the span at place p
+abbrev pub firstAt : Words → ℕ → ℕ
+firstAt map p = cond (isEntries map) (pairAt map (4 * p)) p
+
+-- the units of the span at place p, 0 where there is none
+abbrev pub unitsAt : Words → ℕ → ℕ
+unitsAt map p = cond (isEntries map) (pairAt map (4 * p + 2)) (getD map p 0)
+
+-- at some place stands the span of n units from unit k on
+abbrev pub Knows : Words → ℕ → ℕ → Type 0
+Knows map k n = (p : ℕ) × (firstAt map p ≡ k) × (unitsAt map p ≡ n)
+
+-- unit u is in the span at some place
+abbrev pub Covers : Words → ℕ → Type 0
+Covers map u = (p : ℕ) × (firstAt map p ≤ u) × (u < firstAt map p + unitsAt map p)
+
+-- the map covers each unit from lo up to hi
+abbrev pub Paved : Words → ℕ → ℕ → Type 0
+Paved map lo hi = (u : ℕ) → lo ≤ u → u < hi → Covers map u
+
+-- a map with a byte for each unit has one for each of the first N
+abbrev pub Roomy : Words → ℕ → Type 0
+Roomy map N = isEntries map ≡ false → N ≤ length map
+
+-- what the second map covers and the first does not lies among the n units from unit lo on
 abbrev pub Adds : Words → Words → ℕ → ℕ → Type 0
-Adds map map′ lo n =
-    (k u : ℕ) → k ≤ u → u < k + spanAt map′ k → (lo ≤ u → u < lo + n → ⊥) → u < k + spanAt map k
+Adds map map′ lo n = (u : ℕ) → Covers map′ u → (lo ≤ u → u < lo + n → ⊥) → Covers map u
 
--- all slots are entered, with so many units together, and the map knows only of units that are held
+-- all slots are entered, with so many units together, and the map covers only units that are held
 pub record Mapped (W next : ℕ) (t : Words) (held : ℕ) (map : Words) : Type 0 where
   pub entered : Entered cellRule W next t (slots t) held
-  pub spans : Spans cellRule (recordsOf t) (spanAt map)
+  pub spans : (u : ℕ) → Covers map u → free cellRule (recordsOf t) u ≡ false
 
 -- The table holds a valid ledger, and the arena the tree of its free runs, from the root link on.
 abbrev pub Shown : ℕ → ℕ → Words → Words → Type 0

@@ -8,25 +8,85 @@ use ledger::Rule;
 ghost use mathlib.Core.Path.{_≡_};
 ghost use mathlib.Core.Bool.{true, false};
 ghost use mathlib.Core.Logic.{_≢_};
-ghost use Prim.Native.Nat.{_+_, _*_, _<_, _≤_};
+ghost use Prim.Native.Nat.{_+_, _*_, _/_, _<_, _≤_};
 ghost use lib.ListN.{length};
 ghost use Rattle.words.specs.Lists.{all, isZero};
 ghost use Rattle.ledger.specs.Records.{slots};
 ghost use Rattle.ledger.specs.Units.{first};
-ghost use Rattle.tiling.specs.Tiles.{Paved};
-ghost use Rattle.tree_tiles.specs.Maps.{spanAt, Adds, Mapped, Shown};
+ghost use Rattle.tree_tiles.specs.Maps.{pairAt, isEntries, Knows, Paved, Roomy, Adds, Mapped, Shown};
 ghost use Rattle.tree_tiles.specs.Lay.{Ready, right, Placed, Walked};
 
-// ---- the map, which has at some units how many from there on one record holds, 0 elsewhere
+// ---- the map, which knows of spans: units that one record holds, in a row from a unit on
+
+// A map of 320 bytes has an entry of four bytes for each span: its first unit and its units, each as two bytes, the
+// lower one first. An entry with no units is empty. An arena that is large for its records gets such a map, because a
+// map with a byte for each unit is wiped on every call.
+
+// Two bytes as one number.
+fn pair_at(map: &[u8], i: usize) -> usize
+    requires { ⌜ i + 1 < length (now map) ⌝ }
+    ensures { λ r. ⌜ (r < 65536) × (r ≡ pairAt (now (map .entry)) i) ⌝ }
+{
+    map[i] as usize + 256 * map[i + 1] as usize
+}
+
+// The units of an entry for the span from unit k on, 0 if there is none. The search begins where entries for unit k
+// begin, and ends at an empty one.
+fn entry_for(map: &[u8], k: usize) -> usize
+    requires { ⌜ isEntries (now map) ≡ true ⌝ }
+    ensures { λ n. ⌜ (n < 65536) × (0 < n → Knows (now (map .entry)) k n) ⌝ }
+{
+    let mut i = 4 * (k / 128);
+    while i + 3 < map.len() {
+        let n = pair_at(map, i + 2);
+        if n == 0 {
+            return 0;
+        }
+        if pair_at(map, i) == k {
+            return n;
+        }
+        i += 4;
+    }
+    0
+}
+
+// Writes an entry for n units from unit lo on, where the first empty one is. Should all be taken, nothing is written.
+fn note_entry(map: &mut [u8], lo: usize, n: usize)
+    requires { ⌜ (lo < 65536) × (n < 65536) × (isEntries (now map) ≡ true) ⌝ }
+    ensures { λ _. ⌜ Adds (now (map .entry)) (now (map .exit)) lo n ⌝ }
+{
+    let mut i = 4 * (lo / 128);
+    while i + 3 < map.len() {
+        if pair_at(&*map, i + 2) == 0 {
+            map[i] = (lo % 256) as u8;
+            map[i + 1] = (lo / 256) as u8;
+            map[i + 2] = (n % 256) as u8;
+            map[i + 3] = (n / 256) as u8;
+            return;
+        }
+        i += 4;
+    }
+}
+
+// How many units from unit k on the map knows to be held, 0 if of none.
+fn span_at(map: &[u8], k: usize) -> usize
+    requires { ⌜ Roomy (now map) (k + 1) ⌝ }
+    ensures { λ n. ⌜ (n < 65536) × (0 < n → Knows (now (map .entry)) k n) ⌝ }
+{
+    if map.len() == 320 {
+        return entry_for(&*map, k);
+    }
+    map[k] as usize
+}
 
 // Whether records lead from unit lo to unit hi, without a unit left over.
 fn is_paved(map: &[u8], lo: usize, hi: usize) -> bool
-    requires { ⌜ hi ≤ length (now map) ⌝ }
-    ensures { λ b. ⌜ (b ≡ true → (lo ≤ hi) × Paved (spanAt (now (map .entry))) lo hi) ⌝ }
+    requires { ⌜ (hi < 65536) × Roomy (now map) hi ⌝ }
+    ensures { λ b. ⌜ (b ≡ true → (lo ≤ hi) × Paved (now (map .entry)) lo hi) ⌝ }
 {
     let mut k = lo;
     while k < hi {
-        let n = map[k] as usize;
+        let n = span_at(map, k);
         if n == 0 {
             return false;
         }
@@ -38,7 +98,7 @@ fn is_paved(map: &[u8], lo: usize, hi: usize) -> bool
 // Writes that n units from unit lo on are held. A byte counts no more than 255, so that the map is small; a longer
 // record stands in it several times.
 fn note_span(map: &mut [u8], lo: usize, n: usize)
-    requires { ⌜ (0 < n) × (lo + n ≤ length (now map)) ⌝ }
+    requires { ⌜ (0 < n) × (lo + n ≤ length (now map)) × (isEntries (now map) ≡ false) ⌝ }
     ensures { λ _. ⌜ Adds (now (map .entry)) (now (map .exit)) lo n ⌝ }
 {
     let mut at = lo;
@@ -51,15 +111,20 @@ fn note_span(map: &mut [u8], lo: usize, n: usize)
     map[at] = left as u8;
 }
 
-// The same for a record of n units. An empty one has none, though its address is unit 0's.
+// The same in either map, for a record of n units. An empty one has none, though its address is unit 0's.
 fn note_row(map: &mut [u8], rule: Rule, r: Row, n: usize)
-    requires { ⌜ (0 < rule .unit) × (n ≢ 0 → first rule r + n ≤ length (now map)) ⌝ }
+    requires { ⌜ (0 < rule .unit) × (n ≢ 0 → (first rule r + n < 65536) × Roomy (now map) (first rule r + n)) ⌝ }
     ensures { λ _. ⌜ Adds (now (map .entry)) (now (map .exit)) (first rule r) n ⌝ }
 {
     if n == 0 {
         return;
     }
-    note_span(map, record_table::first_unit(rule, r), n);
+    let lo = record_table::first_unit(rule, r);
+    if map.len() == 320 {
+        note_entry(&mut *map, lo, n);
+        return;
+    }
+    note_span(&mut *map, lo, n);
 }
 
 // Enters all slots, and the records in a map that is all zero. Their units together, or more than the arena's words if
@@ -72,7 +137,7 @@ fn map_rows(
     seen: &mut [u8],
     m: usize,
 ) -> usize
-    requires { ⌜ (slots (now table) ≤ 256) × (words ≤ 16384) × (words ≤ 2 * length (now map)) ⌝ }
+    requires { ⌜ (slots (now table) ≤ 256) × (words ≤ 16384) × Roomy (now map) (words / 2) ⌝ }
     requires { ⌜ (all isZero (now map) ≡ true) × (0 < m) × (length (now seen) ≡ m) ⌝ }
     ensures { λ r. ⌜ (r ≤ words → Mapped words next (now (table .entry)) r (now (map .exit))) ⌝ }
 {
@@ -80,11 +145,12 @@ fn map_rows(
     let mut held: usize = 0;
     let mut i = 0;
     while i < table.len() / 3 {
-        let n = tiling::enter_row(rule, words, next, table, i, &mut *seen, m);
+        let r = record_table::read_row(table, i);
+        let n = tiling::enter_row(rule, words, next, table, i, r, &mut *seen, m);
         if words < n {
             return words + 1;
         }
-        note_row(&mut *map, rule, record_table::read_row(table, i), n);
+        note_row(&mut *map, rule, r, n);
         held += n;
         i += 1;
     }
@@ -193,7 +259,7 @@ fn walk(
         let lower = left_of(arena, c);
         let mut part = walked_to(next, left - 1, sum);
         if lower != 0 {
-            part = walk(arena, map, units, lower, z, next, left - 1, sum);
+            part = walk(&*arena, &*map, units, lower, z, next, left - 1, sum);
         }
         left = part.left;
         let from = part.next;
@@ -226,18 +292,27 @@ fn is_tiled_over(
     m: usize,
 ) -> bool
     requires { ⌜ (length (now arena) ≤ 16384) × (slots (now table) ≤ 256) ⌝ }
-    requires { ⌜ (length (now arena) ≤ 2 * length (now map)) × (all isZero (now map) ≡ true) ⌝ }
+    requires { ⌜ Roomy (now map) (length (now arena) / 2) × (all isZero (now map) ≡ true) ⌝ }
     requires { ⌜ (0 < m) × (length (now seen) ≡ m) ⌝ }
     ensures { λ r. ⌜ (r ≡ true → Shown root next (now (arena .entry)) (now (table .entry))) ⌝ }
 {
     let words = arena.len();
-    let held = map_rows(next, table, words, &mut *map, &mut *seen, m);
+    let held = map_rows(next, &*table, words, &mut *map, &mut *seen, m);
     if words < held {
         return false;
     }
     let units = words / 2;
     let allowed = table.len() / 3 + 1;
-    let walked = walk(arena, map, units, root as usize, units + 1, 0, allowed, 0);
+    let walked = walk(
+        &*arena,
+        &*map,
+        units,
+        root as usize,
+        units + 1,
+        0,
+        allowed,
+        0,
+    );
     let end = walked.next;
     let sum = walked.free;
     if !walked.ok {
@@ -250,31 +325,31 @@ fn is_tiled_over(
 // The residues and the map are wiped whole, so that a small pool gets small ones.
 fn is_tiled_few(root: u32, next: u32, arena: &[u32], table: &[u32], map: &mut [u8]) -> bool
     requires { ⌜ (length (now arena) ≤ 16384) × (slots (now table) ≤ 256) ⌝ }
-    requires { ⌜ (length (now arena) ≤ 2 * length (now map)) × (all isZero (now map) ≡ true) ⌝ }
+    requires { ⌜ Roomy (now map) (length (now arena) / 2) × (all isZero (now map) ≡ true) ⌝ }
     ensures { λ r. ⌜ (r ≡ true → Shown root next (now (arena .entry)) (now (table .entry))) ⌝ }
 {
     let mut seen: [u8; 128] = [0; 128];
-    is_tiled_over(root, next, arena, table, &mut *map, &mut seen, 128)
+    is_tiled_over(root, next, &*arena, &*table, &mut *map, &mut seen, 128)
 }
 
 fn is_tiled_many(root: u32, next: u32, arena: &[u32], table: &[u32], map: &mut [u8]) -> bool
     requires { ⌜ (length (now arena) ≤ 16384) × (slots (now table) ≤ 256) ⌝ }
-    requires { ⌜ (length (now arena) ≤ 2 * length (now map)) × (all isZero (now map) ≡ true) ⌝ }
+    requires { ⌜ Roomy (now map) (length (now arena) / 2) × (all isZero (now map) ≡ true) ⌝ }
     ensures { λ r. ⌜ (r ≡ true → Shown root next (now (arena .entry)) (now (table .entry))) ⌝ }
 {
     let mut seen: [u8; 2048] = [0; 2048];
-    is_tiled_over(root, next, arena, table, &mut *map, &mut seen, 2048)
+    is_tiled_over(root, next, &*arena, &*table, &mut *map, &mut seen, 2048)
 }
 
 fn is_tiled_by(root: u32, next: u32, arena: &[u32], table: &[u32], map: &mut [u8]) -> bool
     requires { ⌜ (length (now arena) ≤ 16384) × (slots (now table) ≤ 256) ⌝ }
-    requires { ⌜ (length (now arena) ≤ 2 * length (now map)) × (all isZero (now map) ≡ true) ⌝ }
+    requires { ⌜ Roomy (now map) (length (now arena) / 2) × (all isZero (now map) ≡ true) ⌝ }
     ensures { λ r. ⌜ (r ≡ true → Shown root next (now (arena .entry)) (now (table .entry))) ⌝ }
 {
     if table.len() / 3 <= 16 {
-        return is_tiled_few(root, next, arena, table, map);
+        return is_tiled_few(root, next, &*arena, &*table, &mut *map);
     }
-    is_tiled_many(root, next, arena, table, map)
+    is_tiled_many(root, next, &*arena, &*table, &mut *map)
 }
 
 fn is_tiled_64(root: u32, next: u32, arena: &[u32], table: &[u32]) -> bool
@@ -282,7 +357,7 @@ fn is_tiled_64(root: u32, next: u32, arena: &[u32], table: &[u32]) -> bool
     ensures { λ r. ⌜ (r ≡ true → Shown root next (now (arena .entry)) (now (table .entry))) ⌝ }
 {
     let mut map: [u8; 64] = [0; 64];
-    is_tiled_by(root, next, arena, table, &mut map)
+    is_tiled_by(root, next, &*arena, &*table, &mut map)
 }
 
 fn is_tiled_512(root: u32, next: u32, arena: &[u32], table: &[u32]) -> bool
@@ -290,7 +365,7 @@ fn is_tiled_512(root: u32, next: u32, arena: &[u32], table: &[u32]) -> bool
     ensures { λ r. ⌜ (r ≡ true → Shown root next (now (arena .entry)) (now (table .entry))) ⌝ }
 {
     let mut map: [u8; 512] = [0; 512];
-    is_tiled_by(root, next, arena, table, &mut map)
+    is_tiled_by(root, next, &*arena, &*table, &mut map)
 }
 
 fn is_tiled_2048(root: u32, next: u32, arena: &[u32], table: &[u32]) -> bool
@@ -298,7 +373,7 @@ fn is_tiled_2048(root: u32, next: u32, arena: &[u32], table: &[u32]) -> bool
     ensures { λ r. ⌜ (r ≡ true → Shown root next (now (arena .entry)) (now (table .entry))) ⌝ }
 {
     let mut map: [u8; 2048] = [0; 2048];
-    is_tiled_by(root, next, arena, table, &mut map)
+    is_tiled_by(root, next, &*arena, &*table, &mut map)
 }
 
 fn is_tiled_8192(root: u32, next: u32, arena: &[u32], table: &[u32]) -> bool
@@ -306,7 +381,17 @@ fn is_tiled_8192(root: u32, next: u32, arena: &[u32], table: &[u32]) -> bool
     ensures { λ r. ⌜ (r ≡ true → Shown root next (now (arena .entry)) (now (table .entry))) ⌝ }
 {
     let mut map: [u8; 8192] = [0; 8192];
-    is_tiled_by(root, next, arena, table, &mut map)
+    is_tiled_many(root, next, &*arena, &*table, &mut map)
+}
+
+// Entries lie from place first / 128 on: 64 places for 8192 units, and room behind them for 16 records that crowd the
+// last.
+fn is_tiled_entries(root: u32, next: u32, arena: &[u32], table: &[u32]) -> bool
+    requires { ⌜ (length (now arena) ≤ 16384) × (slots (now table) ≤ 256) ⌝ }
+    ensures { λ r. ⌜ (r ≡ true → Shown root next (now (arena .entry)) (now (table .entry))) ⌝ }
+{
+    let mut map: [u8; 320] = [0; 320];
+    is_tiled_few(root, next, &*arena, &*table, &mut map)
 }
 
 // Whether records and free blocks are tiles. If they are, the table holds a valid ledger and the arena the tree of its
@@ -317,13 +402,16 @@ pub fn is_tiled(root: u32, next: u32, arena: &[u32], table: &[u32]) -> bool
 {
     let words = arena.len();
     if words <= 128 {
-        return is_tiled_64(root, next, arena, table);
+        return is_tiled_64(root, next, &*arena, &*table);
     }
     if words <= 1024 {
-        return is_tiled_512(root, next, arena, table);
+        return is_tiled_512(root, next, &*arena, &*table);
     }
     if words <= 4096 {
-        return is_tiled_2048(root, next, arena, table);
+        return is_tiled_2048(root, next, &*arena, &*table);
     }
-    is_tiled_8192(root, next, arena, table)
+    if table.len() / 3 <= 16 {
+        return is_tiled_entries(root, next, &*arena, &*table);
+    }
+    is_tiled_8192(root, next, &*arena, &*table)
 }

@@ -8,7 +8,7 @@ use mathlib.Core.List.{List, [], _∷_, _++_, map}
 use mathlib.Core.Option.{none, some}
 use lib.Dec.{eqb}
 use lib.ListN.{length, getD}
-use Rattle.words.specs.Lists.{Words, all, any, pairwise, firstThat, listFrom, sameWords}
+use Rattle.words.specs.Lists.{Words, isZero, all, any, pairwise, firstThat, listFrom, sameWords}
 use Rattle.words.specs.Counted.{every}
 use Rattle.words.proofs.Tests.{and-l, and-r, and-i, or-l, or-r, and-map, or-map, eqb-eq, eqb-same, absurd-some}
 
@@ -23,6 +23,12 @@ sameWords-eq (a ∷ x) (b ∷ y) e =
 pub sameWords-same : (x : Words) → sameWords x x ≡ true
 sameWords-same [] = refl
 sameWords-same (a ∷ x) = and-i (eqb a a) (sameWords x x) (eqb-same a) (sameWords-same x)
+
+-- a list that is all zero reads 0 at every place
+pub zeros-at : (m : Words) → all isZero m ≡ true → (u : ℕ) → getD m u 0 ≡ 0
+zeros-at [] e u = refl
+zeros-at (x ∷ m) e zero = eqb-eq x 0 (and-l (isZero x) (all isZero m) e)
+zeros-at (x ∷ m) e (suc u) = zeros-at m (and-r (isZero x) (all isZero m) e) u
 
 every-shift : (p : ℕ → Bool) (i n : ℕ) → every p (suc i) n ≡ every (λ k. p (suc k)) i n
 every-shift p i zero = refl

@@ -14,14 +14,14 @@ use Rattle.free_tree.proofs.insert.Tie as tie
 place-for-requires : tie.Need-place-for-requires
 place-for-requires c κs = search needs
 
-split-requires : tie.Need-split-requires
-split-requires c κs =
+parts-requires : tie.Need-parts-requires
+parts-requires c κs =
     let d = c .before in
     place-at readable-one (d .place-for .ensures) (room-tree readable-one (d .before .before .before .pre))
 
 put-node-requires : tie.Need-put-node-requires
 put-node-requires c κs =
-    let made = c .before .before .before .split in
+    let made = c .before .before .before .parts in
     let d = c .before .before .before .before .before in
     let p = d .before .before .before .pre in
     let (tree, q) = place-at readable-one (d .place-for .ensures) (room-tree readable-one p) in
@@ -39,7 +39,7 @@ hang-requires c κs =
     let d = j .before .before .before .before .before .before in
     let s = d .before .before .before in
     place-ready readable-one (inserts readable-one (run (s .args .x) (s .args .n))) (d .place-for .ensures)
-    (insert-here readable-one (j .before .before .before .before .split .ensures) (j .put-node .ensures)) (s .pre)
+    (insert-here readable-one (j .before .before .before .before .parts .ensures) (j .put-node .ensures)) (s .pre)
 
 same-length : tie.Need-same-length
 same-length c = search needs
@@ -50,7 +50,7 @@ returns c =
     let d = j .before .before .before .before .before .before in
     let s = d .before .before .before .args in
     place-hung readable-one (inserts readable-one (run (s .x) (s .n))) (d .place-for .ensures)
-    (insert-here readable-one (j .before .before .before .before .split .ensures) (j .put-node .ensures))
+    (insert-here readable-one (j .before .before .before .before .parts .ensures) (j .put-node .ensures))
     (c .before .before .hang .ensures)
 
 pub insert-spec : {M : Type 1} → statement M
@@ -58,7 +58,7 @@ insert-spec =
     tie.close
     (tie.spec
     place-for-requires
-    split-requires
+    parts-requires
     put-node-requires
     add-hang
     hang-requires

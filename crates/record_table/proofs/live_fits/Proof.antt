@@ -1,10 +1,16 @@
 -- `record_table::live_fits` meets its contract. Assumes nothing.
 use native.Mathlib.Omega.{arith}
+use mathlib.Core.Path.{sym}
 use borrow.Author.Needs.{needs}
 use Rattle.ledger.specs.Units.{fits}
-use Rattle.record_table.proofs.CheckLaws.{past-low}
+use Rattle.record_table.proofs.CheckLaws.{past-low, low-unfit}
 use Rattle.record_table.proofs.live_fits.Statement.{statement}
 use Rattle.record_table.proofs.live_fits.Tie as tie
+
+returns : tie.Need-returns
+returns c =
+    let a = c .before .before .before .args in
+    sym (low-unfit (a .rule) (a .words) (a .next) (a .r) (c .if1 .taken))
 
 begin-of-requires : tie.Need-begin-of-requires
 begin-of-requires c κs = search needs
@@ -17,16 +23,16 @@ past-unit-requires c κs = search needs
 
 mul-end : tie.Need-mul-end
 mul-end c =
-    let a = c .before .before .before .args in
+    let a = c .before .before .before .before .before .before .args in
     let e = c .past-unit .ensures in
     rw e (omega (arith, past-low (a .rule) (a .r)))
 
 rest-requires : tie.Need-rest-requires
 rest-requires c κs = search needs
 
-returns : tie.Need-returns
+returns-2 : tie.Need-returns-2
 unfolding fits
-returns c =
+returns-2 c =
     let d = c .before .before .before .before .before .before in
     rw (c .rest .ensures, d .past-unit .ensures, d .before .before .begin-of .ensures)
 
@@ -34,9 +40,10 @@ pub live-fits-spec : {M : Type 1} → statement M
 live-fits-spec =
     tie.close
     (tie.spec
+    returns
     begin-of-requires
     cast-end
     past-unit-requires
     mul-end
     rest-requires
-    returns)
+    returns-2)

@@ -1,4 +1,4 @@
--- `segment_pool::allocate` meets its contract: the gate, then one act. Assumes nothing.
+-- `segment_pool::allocate` meets its contract: the gate, then one act, and the outcome of its effect. Assumes nothing.
 use mathlib.Core.Path.{refl}
 use mathlib.Core.List.{[]}
 use borrow.Author.Needs.{needs}
@@ -6,9 +6,9 @@ use denote.Ref.{now}
 use Rattle.calls.specs.Pool.{Pool}
 use Rattle.calls.specs.Engines.{segmentEngine}
 use Rattle.segment_pool.specs.Promises.{segmentPool, handed}
-use Rattle.calls.specs.Step.{allocate}
+use Rattle.calls.specs.Step.{allocate, ask}
 use Rattle.call_parts.proofs.GateLaws.{gate-sound}
-use Rattle.segment_pool.proofs.ActedLaws.{gate-left, one-left}
+use Rattle.segment_pool.proofs.ActedLaws.{same-left, gate-left, one-left}
 use Rattle.segment_pool.proofs.allocate.Statement.{statement}
 use Rattle.segment_pool.proofs.allocate.Tie as tie
 
@@ -46,6 +46,9 @@ grant-requires c κs =
     gate-sound segmentEngine (pool s) (g .gate-number .result) (g .gate-number .ensures)
     (c .before .before .before .if1 .left)
 
+outcome-of-grant-requires : tie.Need-outcome-of-grant-requires
+outcome-of-grant-requires c κs = search needs
+
 same-length-4 : tie.Need-same-length-4
 same-length-4 c = search needs
 
@@ -57,15 +60,16 @@ same-length-6 c = search needs
 
 returns-2 : tie.Need-returns-2
 returns-2 c =
-    let q = c .before .before .before .before .before in
+    let q = c .before .before .before .before .before .before in
     let g = q .before .before .before .before .before in
     let s = g .before .before .before .before .before .before in
+    let b = q .grant .last .1 .1 .0 in
+    let u = q .grant .last .1 .1 .1 .0 in
+    let x = q .grant .last .1 .1 .1 .1 .0 in
     let ok = gate-sound segmentEngine (pool s) (g .gate-number .result) (g .gate-number .ensures)
     (q .before .before .before .before .if1 .left) in
-    one-left (pool s) ok
-    (handed (q .grant .result) (q .grant .last .1 .1 .0) (q .grant .last .1 .1 .1 .0)
-    (q .grant .last .1 .1 .1 .1 .0) [])
-    .0 (s .args .words) (q .grant .ensures)
+    one-left (pool s) ok (handed (c .outcome-of-grant .result) b u x []) .0 (s .args .words)
+    (same-left (ask (s .args .words)) (pool s) b u x (c .outcome-of-grant .ensures) (q .grant .ensures))
 
 pub allocate-spec : {M : Type 1} → statement M
 allocate-spec =
@@ -78,6 +82,7 @@ allocate-spec =
     same-length-3
     returns
     grant-requires
+    outcome-of-grant-requires
     same-length-4
     same-length-5
     same-length-6

@@ -1,14 +1,14 @@
 -- `segment_pool::give_back` meets its contract: the words that go back make the act a release. Assumes nothing.
 use Prim.Native.Nat.{ℕ}
 use native.Mathlib.Omega.{arith}
-use mathlib.Core.Path.{_∙_, sym, subst₃}
+use mathlib.Core.Path.{sym, subst₃}
 use mathlib.Core.List.{[], _∷_}
 use borrow.Author.Needs.{needs}
 use denote.Ref.{now}
 use Rattle.ledger.specs.Records.{Ledger, recordsOf, vacate, member, settle}
 use Rattle.segment_places.specs.Stores.{Releasing}
 use Rattle.calls.specs.Pool.{Pool}
-use Rattle.segment_pool.specs.Promises.{segmentPool}
+use Rattle.segment_pool.specs.Promises.{segmentPool, vacated}
 use Rattle.calls.specs.Step.{give}
 use Rattle.segment_pool.proofs.GateLaws.{InRange, power-pos}
 use Rattle.segment_pool.proofs.ActedLaws.{acted-left}
@@ -83,9 +83,6 @@ write-row-requires c κs =
       range s .threes,
     )
 
-succeeded-requires : tie.Need-succeeded-requires
-succeeded-requires c κs = search needs
-
 same-length : tie.Need-same-length
 same-length c = search needs
 
@@ -97,7 +94,7 @@ same-length-3 c = search needs
 
 returns : tie.Need-returns
 returns c =
-    let w = c .before .before .before in
+    let w = c .before .before in
     let l = w .before .before .before .before .before in
     let g = l .before .before .before in
     let s = g .before .before .before .before .before .before .before .before in
@@ -106,10 +103,9 @@ returns c =
     (l .release .last .0) (w .write-row .last .0) (l .release .last .1 .0)
     (l .release .ensures (old s) (rest s) (released-at g)) (w .write-row .ensures) in
     acted-left (give (s .args .named)) (pool s) (s .args .s)
-    (record { head = s .args .head; answer = c .succeeded .result })
+    (vacated (s .args .head) (s .args .named) 0)
     (l .release .last .0) (w .write-row .last .0) (l .release .last .1 .0)
-    (c .succeeded .ensures
-    ∙ release-answer (s .args .head) (s .args .s) (now (s .args .arena)) (now (s .args .table))
+    (release-answer (s .args .head) (s .args .s) (now (s .args .arena)) (now (s .args .table))
     (now (s .args .index)) (s .args .named) (s .args .slot) (s .pre .0) (s .pre .1))
     after
 
@@ -124,7 +120,6 @@ give-back-spec =
     segment-size-requires
     release-requires
     write-row-requires
-    succeeded-requires
     same-length
     same-length-2
     same-length-3

@@ -1,7 +1,7 @@
 -- `segment_pool::grant` meets its contract: the rows 2, 3, 4, 5 in turn, then the grant. Assumes nothing.
 use Prim.Native.Nat.{ℕ, _+_, _≤_}
 use native.Mathlib.Omega.{arith}
-use mathlib.Core.Path.{_≡_, _∙_, sym, ap}
+use mathlib.Core.Path.{_≡_, refl, _∙_, sym, ap}
 use mathlib.Core.Bool.{Bool}
 use borrow.Author.Needs.{needs}
 use borrow.Author.Tests.{eq-eqb, ne-eqb}
@@ -17,11 +17,10 @@ use Rattle.segment_cores.specs.Cores.{Searching, unitOr}
 use Rattle.calls.specs.Pool.{Pool}
 use Rattle.calls.specs.Engines.{segmentEngine}
 use Rattle.segment_pool.specs.Promises.{segmentPool}
-use Rattle.calls.specs.Step.{ask}
 use Rattle.record_table.proofs.SlotLaws.{empty-found, empty-missing}
 use Rattle.call_parts.proofs.AskLaws.{ask-two, ask-three, ask-four, ask-five}
 use Rattle.segment_pool.proofs.StoredLaws.{sound-range, sound-form}
-use Rattle.segment_pool.proofs.ActedLaws.{refused-left}
+use Rattle.segment_pool.proofs.ActedLaws.{granted-refused}
 use Rattle.segment_pool.proofs.GrantLaws.{fit-is, none-fits, one-fits, some-words}
 use Rattle.segment_pool.proofs.grant.Statement.{statement}
 use Rattle.segment_pool.proofs.grant.Tie as tie
@@ -69,15 +68,15 @@ found c =
 some-span : (n : ℕ) → 1 ≤ span segmentRule n
 some-span n = omega (arith, span-words n)
 
-refused-with-requires : tie.Need-refused-with-requires
-refused-with-requires c κs = search needs
+no-effect-requires : tie.Need-no-effect-requires
+no-effect-requires c κs = search needs
 
 returns : tie.Need-returns
 unfolding segmentEngine
 returns c =
     let s = c .before .before .before .before in
-    refused-left (s .args .head) (s .args .s) (now (s .args .arena)) (now (s .args .table)) (now (s .args .index))
-    (ask (s .args .words)) (c .refused-with .result) 2 (c .refused-with .ensures)
+    granted-refused (s .args .head) (s .args .s) (now (s .args .arena)) (now (s .args .table)) (now (s .args .index))
+    (c .no-effect .result) 2 (c .no-effect .ensures) refl (s .args .words)
     (ask-two segmentEngine (pool s) (s .args .words) (c .before .if1 .taken))
 
 empty-slot-requires : tie.Need-empty-slot-requires
@@ -89,8 +88,8 @@ enum-known-slot c = search needs
 enum-told : tie.Need-enum-told
 enum-told c = search needs
 
-refused-with-requires-2 : tie.Need-refused-with-requires-2
-refused-with-requires-2 c κs = search needs
+no-effect-requires-2 : tie.Need-no-effect-requires-2
+no-effect-requires-2 c κs = search needs
 
 same-length : tie.Need-same-length
 same-length c = search needs
@@ -101,13 +100,13 @@ returns-2 c =
     let m = c .before .before .before in
     let i = m .before .before in
     let s = i .before .before .before in
-    refused-left (s .args .head) (s .args .s) (now (s .args .arena)) (now (s .args .table)) (now (s .args .index))
-    (ask (s .args .words)) (c .refused-with2 .result) 3 (c .refused-with2 .ensures)
+    granted-refused (s .args .head) (s .args .s) (now (s .args .arena)) (now (s .args .table)) (now (s .args .index))
+    (c .no-effect2 .result) 3 (c .no-effect2 .ensures) refl (s .args .words)
     (ask-three segmentEngine (pool s) (s .args .words) (i .if1 .left)
     (empty-missing (now (s .args .table)) (sym (m .empty-slot .ensures) ∙ c .before .enum-told .given .1)))
 
-refused-with-requires-3 : tie.Need-refused-with-requires-3
-refused-with-requires-3 c κs = search needs
+no-effect-requires-3 : tie.Need-no-effect-requires-3
+no-effect-requires-3 c κs = search needs
 
 same-length-2 : tie.Need-same-length-2
 same-length-2 c = search needs
@@ -120,8 +119,8 @@ returns-3 c =
     let i = m .before .before in
     let s = i .before .before .before in
     let slot = sym (m .empty-slot .ensures) ∙ k .slot .given .1 in
-    refused-left (s .args .head) (s .args .s) (now (s .args .arena)) (now (s .args .table)) (now (s .args .index))
-    (ask (s .args .words)) (c .refused-with3 .result) 4 (c .refused-with3 .ensures)
+    granted-refused (s .args .head) (s .args .s) (now (s .args .arena)) (now (s .args .table)) (now (s .args .index))
+    (c .no-effect3 .result) 4 (c .no-effect3 .ensures) refl (s .args .words)
     (ask-four segmentEngine (pool s) (s .args .words) (i .if1 .left)
     (empty-found (now (s .args .table)) (k .slot .given .0 .0) slot .1) (eq-eqb _ _ (c .before .if2 .taken)))
 
@@ -148,8 +147,8 @@ search-requires c κs =
     let s = d .before .before .before .before .before .before .before .before .before .before .before .before in
     (old s, searched d)
 
-refused-with-requires-4 : tie.Need-refused-with-requires-4
-refused-with-requires-4 c κs = search needs
+no-effect-requires-4 : tie.Need-no-effect-requires-4
+no-effect-requires-4 c κs = search needs
 
 same-length-3 : tie.Need-same-length-3
 same-length-3 c = search needs
@@ -173,8 +172,8 @@ returns-4 c =
     let W = length (now (s .args .arena)) in
     let none = none-fits (clear s) W (span segmentRule (s .args .words)) (l .search .result)
     (some-span (s .args .words)) (found l) (c .before .if3 .taken) in
-    refused-left (s .args .head) (s .args .s) (now (s .args .arena)) (now (s .args .table)) (now (s .args .index))
-    (ask (s .args .words)) (c .refused-with4 .result) 5 (c .refused-with4 .ensures)
+    granted-refused (s .args .head) (s .args .s) (now (s .args .arena)) (now (s .args .table)) (now (s .args .index))
+    (c .no-effect4 .result) 5 (c .no-effect4 .ensures) refl (s .args .words)
     (ask-five segmentEngine (pool s) (s .args .words) (i .if1 .left)
     (empty-found (now (s .args .table)) (k .slot .given .0 .0) slot .1) (ne-eqb _ _ (t .if2 .left))
     (fit-is (s .args .s) (s .args .head .next) (s .args .words) (now (s .args .arena)) (now (s .args .table))
@@ -214,22 +213,22 @@ pub grant-spec : {M : Type 1} → statement M
 grant-spec =
     tie.close
     (tie.spec
-    refused-with-requires
+    no-effect-requires
     returns
     empty-slot-requires
     enum-known-slot
     enum-told
-    refused-with-requires-2
+    no-effect-requires-2
     same-length
     returns-2
-    refused-with-requires-3
+    no-effect-requires-3
     same-length-2
     returns-3
     ranged-requires
     depth-of-requires
     add-search
     search-requires
-    refused-with-requires-4
+    no-effect-requires-4
     same-length-3
     same-length-4
     same-length-5

@@ -1,7 +1,7 @@
 -- `segment_pool::place` meets its contract: what was found makes the act a grant. Assumes nothing.
 use Prim.Native.Nat.{ℕ, _+_, _<_}
 use native.Mathlib.Omega.{arith}
-use mathlib.Core.Path.{_∙_, sym, ap, subst, subst₂}
+use mathlib.Core.Path.{sym, subst, subst₂}
 use borrow.Author.Needs.{needs}
 use denote.Ref.{now}
 use lib.IntN.{pos}
@@ -12,7 +12,7 @@ use Rattle.ledger.specs.Units.{span, addressAt}
 use Rattle.stored_forms.specs.Segments.{segmentRule}
 use Rattle.segment_places.specs.Stores.{Granting, Becomes}
 use Rattle.calls.specs.Pool.{Pool}
-use Rattle.segment_pool.specs.Promises.{segmentPool}
+use Rattle.segment_pool.specs.Promises.{segmentPool, granted}
 use Rattle.calls.specs.Step.{ask}
 use Rattle.segment_pool.proofs.GateLaws.{InRange, power-pos}
 use Rattle.segment_pool.proofs.ActedLaws.{acted-left}
@@ -82,13 +82,13 @@ allot-requires c κs =
     let s = g .before .before .before .before in
     (old s, entered s, granted-at g)
 
-add-t14 : tie.Need-add-t14
-add-t14 c =
+add-address : tie.Need-add-address
+add-address c =
     let s = c .before .before .before .before .before .before .before .before .before .before in
     omega (arith, inside s, range s .most)
 
-cast-t20 : tie.Need-cast-t20
-cast-t20 c =
+cast-address : tie.Need-cast-address
+cast-address c =
     let s = c .before .before .before .before .before .before .before .before .before .before in
     omega (arith, inside s, range s .most)
 
@@ -99,12 +99,6 @@ write-row-requires c κs =
           (now (s .args .index)) (s .args .words) (s .args .slot) (s .args .at) (s .pre),
       range s .threes,
     )
-
-next-after-requires : tie.Need-next-after-requires
-next-after-requires c κs = search needs
-
-succeeded-requires : tie.Need-succeeded-requires
-succeeded-requires c κs = search needs
 
 same-length : tie.Need-same-length
 same-length c = search needs
@@ -117,20 +111,18 @@ same-length-3 c = search needs
 
 returns : tie.Need-returns
 returns c =
-    let w = c .before .before .before .before in
+    let w = c .before .before in
     let l = w .before .before .before .before .before in
     let s = l .before .before .before .before .before .before .before in
     let after = place-pool (s .args .head) (s .args .s) (now (s .args .arena)) (now (s .args .table))
     (now (s .args .index)) (s .args .words) (s .args .slot) (s .args .at) (s .pre)
     (l .allot .last .0) (w .write-row .last .0) (l .allot .last .1 .0) (becomes l) (w .write-row .ensures) in
     acted-left (ask (s .args .words)) (pool s) (s .args .s)
-    (record { head = record { next = c .before .next-after .result }; answer = c .succeeded .result })
+    (granted (s .args .head) (s .args .words) (record { number = 0; address = s .args .at + 1 }))
     (l .allot .last .0) (w .write-row .last .0) (l .allot .last .1 .0)
-    (c .succeeded .ensures
-    ∙ place-answer (s .args .head) (s .args .s) (now (s .args .arena)) (now (s .args .table))
+    (place-answer (s .args .head) (s .args .s) (now (s .args .arena)) (now (s .args .table))
     (now (s .args .index)) (s .args .words) (s .args .slot) (s .args .at) (s .pre))
-    (ap (λ (n : ℕ). segmentPool (s .args .s) n (l .allot .last .0) (w .write-row .last .0) (l .allot .last .1 .0))
-    (c .before .next-after .ensures) ∙ after)
+    after
 
 pub place-spec : {M : Type 1} → statement M
 place-spec =
@@ -139,11 +131,9 @@ place-spec =
     span-of-requires
     segment-size-requires
     allot-requires
-    add-t14
-    cast-t20
+    add-address
+    cast-address
     write-row-requires
-    next-after-requires
-    succeeded-requires
     same-length
     same-length-2
     same-length-3

@@ -1,4 +1,4 @@
--- `segment_pool::release` meets its contract: the gate, then one act. Assumes nothing.
+-- `segment_pool::release` meets its contract: the gate, then one act, and the outcome of its effect. Assumes nothing.
 use mathlib.Core.Path.{refl}
 use mathlib.Core.List.{[]}
 use borrow.Author.Needs.{needs}
@@ -7,9 +7,9 @@ use Rattle.ledger.specs.Records.{vacate}
 use Rattle.calls.specs.Pool.{Pool}
 use Rattle.calls.specs.Engines.{segmentEngine}
 use Rattle.segment_pool.specs.Promises.{segmentPool, handed}
-use Rattle.calls.specs.Step.{release}
+use Rattle.calls.specs.Step.{release, give}
 use Rattle.call_parts.proofs.GateLaws.{gate-sound}
-use Rattle.segment_pool.proofs.ActedLaws.{gate-left, one-left}
+use Rattle.segment_pool.proofs.ActedLaws.{same-left, gate-left, one-left}
 use Rattle.segment_pool.proofs.release.Statement.{statement}
 use Rattle.segment_pool.proofs.release.Tie as tie
 
@@ -47,6 +47,9 @@ vacate-requires c κs =
     gate-sound segmentEngine (pool s) (g .gate-number .result) (g .gate-number .ensures)
     (c .before .before .before .if1 .left)
 
+outcome-of-release-requires : tie.Need-outcome-of-release-requires
+outcome-of-release-requires c κs = search needs
+
 same-length-4 : tie.Need-same-length-4
 same-length-4 c = search needs
 
@@ -58,15 +61,16 @@ same-length-6 c = search needs
 
 returns-2 : tie.Need-returns-2
 returns-2 c =
-    let q = c .before .before .before .before .before in
+    let q = c .before .before .before .before .before .before in
     let g = q .before .before .before .before .before in
     let s = g .before .before .before .before .before .before in
+    let b = q .vacate .last .1 .1 .0 in
+    let u = q .vacate .last .1 .1 .1 .0 in
+    let x = q .vacate .last .1 .1 .1 .1 .0 in
     let ok = gate-sound segmentEngine (pool s) (g .gate-number .result) (g .gate-number .ensures)
     (q .before .before .before .before .if1 .left) in
-    one-left (pool s) ok
-    (handed (q .vacate .result) (q .vacate .last .1 .1 .0) (q .vacate .last .1 .1 .1 .0)
-    (q .vacate .last .1 .1 .1 .1 .0) [])
-    .1 (s .args .named) (q .vacate .ensures)
+    one-left (pool s) ok (handed (c .outcome-of-release .result) b u x []) .1 (s .args .named)
+    (same-left (give (s .args .named)) (pool s) b u x (c .outcome-of-release .ensures) (q .vacate .ensures))
 
 pub release-spec : {M : Type 1} → statement M
 release-spec =
@@ -79,6 +83,7 @@ release-spec =
     same-length-3
     returns
     vacate-requires
+    outcome-of-release-requires
     same-length-4
     same-length-5
     same-length-6

@@ -2,12 +2,12 @@
 use mathlib.Core.Path.{_∙_, sym}
 use borrow.Author.Needs.{needs}
 use denote.Ref.{now}
+use Rattle.words.proofs.Tests.{eqb-ne}
 use Rattle.calls.specs.Pool.{Pool}
 use Rattle.calls.specs.Engines.{segmentEngine}
 use Rattle.segment_pool.specs.Promises.{segmentPool}
-use Rattle.calls.specs.Step.{give}
-use Rattle.call_parts.proofs.GateLaws.{give-refused}
-use Rattle.segment_pool.proofs.ActedLaws.{refused-left}
+use Rattle.call_parts.proofs.GateLaws.{named-refused, give-refused}
+use Rattle.segment_pool.proofs.ActedLaws.{vacated-refused}
 use Rattle.segment_pool.proofs.vacate.Statement.{statement}
 use Rattle.segment_pool.proofs.vacate.Tie as tie
 
@@ -20,9 +20,6 @@ named-slot-requires c κs = search needs
 
 enum-known-number : tie.Need-enum-known-number
 enum-known-number c = search needs
-
-refused-with-requires : tie.Need-refused-with-requires
-refused-with-requires c κs = search needs
 
 enum-known-slot : tie.Need-enum-known-slot
 enum-known-slot c = search needs
@@ -39,13 +36,13 @@ same-length c = search needs
 
 returns : tie.Need-returns
 returns c =
-    let v = c .before .before in
+    let v = c .before in
     let n = v .before .before in
     let s = n .before .before .before .before in
     let e = sym (n .named-slot .ensures) ∙ v .number .given .1 in
     let x = v .number .given .0 .0 in
-    refused-left (s .args .head) (s .args .s) (now (s .args .arena)) (now (s .args .table)) (now (s .args .index))
-    (give (s .args .named)) (c .refused-with .result) x (c .refused-with .ensures)
+    vacated-refused (s .args .head) (s .args .s) (now (s .args .arena)) (now (s .args .table)) (now (s .args .index))
+    x (eqb-ne x 0 (named-refused (now (s .args .table)) (s .args .named) x e)) (s .args .named)
     (give-refused segmentEngine (pool s) (s .args .named) x e)
 
 same-length-2 : tie.Need-same-length-2
@@ -66,7 +63,6 @@ vacate-spec =
     (tie.spec
     named-slot-requires
     enum-known-number
-    refused-with-requires
     enum-known-slot
     give-back-requires
     same-length

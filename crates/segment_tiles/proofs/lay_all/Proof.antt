@@ -2,15 +2,12 @@
 -- Assumes nothing.
 use Prim.Native.Nat.{_+_, _*_, _-_, _≤_, min}
 use native.Mathlib.Omega.{arith}
-use mathlib.Core.Bool.{true}
-use mathlib.Core.Path.{_≡_, _∙_, sym, ap, refl}
-use borrow.Author.Tests.{not-false}
+use mathlib.Core.Path.{_≡_, refl}
 use denote.Ref.{now}
 use lib.ListN.{length}
-use Rattle.segment_blocks.specs.Upkeep.{firstFrom}
 use Rattle.segment_blocks.proofs.UpkeepLaws.{sizes-top}
-use Rattle.segment_check.specs.Right.{twoRight}
 use Rattle.segment_tiles.proofs.MatchLaws.{Matching, match-start, match-on, match-end}
+use Rattle.segment_tiles.proofs.MatchLaws.{strip-none, two-laid, two-none}
 use Rattle.segment_tiles.proofs.lay_all.Statement.{statement}
 use Rattle.segment_tiles.proofs.lay_all.Tie as tie
 
@@ -38,30 +35,45 @@ mul-lesser c =
 lesser-requires : tie.Need-lesser-requires Inv-loop μ-loop
 lesser-requires c κs = tt
 
+mul-first : tie.Need-mul-first Inv-loop μ-loop
+mul-first c = omega arith
+
+add-first : tie.Need-add-first Inv-loop μ-loop
+add-first c = omega arith
+
+mul-first-2 : tie.Need-mul-first-2 Inv-loop μ-loop
+mul-first-2 c = omega arith
+
+shared-slice-read-first : tie.Need-shared-slice-read-first Inv-loop μ-loop
+shared-slice-read-first c = omega arith
+
+cast-first : tie.Need-cast-first Inv-loop μ-loop
+cast-first c =
+    let l = c .before .before .before in
+    omega (arith, c .shared-slice-known3 .given (2 * l .before .before .before .args .s + l .loop .k))
+
 lay-requires : tie.Need-lay-requires Inv-loop μ-loop
 lay-requires c κs =
-    let l = c .before .before in
+    let top = c .before .before in
+    let l = top .before .before in
     let s = l .before .before .before in
     let (is, upto, m) = l .loop .inv in
-    (s .pre .0 .sizes .most, s .pre .1, omega (arith, c .lesser .ensures), m .inside, m .few, m .laid)
+    (s .pre .0 .sizes .most, s .pre .1, omega (arith, top .lesser .ensures), m .inside, m .few, m .laid)
+
+add-if2 : tie.Need-add-if2 Inv-loop μ-loop
+add-if2 c = omega arith
+
+mul-if2 : tie.Need-mul-if2 Inv-loop μ-loop
+mul-if2 c = omega arith
+
+shared-slice-read-if2 : tie.Need-shared-slice-read-if2 Inv-loop μ-loop
+shared-slice-read-if2 c = omega arith
 
 add-result : tie.Need-add-result Inv-loop μ-loop
 add-result c = omega arith
 
 returns : tie.Need-returns Inv-loop μ-loop
 returns c = λ h. absurd (omega arith)
-
-first-from-requires : tie.Need-first-from-requires Inv-loop μ-loop
-first-from-requires c κs = omega arith
-
-segment-right-requires : tie.Need-segment-right-requires Inv-loop μ-loop
-segment-right-requires c κs = omega arith
-
-add-result-2 : tie.Need-add-result-2 Inv-loop μ-loop
-add-result-2 c = omega arith
-
-returns-2 : tie.Need-returns-2 Inv-loop μ-loop
-returns-2 c = λ h. absurd (omega arith)
 
 add-k : tie.Need-add-k Inv-loop μ-loop
 add-k c = omega arith
@@ -71,28 +83,66 @@ loop-less c = omega arith
 
 loop-again : tie.Need-loop-again Inv-loop μ-loop
 loop-again c =
-    let test = c .before in
-    let first = test .before in
-    let i = first .before in
-    let turn = i .before .before in
-    let top = turn .before in
+    let turn = c .before .before .before .before in
+    let i = turn .before in
+    let top = i .before .before in
     let t = top .before in
     let l = t .before in
     let a = l .before .before .before .args in
     let (is, upto, m) = l .loop .inv in
     let here = t .loop-test .taken in
     let w = length (now (a .v)) in
-    let inside : turn .lay .result .next ≤ w = omega (arith, is, i .if1 .left) in
-    let hi : top .lesser .result ≡ min ((l .loop .k + 1) * a .g) w = rw is at (top .lesser .ensures) in
-    let two = twoRight (now (a .t)) (a .s) (l .loop .k) (turn .lay .result .most) in
-    let right : two (firstFrom (l .loop .at) (top .lesser .result) w) ≡ true =
-    ap two (sym (rw is at (first .first-from .ensures))) ∙ sym (test .segment-right .ensures)
-    ∙ not-false _ (c .if2 .left) in (
+    let (inside, right) = two-laid (now (a .t)) (a .s) (l .loop .k) (l .loop .at) (top .lesser .result) w
+    (turn .lay .result .most) (turn .lay .result .next) (i .if1 .taken) (c .if2 .left) in
+    let hi : top .lesser .result ≡ min ((l .loop .k + 1) * a .g) w = rw is at (top .lesser .ensures) in (
       is,
       omega arith,
       match-on (now (a .v)) (now (a .map)) (now (a .t)) (a .s) (a .g) (l .loop .k) (l .loop .at) (l .loop .free)
           (top .lesser .result) (turn .lay .result .next) (turn .lay .result .free) (turn .lay .result .most)
           (l .loop .after) (turn .lay .result .after) m here hi inside (turn .lay .ensures inside) right,
+    )
+
+add-if3 : tie.Need-add-if3 Inv-loop μ-loop
+add-if3 c = omega arith
+
+mul-if3 : tie.Need-mul-if3 Inv-loop μ-loop
+mul-if3 c = omega arith
+
+shared-slice-read-if3 : tie.Need-shared-slice-read-if3 Inv-loop μ-loop
+shared-slice-read-if3 c = omega arith
+
+add-result-2 : tie.Need-add-result-2 Inv-loop μ-loop
+add-result-2 c = omega arith
+
+returns-2 : tie.Need-returns-2 Inv-loop μ-loop
+returns-2 c = λ h. absurd (omega arith)
+
+add-k-2 : tie.Need-add-k-2 Inv-loop μ-loop
+add-k-2 c = omega arith
+
+loop-less-2 : tie.Need-loop-less-2 Inv-loop μ-loop
+loop-less-2 c = omega arith
+
+loop-again-2 : tie.Need-loop-again-2 Inv-loop μ-loop
+loop-again-2 c =
+    let i = c .before .before in
+    let top = i .before .before in
+    let t = top .before in
+    let l = t .before in
+    let a = l .before .before .before .args in
+    let (is, upto, m) = l .loop .inv in
+    let here = t .loop-test .taken in
+    let w = length (now (a .v)) in
+    let past = i .if1 .left in
+    let hi : top .lesser .result ≡ min ((l .loop .k + 1) * a .g) w = rw is at (top .lesser .ensures) in
+    let right = two-none (now (a .t)) (a .s) (l .loop .k) (l .loop .at) (top .lesser .result) w past (c .if3 .left) in
+    let strip = strip-none (now (a .v)) (now (a .map)) (l .loop .at) (top .lesser .result) (l .loop .free)
+    (l .loop .after) (m .laid) (m .few) past in (
+      is,
+      omega arith,
+      match-on (now (a .v)) (now (a .map)) (now (a .t)) (a .s) (a .g) (l .loop .k) (l .loop .at) (l .loop .free)
+          (top .lesser .result) (l .loop .at) (l .loop .free) 0
+          (l .loop .after) (l .loop .after) m here hi (m .inside) strip right,
     )
 
 returns-3 : tie.Need-returns-3 Inv-loop μ-loop
@@ -114,14 +164,26 @@ lay-all-spec =
     add-lesser
     mul-lesser
     lesser-requires
+    mul-first
+    add-first
+    mul-first-2
+    shared-slice-read-first
+    cast-first
     lay-requires
+    add-if2
+    mul-if2
+    shared-slice-read-if2
     add-result
     returns
-    first-from-requires
-    segment-right-requires
-    add-result-2
-    returns-2
     add-k
     loop-less
     loop-again
+    add-if3
+    mul-if3
+    shared-slice-read-if3
+    add-result-2
+    returns-2
+    add-k-2
+    loop-less-2
+    loop-again-2
     returns-3)

@@ -2,6 +2,7 @@
 use Prim.Native.Nat.{_-_, _≤_}
 use native.Mathlib.Omega.{arith}
 use mathlib.Core.Path.{_≡_, _∙_, ap}
+use mathlib.Core.Logic.{_≢_}
 use borrow.Author.Needs.{needs}
 use denote.Ref.{now}
 use lib.IntN.{pos, natAbs}
@@ -14,27 +15,32 @@ use Rattle.segment_tiles.proofs.HeadLaws.{head-inside, joined-none, joi
 use Rattle.segment_tiles.proofs.map_row.Statement.{statement}
 use Rattle.segment_tiles.proofs.map_row.Tie as tie
 
--- the places before: a record that has been read, entered before it, and the function's entry
-abbrev entry : (c : tie.After-read-row) → tie.After-enter-row
-entry c = c .before .before .before .before .before
+-- the places before: the record's reading, and the function's entry
+abbrev read : tie.After-enter-row → tie.After-read-row
+read e = e .before .before
 
-abbrev start : (c : tie.After-read-row) → tie.Start
-start c = entry c .before .before .before .before .before
+abbrev start : tie.After-enter-row → tie.Start
+start e = read e .before .before .before .before
 
 -- where the control word of a record with words lies
-place : (c : tie.After-read-row)
-    → (1 ≤ c .read-row .result .address) × (c .read-row .result .address ≤ length (now (start c .args .v)))
-place c =
-    let e = entry c in
-    let a = start c .args in
-    let joins = e .enter-row .ensures (c .before .if2 .left) .0 in
+place : (e : tie.After-enter-row) → e .enter-row .result ≢ 0 → e .enter-row .result ≤ length (now (start e .args .v))
+    → (1 ≤ read e .read-row .result .address) × (read e .read-row .result .address ≤ length (now (start e .args .v)))
+place e some fits =
+    let a = start e .args in
+    let joins = e .enter-row .ensures fits .0 in
     let (low, high, is) = head-inside (now (a .v)) (a .next) (now (a .table)) (a .i) (e .enter-row .result) joins
-    (c .before .before .if1 .left) in
-    let same = ap (λ (q : Row). q .address) (c .read-row .ensures) in
+    some in
+    let same = ap (λ (q : Row). q .address) (read e .read-row .ensures) in
     (omega arith, omega arith)
 
+read-row-requires : tie.Need-read-row-requires
+read-row-requires c κs = search needs
+
 enter-row-requires : tie.Need-enter-row-requires
-enter-row-requires c κs = search needs
+enter-row-requires c κs =
+    let r = c .before in
+    let (few, long, below, some, wide, noted, heads) = r .before .before .before .before .pre in
+    ((omega arith, omega arith, below, r .read-row .ensures), (some, wide, noted))
 
 same-length : tie.Need-same-length
 same-length c = search needs
@@ -42,14 +48,14 @@ same-length c = search needs
 returns : tie.Need-returns
 returns c =
     let e = c .before .before .before in
-    let s = e .before .before .before .before .before in
+    let s = start e in
     let a = s .args in
     let (few, long, below, some, wide, noted, heads) = s .pre in
     let u = e .enter-row .result in
     let z : u ≡ 0 = c .if1 .taken in
     let (joins, next) = e .enter-row .ensures (omega arith) in
     λ h. joined-none (now (a .v)) (a .next) (now (a .table)) (a .i) u joins (now (a .map))
-    (e .enter-row .last .1 .1 .1 .1 .1 .0) (a .m) next heads z
+    (e .enter-row .last .1 .1 .1 .1 .1 .1 .0) (a .m) next heads z
 
 same-length-2 : tie.Need-same-length-2
 same-length-2 c = search needs
@@ -57,20 +63,21 @@ same-length-2 c = search needs
 returns-2 : tie.Need-returns-2
 returns-2 c = λ h. absurd (omega arith)
 
-read-row-requires : tie.Need-read-row-requires
-read-row-requires c κs = search needs
-
 cast-at : tie.Need-cast-at
 cast-at c = search needs
 
 sub-at : tie.Need-sub-at
-sub-at c = place (c .before) .0
+sub-at c =
+    let t = c .before in
+    place (t .before .before .before .before) (t .before .if1 .left) (t .if2 .left) .0
 
 is-held-requires : tie.Need-is-held-requires
 is-held-requires c κs =
-    let (low, high) = place (c .before) in
-    let few = start (c .before) .pre .0 in
-    let fits = c .before .before .if2 .left in
+    let t = c .before in
+    let e = t .before .before .before .before in
+    let fits = t .if2 .left in
+    let (low, high) = place e (t .before .if1 .left) fits in
+    let few = start e .pre .0 in
     (omega arith, omega arith)
 
 add-result : tie.Need-add-result
@@ -84,9 +91,10 @@ returns-3 c = λ h. absurd (omega arith)
 
 put-bit-requires : tie.Need-put-bit-requires
 put-bit-requires c κs =
-    let r = c .before .before .before .before in
-    let (low, high) = place r in
-    omega (arith, start r .pre .1)
+    let t = c .before .before .before .before in
+    let e = t .before .before .before .before in
+    let (low, high) = place e (t .before .if1 .left) (t .if2 .left) in
+    omega (arith, start e .pre .1)
 
 same-length-4 : tie.Need-same-length-4
 same-length-4 c = search needs
@@ -97,31 +105,32 @@ same-length-5 c = search needs
 returns-4 : tie.Need-returns-4
 returns-4 c =
     let p = c .before .before in
-    let t = p .before .before in
-    let h = t .before in
-    let r = h .before .before in
-    let e = entry r in
-    let s = start r in
+    let g = p .before .before in
+    let h = g .before in
+    let t = h .before .before in
+    let e = t .before .before .before .before in
+    let r = read e in
+    let s = start e in
     let a = s .args in
     let (few, long, below, some, wide, noted, heads) = s .pre in
     let u = e .enter-row .result in
-    let (joins, next) = e .enter-row .ensures (r .before .if2 .left) in
-    let word = h .is-held .ensures (not-false (h .is-held .result) (t .if3 .left)) in
+    let (joins, next) = e .enter-row .ensures (t .if2 .left) in
+    let word = h .is-held .ensures .0 (not-false (h .is-held .result) (g .if3 .left)) in
     λ l. joined-live (now (a .v)) (a .next) (now (a .table)) (a .i) u joins (now (a .map)) (p .put-bit .last .0)
-    (e .enter-row .last .1 .1 .1 .1 .1 .0) (a .m) (r .read-row .result .address - 1) next heads
-    (r .before .before .if1 .left) (ap (λ (q : Row). q .address - 1) (r .read-row .ensures))
+    (e .enter-row .last .1 .1 .1 .1 .1 .1 .0) (a .m) (r .read-row .result .address - 1) next heads
+    (t .before .if1 .left) (ap (λ (q : Row). q .address - 1) (r .read-row .ensures))
     (ap natAbs word ∙ abs-neg (pos u)) (ap freeSize word ∙ free-neg u) (p .put-bit .ensures)
 
 pub map-row-spec : {M : Type 1} → statement M
 map-row-spec =
     tie.close
     (tie.spec
+    read-row-requires
     enter-row-requires
     same-length
     returns
     same-length-2
     returns-2
-    read-row-requires
     cast-at
     sub-at
     is-held-requires

@@ -11,21 +11,18 @@ use borrow.Author.Needs.{needs}
 use Rattle.tiling.proofs.enter_row.Statement.{statement}
 use Rattle.tiling.proofs.enter_row.Tie as tie
 
-read-row-requires : tie.Need-read-row-requires
-read-row-requires c κs = search needs
-
 is-empty-requires : tie.Need-is-empty-requires
 is-empty-requires c κs = search needs
 
 returns : tie.Need-returns
 returns c =
-    let read = c .before .before in
-    let s = read .before .before .before in
+    let s = c .before .before .before .before in
     let a = s .args in
     let t = now (a .table) in
-    let (unit, words, i, some, long, noted) = s .pre in
+    let is = s .pre .0 .3 in
+    let (some, long, noted) = s .pre .1 in
     let none : isEmpty (recordAt t (a .i)) ≡ true =
-    ap isEmpty (sym (read .read-row .ensures)) ∙ sym (c .before .is-empty .ensures) ∙ c .if1 .taken in
+    ap isEmpty (sym is) ∙ sym (c .before .is-empty .ensures) ∙ c .if1 .taken in
     λ l. (
       empty-joins (a .rule) (a .words) (a .next) t (a .i) none,
       note-none (a .m) (now (a .seen)) t (a .i) noted none,
@@ -42,9 +39,9 @@ returns-2 c = λ l. absurd (omega arith)
 
 is-new-requires : tie.Need-is-new-requires
 is-new-requires c κs =
-    let read = c .before .before .before .before .before in
-    let (unit, words, i, some, long, noted) = read .before .before .before .pre in
-    ((i, ap (λ (r : Row). r .ticket) (read .read-row .ensures)), (some, long, noted))
+    let s = c .before .before .before .before .before .before .before in
+    let (unit, words, i, is) = s .pre .0 in
+    ((i, ap (λ (r : Row). r .ticket) is), s .pre .1)
 
 add-result-2 : tie.Need-add-result-2
 add-result-2 c = search needs
@@ -66,13 +63,13 @@ returns-4 c =
     let new = c .before .before .before .before in
     let fit = new .before .before .before in
     let empty = fit .before .before in
-    let read = empty .before in
-    let a = read .before .before .before .args in
+    let s = empty .before .before .before in
+    let a = s .args in
     let fit-ok = not-false (fit .row-fits .result) (new .before .before .if2 .left) in
     let new-ok = not-false (new .is-new .result) (c .before .if3 .left) in
     λ l. (
-      live-joins (a .rule) (a .words) (a .next) (now (a .table)) (a .i) (c .span-of .result) (read .read-row .result)
-          (read .read-row .ensures) (sym (empty .is-empty .ensures) ∙ fit .before .if1 .left)
+      live-joins (a .rule) (a .words) (a .next) (now (a .table)) (a .i) (c .span-of .result) (a .r) (s .pre .0 .3)
+          (sym (empty .is-empty .ensures) ∙ fit .before .if1 .left)
           (sym (fit .row-fits .ensures) ∙ fit-ok) (new .is-new .ensures .0 new-ok) (c .span-of .ensures),
       new .is-new .ensures .1,
     )
@@ -81,7 +78,6 @@ pub enter-row-spec : {M : Type 1} → statement M
 enter-row-spec =
     tie.close
     (tie.spec
-    read-row-requires
     is-empty-requires
     returns
     row-fits-requires

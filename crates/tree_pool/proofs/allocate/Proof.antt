@@ -1,13 +1,13 @@
--- `tree_pool::allocate` meets its contract: the gate, then one act. Assumes nothing.
+-- `tree_pool::allocate` meets its contract: the gate, then one act, and the outcome of its effect. Assumes nothing.
 use mathlib.Core.Path.{refl}
 use borrow.Author.Needs.{needs}
 use denote.Ref.{now}
 use mathlib.Core.List.{[]}
-use Rattle.calls.specs.Step.{allocate}
+use Rattle.calls.specs.Step.{allocate, ask}
 use Rattle.calls.specs.Engines.{treeEngine}
 use Rattle.call_parts.proofs.GateLaws.{gate-sound}
 use Rattle.tree_pool.specs.Promises.{poolOf, handed}
-use Rattle.tree_pool.proofs.ActedLaws.{gate-left, one-left}
+use Rattle.tree_pool.proofs.ActedLaws.{same-left, gate-left, one-left}
 use Rattle.tree_pool.proofs.allocate.Statement.{statement}
 use Rattle.tree_pool.proofs.allocate.Tie as tie
 
@@ -39,6 +39,9 @@ grant-requires c κs =
     (g .gate-number .result)
     (g .gate-number .ensures) (c .before .before .if1 .left)
 
+outcome-of-grant-requires : tie.Need-outcome-of-grant-requires
+outcome-of-grant-requires c κs = search needs
+
 same-length-3 : tie.Need-same-length-3
 same-length-3 c = search needs
 
@@ -47,14 +50,16 @@ same-length-4 c = search needs
 
 returns-2 : tie.Need-returns-2
 returns-2 c =
-    let q = c .before .before .before .before in
+    let q = c .before .before .before .before .before in
     let g = q .before .before .before .before in
     let s = g .before .before .before .before .before in
+    let b = q .grant .last .1 .0 in
+    let u = q .grant .last .1 .1 .0 in
     let p = poolOf (s .args .head) (now (s .args .arena)) (now (s .args .table)) in
     let ok = gate-sound treeEngine p (g .gate-number .result) (g .gate-number .ensures)
     (q .before .before .before .if1 .left) in
-    one-left p ok (handed (q .grant .result) (q .grant .last .1 .0) (q .grant .last .1 .1 .0) []) .0 (s .args .words)
-    (q .grant .ensures)
+    one-left p ok (handed (c .outcome-of-grant .result) b u []) .0 (s .args .words)
+    (same-left (ask (s .args .words)) p b u (c .outcome-of-grant .ensures) (q .grant .ensures))
 
 pub allocate-spec : {M : Type 1} → statement M
 allocate-spec =
@@ -66,6 +71,7 @@ allocate-spec =
     same-length-2
     returns
     grant-requires
+    outcome-of-grant-requires
     same-length-3
     same-length-4
     returns-2)

@@ -33,8 +33,8 @@ fits c = fit (now (entry c .args .arena)) (now (entry c .args .table)) (right c)
 right-lengths-requires : tie.Need-right-lengths-requires
 right-lengths-requires c κs = search needs
 
-refused-requires : tie.Need-refused-requires
-refused-requires c κs = search needs
+refused-with-requires : tie.Need-refused-with-requires
+refused-with-requires c κs = search needs
 
 same-length : tie.Need-same-length
 same-length c = search needs
@@ -46,8 +46,8 @@ returns : tie.Need-returns
 returns c =
     let r = c .before .before in
     let s = r .before .before .before .before .before in
-    format-refused (now (s .args .arena)) (now (s .args .table)) (c .refused .result)
-    (sym (not-true _ (c .before .if1 .taken)) ∙ r .right-lengths .ensures 0 0) (c .refused .ensures)
+    format-refused (now (s .args .arena)) (now (s .args .table)) (c .refused-with .result)
+    (sym (not-true _ (c .before .if1 .taken)) ∙ r .right-lengths .ensures 0 0) (c .refused-with .ensures)
 
 cast-cells : tie.Need-cast-cells
 cast-cells c = omega (arith, fits c .most)
@@ -92,7 +92,7 @@ format-spec =
     tie.close
     (tie.spec
     right-lengths-requires
-    refused-requires
+    refused-with-requires
     same-length
     same-length-2
     returns

@@ -1,6 +1,6 @@
 -- `tree_pool::give_back` meets its contract: the cells that go back make the act a release. Assumes nothing.
 use native.Mathlib.Omega.{arith}
-use mathlib.Core.Path.{_∙_, sym}
+use mathlib.Core.Path.{sym}
 use borrow.Author.Needs.{needs}
 use denote.Ref.{now}
 use Prim.Native.Nat.{ℕ}
@@ -12,9 +12,10 @@ use Rattle.ledger.specs.Runs.{freeRuns}
 use Rattle.stored_forms.specs.Tree.{formOne, formRule}
 use Rattle.free_blocks.specs.Blocks.{Gives, Given}
 use Rattle.calls.specs.Step.{give}
-use Rattle.tree_pool.specs.Promises.{poolOf}
+use Rattle.tree_pool.specs.Promises.{poolOf, vacated}
 use Rattle.tree_pool.proofs.ActedLaws.{acted-left}
-use Rattle.tree_pool.proofs.ReleaseLaws.{release-range, release-slot, release-gives, release-answer, release-root, release-pool}
+use Rattle.tree_pool.proofs.ReleaseLaws.{release-range, release-slot, release-gives}
+use Rattle.tree_pool.proofs.ReleaseLaws.{release-answer, release-root, release-pool}
 use Rattle.tree_pool.proofs.give_back.Statement.{statement}
 use Rattle.tree_pool.proofs.give_back.Tie as tie
 
@@ -74,9 +75,6 @@ cast-t17 c =
     (g .give-cells .last .0) (now (s .args .table)) (g .give-cells .result) (given g) in
     omega arith
 
-succeeded-requires : tie.Need-succeeded-requires
-succeeded-requires c κs = search needs
-
 same-length : tie.Need-same-length
 same-length c = search needs
 
@@ -85,7 +83,7 @@ same-length-2 c = search needs
 
 returns : tie.Need-returns
 returns c =
-    let w = c .before .before .before in
+    let w = c .before .before in
     let g = w .before .before .before .before in
     let s = g .before .before .before .before .before .before .before in
     let h = s .args .head in
@@ -95,9 +93,9 @@ returns c =
     (w .write-row .last .0)
     (g .give-cells .result) (given g) (w .write-row .ensures) in
     acted-left (give (s .args .named)) (poolOf h a t)
-    (record { head = record { root = g .give-cells .result; next = h .next }; answer = c .succeeded .result })
+    (vacated h (s .args .named) (record { number = 0; root = g .give-cells .result; address = 0 }))
     (g .give-cells .last .0) (w .write-row .last .0)
-    (c .succeeded .ensures ∙ release-answer h a t (s .args .named) (s .args .slot) (s .pre .0) (s .pre .1)) q
+    (release-answer h a t (s .args .named) (s .args .slot) (s .pre .0) (s .pre .1)) q
 
 pub give-back-spec : {M : Type 1} → statement M
 give-back-spec =
@@ -109,7 +107,6 @@ give-back-spec =
     give-cells-requires
     write-row-requires
     cast-t17
-    succeeded-requires
     same-length
     same-length-2
     returns)

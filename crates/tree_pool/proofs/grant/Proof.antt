@@ -1,6 +1,6 @@
 -- `tree_pool::grant` meets its contract: the rows 2, 3, 4, 5 in turn, then the grant. Assumes nothing.
 use native.Mathlib.Omega.{arith}
-use mathlib.Core.Path.{_∙_, sym}
+use mathlib.Core.Path.{refl, _∙_, sym}
 use borrow.Author.Needs.{needs}
 use borrow.Author.Tests.{eq-eqb, ne-eqb}
 use denote.Ref.{now}
@@ -11,28 +11,27 @@ use Rattle.ledger.specs.Records.{recordsOf}
 use Rattle.ledger.specs.Units.{span}
 use Rattle.ledger.specs.Runs.{freeRuns}
 use Rattle.stored_forms.specs.Tree.{formOne, formRule, treeOf}
-use Rattle.calls.specs.Step.{ask}
 use Rattle.calls.specs.Engines.{treeEngineOf, treeEngine}
 use Rattle.record_table.proofs.SlotLaws.{empty-found, empty-missing}
 use Rattle.call_parts.proofs.AskLaws.{ask-two, ask-three, ask-four, ask-five}
 use Rattle.tree_pool.specs.Promises.{poolOf}
-use Rattle.tree_pool.proofs.ActedLaws.{refused-left}
+use Rattle.tree_pool.proofs.ActedLaws.{granted-refused}
 use Rattle.tree_pool.proofs.SoundLaws.{sound-lies}
 use Rattle.tree_pool.proofs.GrantLaws.{none-fits, some-units, fitted}
 use Rattle.tree_pool.proofs.grant.Statement.{statement}
 use Rattle.tree_pool.proofs.grant.Tie as tie
 
-refused-with-requires : tie.Need-refused-with-requires
-refused-with-requires c κs = search needs
+no-effect-requires : tie.Need-no-effect-requires
+no-effect-requires c κs = search needs
 
 returns : tie.Need-returns
 unfolding treeEngine treeEngineOf formOne
 returns c =
     let s = c .before .before .before .before in
     let p = poolOf (s .args .head) (now (s .args .arena)) (now (s .args .table)) in
-    refused-left (ask (s .args .words)) (s .args .head) (now (s .args .arena)) (now (s .args .table))
-    (c .refused-with .result) 2
-    (c .refused-with .ensures) (ask-two treeEngine p (s .args .words) (c .before .if1 .taken))
+    granted-refused (s .args .head) (now (s .args .arena)) (now (s .args .table)) (c .no-effect .result) 2
+    (c .no-effect .ensures) refl (s .args .words)
+    (ask-two treeEngine p (s .args .words) (c .before .if1 .taken))
 
 empty-slot-requires : tie.Need-empty-slot-requires
 empty-slot-requires c κs = search needs
@@ -43,8 +42,8 @@ enum-known-slot c = search needs
 enum-told : tie.Need-enum-told
 enum-told c = search needs
 
-refused-with-requires-2 : tie.Need-refused-with-requires-2
-refused-with-requires-2 c κs = search needs
+no-effect-requires-2 : tie.Need-no-effect-requires-2
+no-effect-requires-2 c κs = search needs
 
 same-length : tie.Need-same-length
 same-length c = search needs
@@ -56,13 +55,13 @@ returns-2 c =
     let i = m .before .before in
     let s = i .before .before .before in
     let p = poolOf (s .args .head) (now (s .args .arena)) (now (s .args .table)) in
-    refused-left (ask (s .args .words)) (s .args .head) (now (s .args .arena)) (now (s .args .table))
-    (c .refused-with2 .result) 3
-    (c .refused-with2 .ensures) (ask-three treeEngine p (s .args .words) (i .if1 .left)
+    granted-refused (s .args .head) (now (s .args .arena)) (now (s .args .table)) (c .no-effect2 .result) 3
+    (c .no-effect2 .ensures) refl (s .args .words)
+    (ask-three treeEngine p (s .args .words) (i .if1 .left)
     (empty-missing (now (s .args .table)) (sym (m .empty-slot .ensures) ∙ c .before .enum-told .given .1)))
 
-refused-with-requires-3 : tie.Need-refused-with-requires-3
-refused-with-requires-3 c κs = search needs
+no-effect-requires-3 : tie.Need-no-effect-requires-3
+no-effect-requires-3 c κs = search needs
 
 same-length-2 : tie.Need-same-length-2
 same-length-2 c = search needs
@@ -75,9 +74,9 @@ returns-3 c =
     let s = i .before .before .before in
     let p = poolOf (s .args .head) (now (s .args .arena)) (now (s .args .table)) in
     let found = sym (m .empty-slot .ensures) ∙ c .before .before .before .slot .given .1 in
-    refused-left (ask (s .args .words)) (s .args .head) (now (s .args .arena)) (now (s .args .table))
-    (c .refused-with3 .result) 4
-    (c .refused-with3 .ensures) (ask-four treeEngine p (s .args .words) (i .if1 .left)
+    granted-refused (s .args .head) (now (s .args .arena)) (now (s .args .table)) (c .no-effect3 .result) 4
+    (c .no-effect3 .ensures) refl (s .args .words)
+    (ask-four treeEngine p (s .args .words) (i .if1 .left)
     (empty-found (now (s .args .table)) (c .before .before .before .slot .given .0 .0) found .1)
     (eq-eqb _ _ (c .before .if2 .taken)))
 
@@ -105,8 +104,8 @@ leftmost-fit-requires c κs =
     let t = now (s .args .table) in
     (treeOf (freeRuns (formRule formOne) (length a) (recordsOf t)), sound-lies (h .root) (h .next) a t (s .pre) .tree)
 
-refused-with-requires-4 : tie.Need-refused-with-requires-4
-refused-with-requires-4 c κs = search needs
+no-effect-requires-4 : tie.Need-no-effect-requires-4
+no-effect-requires-4 c κs = search needs
 
 same-length-3 : tie.Need-same-length-3
 same-length-3 c = search needs
@@ -126,8 +125,9 @@ returns-4 c =
     let p = poolOf h (now (s .args .arena)) (now (s .args .table)) in
     let v = k .before .before .before in
     let found = sym (m .empty-slot .ensures) ∙ v .slot .given .1 in
-    refused-left (ask (s .args .words)) h (now (s .args .arena)) (now (s .args .table)) (c .refused-with4 .result) 5
-    (c .refused-with4 .ensures) (ask-five treeEngine p (s .args .words) (i .if1 .left)
+    granted-refused h (now (s .args .arena)) (now (s .args .table)) (c .no-effect4 .result) 5
+    (c .no-effect4 .ensures) refl (s .args .words)
+    (ask-five treeEngine p (s .args .words) (i .if1 .left)
     (empty-found (now (s .args .table)) (v .slot .given .0 .0) found .1) (ne-eqb _ _ (k .before .if2 .left))
     (none-fits (h .root) (h .next) (now (s .args .arena)) (now (s .args .table)) (s .pre) (s .args .words)
     (l .leftmost-fit .result)
@@ -168,22 +168,22 @@ pub grant-spec : {M : Type 1} → statement M
 grant-spec =
     tie.close
     (tie.spec
-    refused-with-requires
+    no-effect-requires
     returns
     empty-slot-requires
     enum-known-slot
     enum-told
-    refused-with-requires-2
+    no-effect-requires-2
     same-length
     returns-2
-    refused-with-requires-3
+    no-effect-requires-3
     same-length-2
     returns-3
     span-of-requires
     cast-leftmost-fit
     cast-leftmost-fit-2
     leftmost-fit-requires
-    refused-with-requires-4
+    no-effect-requires-4
     same-length-3
     same-length-4
     returns-4

@@ -1,9 +1,9 @@
 -- `tree_pool::place` meets its contract: what was found makes the act a grant. Assumes nothing.
 use native.Mathlib.Omega.{arith}
-use mathlib.Core.Path.{_∙_, sym, ap}
+use mathlib.Core.Path.{sym}
 use borrow.Author.Needs.{needs}
 use denote.Ref.{now}
-use Prim.Native.Nat.{ℕ, _-_, _/_, _<_}
+use Prim.Native.Nat.{ℕ, _*_, _-_, _/_, _<_}
 use mathlib.Core.Path.{subst}
 use mathlib.Core.List.{List}
 use lib.ListN.{length}
@@ -13,10 +13,10 @@ use Rattle.free_blocks.specs.Blocks.{Takes, Taken}
 use Rattle.tree_check.proofs.GateLaws.{InRange}
 use Rattle.ledger.specs.Units.{span}
 use Rattle.calls.specs.Step.{ask}
-use Rattle.tree_check.specs.Gate.{treePool}
-use Rattle.tree_pool.specs.Promises.{poolOf}
+use Rattle.tree_pool.specs.Promises.{poolOf, granted}
 use Rattle.tree_pool.proofs.ActedLaws.{acted-left}
-use Rattle.tree_pool.proofs.GrantLaws.{place-takes, place-inside, place-root, place-pool, place-answer, place-range, place-slot}
+use Rattle.tree_pool.proofs.GrantLaws.{place-takes, place-inside, place-root, place-pool}
+use Rattle.tree_pool.proofs.GrantLaws.{place-answer, place-range, place-slot}
 use Rattle.tree_pool.proofs.place.Statement.{statement}
 use Rattle.tree_pool.proofs.place.Tie as tie
 
@@ -59,16 +59,16 @@ take-cells-requires c κs =
     (place-takes (s .args .head) (now (s .args .arena)) (now (s .args .table)) (s .args .words) (s .args .slot)
     (s .args .block) (s .pre))
 
-sub-t13 : tie.Need-sub-t13
-sub-t13 c = search needs
+sub-address : tie.Need-sub-address
+sub-address c = search needs
 
-mul-t14 : tie.Need-mul-t14
-mul-t14 c =
+mul-address : tie.Need-mul-address
+mul-address c =
     let s = c .before .before .before .before .before .before .before .before in
     omega (arith, inside s, range s .most)
 
-cast-t15 : tie.Need-cast-t15
-cast-t15 c =
+cast-address : tie.Need-cast-address
+cast-address c =
     let s = c .before .before .before .before .before .before .before .before in
     omega (arith, inside s, range s .most)
 
@@ -80,20 +80,14 @@ write-row-requires c κs =
       range s .threes,
     )
 
-cast-t15-2 : tie.Need-cast-t15-2
-cast-t15-2 c =
+cast-t19 : tie.Need-cast-t19
+cast-t19 c =
     let t = c .before .before .before .before .before .before in
     let s = t .before .before .before .before .before .before in
     let below = place-root (s .args .head) (now (s .args .arena)) (now (s .args .table)) (s .args .words)
     (s .args .slot) (s .args .block)
     (s .pre) (t .take-cells .last .0) (now (s .args .table)) (t .take-cells .result) (taken t) in
     omega arith
-
-next-after-requires : tie.Need-next-after-requires
-next-after-requires c κs = search needs
-
-succeeded-requires : tie.Need-succeeded-requires
-succeeded-requires c κs = search needs
 
 same-length : tie.Need-same-length
 same-length c = search needs
@@ -103,7 +97,7 @@ same-length-2 c = search needs
 
 returns : tie.Need-returns
 returns c =
-    let w = c .before .before .before .before in
+    let w = c .before .before in
     let t = w .before .before .before .before in
     let s = t .before .before .before .before .before .before in
     let h = s .args .head in
@@ -113,11 +107,10 @@ returns c =
     (w .write-row .last .0)
     (t .take-cells .result) (taken t) (w .write-row .ensures) in
     acted-left (ask (s .args .words)) (poolOf h a u)
-    (record { head = record { root = t .take-cells .result; next = c .before .next-after .result }; answer = c .succeeded .result })
+    (granted h (s .args .words)
+    (record { number = 0; root = t .take-cells .result; address = 2 * (s .args .block - 1) }))
     (t .take-cells .last .0) (w .write-row .last .0)
-    (c .succeeded .ensures ∙ place-answer h a u (s .args .words) (s .args .slot) (s .args .block) (s .pre))
-    (ap (λ (x : ℕ). treePool (t .take-cells .result) x (t .take-cells .last .0) (w .write-row .last .0))
-    (c .before .next-after .ensures) ∙ q)
+    (place-answer h a u (s .args .words) (s .args .slot) (s .args .block) (s .pre)) q
 
 pub place-spec : {M : Type 1} → statement M
 place-spec =
@@ -126,13 +119,11 @@ place-spec =
     span-of-requires
     cast-take-cells
     take-cells-requires
-    sub-t13
-    mul-t14
-    cast-t15
+    sub-address
+    mul-address
+    cast-address
     write-row-requires
-    cast-t15-2
-    next-after-requires
-    succeeded-requires
+    cast-t19
     same-length
     same-length-2
     returns)

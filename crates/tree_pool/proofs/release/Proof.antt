@@ -1,13 +1,13 @@
--- `tree_pool::release` meets its contract: the gate, then one act. Assumes nothing.
+-- `tree_pool::release` meets its contract: the gate, then one act, and the outcome of its effect. Assumes nothing.
 use mathlib.Core.Path.{refl}
 use borrow.Author.Needs.{needs}
 use denote.Ref.{now}
 use mathlib.Core.List.{[]}
-use Rattle.calls.specs.Step.{release}
+use Rattle.calls.specs.Step.{release, give}
 use Rattle.calls.specs.Engines.{treeEngine}
 use Rattle.call_parts.proofs.GateLaws.{gate-sound}
 use Rattle.tree_pool.specs.Promises.{poolOf, handed}
-use Rattle.tree_pool.proofs.ActedLaws.{gate-left, one-left}
+use Rattle.tree_pool.proofs.ActedLaws.{same-left, gate-left, one-left}
 use Rattle.tree_pool.proofs.release.Statement.{statement}
 use Rattle.tree_pool.proofs.release.Tie as tie
 
@@ -39,6 +39,9 @@ vacate-requires c κs =
     (g .gate-number .result)
     (g .gate-number .ensures) (c .before .before .if1 .left)
 
+outcome-of-release-requires : tie.Need-outcome-of-release-requires
+outcome-of-release-requires c κs = search needs
+
 same-length-3 : tie.Need-same-length-3
 same-length-3 c = search needs
 
@@ -47,14 +50,16 @@ same-length-4 c = search needs
 
 returns-2 : tie.Need-returns-2
 returns-2 c =
-    let q = c .before .before .before .before in
+    let q = c .before .before .before .before .before in
     let g = q .before .before .before .before in
     let s = g .before .before .before .before .before in
+    let b = q .vacate .last .1 .0 in
+    let u = q .vacate .last .1 .1 .0 in
     let p = poolOf (s .args .head) (now (s .args .arena)) (now (s .args .table)) in
     let ok = gate-sound treeEngine p (g .gate-number .result) (g .gate-number .ensures)
     (q .before .before .before .if1 .left) in
-    one-left p ok (handed (q .vacate .result) (q .vacate .last .1 .0) (q .vacate .last .1 .1 .0) []) .1
-    (s .args .named) (q .vacate .ensures)
+    one-left p ok (handed (c .outcome-of-release .result) b u []) .1 (s .args .named)
+    (same-left (give (s .args .named)) p b u (c .outcome-of-release .ensures) (q .vacate .ensures))
 
 pub release-spec : {M : Type 1} → statement M
 release-spec =
@@ -66,6 +71,7 @@ release-spec =
     same-length-2
     returns
     vacate-requires
+    outcome-of-release-requires
     same-length-3
     same-length-4
     returns-2)

@@ -6,7 +6,7 @@ use Rattle.calls.specs.Step.{bad}
 use Rattle.call_parts.specs.declared.Request.{Request}
 use Rattle.call_parts.specs.Parts.{actOf}
 use Rattle.tree_pool.specs.Promises.{poolOf, acted}
-use Rattle.tree_pool.proofs.ActedLaws.{refused-left}
+use Rattle.tree_pool.proofs.ActedLaws.{same-left, refused-left}
 use Rattle.calls.specs.Engines.{treeEngine}
 use Rattle.call_parts.proofs.WholeLists.{bad-refused}
 use Rattle.tree_pool.proofs.serve.Statement.{statement}
@@ -18,11 +18,17 @@ enum-known-request c = search needs
 grant-requires : tie.Need-grant-requires
 grant-requires c κs = c .before .before .before .before .before .before .before .pre
 
+outcome-of-grant-requires : tie.Need-outcome-of-grant-requires
+outcome-of-grant-requires c κs = search needs
+
 enum-known-request-2 : tie.Need-enum-known-request-2
 enum-known-request-2 c = search needs
 
 vacate-requires : tie.Need-vacate-requires
 vacate-requires c κs = c .before .before .before .before .before .before .before .pre
+
+outcome-of-release-requires : tie.Need-outcome-of-release-requires
+outcome-of-release-requires c κs = search needs
 
 enum-told : tie.Need-enum-told
 enum-told c = search needs
@@ -38,11 +44,13 @@ same-length-2 c = search needs
 
 returns : tie.Need-returns
 returns c =
-    let g = c .before .before .before .before in
+    let g = c .before .before .before .before .before in
     let m = g .before .before .before .before in
     let s = m .before .before .before .before in
     let p = poolOf (s .args .head) (now (s .args .arena)) (now (s .args .table)) in
-    g .grant .ensures ∙ ap (λ (x : Request). acted (actOf x) p) (sym (m .request .given .1))
+    same-left (actOf (s .args .request)) p (g .grant .last .1 .0) (g .grant .last .1 .1 .0)
+    (c .outcome-of-grant .ensures)
+    (g .grant .ensures ∙ ap (λ (x : Request). acted (actOf x) p) (sym (m .request .given .1)))
 
 same-length-3 : tie.Need-same-length-3
 same-length-3 c = search needs
@@ -52,11 +60,13 @@ same-length-4 c = search needs
 
 returns-2 : tie.Need-returns-2
 returns-2 c =
-    let g = c .before .before .before .before in
+    let g = c .before .before .before .before .before in
     let m = g .before .before .before .before in
     let s = m .before .before .before .before in
     let p = poolOf (s .args .head) (now (s .args .arena)) (now (s .args .table)) in
-    g .vacate .ensures ∙ ap (λ (x : Request). acted (actOf x) p) (sym (m .request2 .given .1))
+    same-left (actOf (s .args .request)) p (g .vacate .last .1 .0) (g .vacate .last .1 .1 .0)
+    (c .outcome-of-release .ensures)
+    (g .vacate .ensures ∙ ap (λ (x : Request). acted (actOf x) p) (sym (m .request2 .given .1)))
 
 returns-3 : tie.Need-returns-3
 returns-3 c =
@@ -73,8 +83,10 @@ serve-spec =
     (tie.spec
     enum-known-request
     grant-requires
+    outcome-of-grant-requires
     enum-known-request-2
     vacate-requires
+    outcome-of-release-requires
     enum-told
     refused-with-requires
     same-length

@@ -2,11 +2,11 @@
 use mathlib.Core.Path.{_∙_, sym}
 use borrow.Author.Needs.{needs}
 use denote.Ref.{now}
-use Rattle.calls.specs.Step.{give}
+use Rattle.words.proofs.Tests.{eqb-ne}
 use Rattle.calls.specs.Engines.{treeEngine}
-use Rattle.call_parts.proofs.GateLaws.{give-refused}
+use Rattle.call_parts.proofs.GateLaws.{named-refused, give-refused}
 use Rattle.tree_pool.specs.Promises.{poolOf}
-use Rattle.tree_pool.proofs.ActedLaws.{refused-left}
+use Rattle.tree_pool.proofs.ActedLaws.{vacated-refused}
 use Rattle.tree_pool.proofs.vacate.Statement.{statement}
 use Rattle.tree_pool.proofs.vacate.Tie as tie
 
@@ -16,8 +16,8 @@ named-slot-requires c κs = search needs
 enum-known-number : tie.Need-enum-known-number
 enum-known-number c = search needs
 
-refused-with-requires : tie.Need-refused-with-requires
-refused-with-requires c κs = search needs
+no-effect-requires : tie.Need-no-effect-requires
+no-effect-requires c κs = search needs
 
 enum-known-slot : tie.Need-enum-known-slot
 enum-known-slot c = search needs
@@ -41,8 +41,8 @@ returns c =
     let p = poolOf (s .args .head) (now (s .args .arena)) t in
     let e = sym (n .named-slot .ensures) ∙ v .number .given .1 in
     let x = v .number .given .0 .0 in
-    refused-left (give (s .args .named)) (s .args .head) (now (s .args .arena)) t (c .refused-with .result) x
-    (c .refused-with .ensures)
+    vacated-refused (s .args .head) (now (s .args .arena)) t (c .no-effect .result) x (c .no-effect .ensures)
+    (eqb-ne x 0 (named-refused t (s .args .named) x e)) (s .args .named)
     (give-refused treeEngine p (s .args .named) x e)
 
 same-length-2 : tie.Need-same-length-2
@@ -60,7 +60,7 @@ vacate-spec =
     (tie.spec
     named-slot-requires
     enum-known-number
-    refused-with-requires
+    no-effect-requires
     enum-known-slot
     give-back-requires
     same-length

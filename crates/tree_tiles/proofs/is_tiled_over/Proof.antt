@@ -27,7 +27,18 @@ add-walk : tie.Need-add-walk
 add-walk c = search needs
 
 walk-requires : tie.Need-walk-requires
-walk-requires c κs = search needs
+walk-requires c κs =
+    let r = c .before .before .before .before .before .before in
+    let s = r .before .before .before .before .before .before .before in
+    let most = s .pre .0 .0 in
+    let same = r .map-rows .kept .1 .1 .1 .0 in (
+      record {
+        places = λ bytes. omega (arith, s .pre .1 .0 .0 (rw same at bytes));
+        cells = omega arith;
+        small = omega arith;
+      },
+      (omega arith, omega arith),
+    )
 
 same-length-3 : tie.Need-same-length-3
 same-length-3 c = search needs
@@ -51,7 +62,12 @@ add-whole c =
     omega arith
 
 is-paved-requires : tie.Need-is-paved-requires
-is-paved-requires c κs = search needs
+is-paved-requires c κs =
+    let r = c .before .before .before .before .before .before .before .before .before .before in
+    let s = r .before .before .before .before .before .before .before in
+    let most = s .pre .0 .0 in
+    let same = r .map-rows .kept .1 .1 .1 .0 in
+    (omega arith, λ bytes. omega (arith, s .pre .1 .0 .0 (rw same at bytes)))
 
 same-length-5 : tie.Need-same-length-5
 same-length-5 c = search needs

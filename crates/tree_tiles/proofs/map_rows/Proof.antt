@@ -5,7 +5,7 @@ use native.Mathlib.Omega.{arith}
 use mathlib.Core.Path.{_≡_, _∙_, refl, subst}
 use denote.Ref.{now}
 use lib.ListN.{length}
-use Rattle.ledger.specs.Records.{slots}
+use Rattle.ledger.specs.Records.{slots, recordAt}
 use Rattle.ledger.specs.declared.Row.{Row}
 use Rattle.ledger.specs.Units.{first}
 use Rattle.tree_tiles.specs.Maps.{cellRule, Adds}
@@ -25,54 +25,62 @@ loop-holds c =
     let s = c .before .before .before in
     (refl, refl, map-start (now (s .args .map)) (now (s .args .seen)) (s .pre .1 .0))
 
+read-row-requires : tie.Need-read-row-requires Inv-loop μ-loop
+read-row-requires c κs = omega (arith, c .loop-test .taken)
+
 enter-row-requires : tie.Need-enter-row-requires Inv-loop μ-loop
 enter-row-requires c κs =
-    let l = c .before .before .loop in
-    let s = c .before .before .before .before .before .before in
-    let size = l .inv .1 in
-    (omega arith, omega (arith, s .pre .0), omega arith, s .pre .1 .1, size ∙ s .pre .1 .2, l .inv .2 .residues)
+    let r = c .before in
+    let d = r .before in
+    let l = d .before .loop in
+    let s = d .before .before .before .before .before in
+    let size = l .inv .1 in (
+      (omega arith, omega (arith, s .pre .0), omega (arith, d .loop-test .taken), r .read-row .ensures),
+      (s .pre .1 .1, size ∙ s .pre .1 .2, l .inv .2 .residues),
+    )
 
 add-result : tie.Need-add-result Inv-loop μ-loop
 add-result c =
-    let s = c .before .before .before .before .before .before .before .before .before .before in
-    omega (arith, s .pre .0)
+    let l = c .before .before .before .before .before .before .before in
+    omega (arith, l .before .before .before .before .pre .0)
 
 same-length : tie.Need-same-length Inv-loop μ-loop
-same-length c = c .before .before .before .before .before .before .loop .inv .0
+same-length c = c .before .before .before .before .before .before .before .loop .inv .0
 
 same-length-2 : tie.Need-same-length-2 Inv-loop μ-loop
 same-length-2 c =
-    let l = c .before .before .before .before .before .before .loop in
-    c .before .before .before .enter-row .kept .1 .1 .1 .1 .1 .0 ∙ l .inv .1
+    let l = c .before .before .before .before .before .before .before .loop in
+    c .before .before .before .enter-row .kept .1 .1 .1 .1 .1 .1 .0 ∙ l .inv .1
 
 returns : tie.Need-returns Inv-loop μ-loop
 returns c = λ e. absurd (omega arith)
 
-read-row-requires : tie.Need-read-row-requires Inv-loop μ-loop
-read-row-requires c κs = omega (arith, c .before .before .before .before .before .before .loop-test .taken)
-
 note-row-requires : tie.Need-note-row-requires Inv-loop μ-loop
 note-row-requires c κs =
-    let u = c .before .before .before .before .before in
-    let l = u .before .before .before .loop in
-    let s = u .before .before .before .before .before .before .before in
+    let u = c .before .before .before .before in
+    let read = u .before .before in
+    let l = read .before .before .loop in
+    let s = read .before .before .before .before .before .before in
     let size = l .inv .0 in
     let most = s .pre .0 in
-    let few = c .before .before .if1 .left in
+    let few = c .before .if1 .left in
     let joins = u .enter-row .ensures few .0 in (
       omega arith,
-      λ e. rw (c .read-row .ensures) (units-inside (s .args .words) (s .args .next) _ _ e (joins .0) (joins .2) (l .map)
-          (omega arith)),
+      λ e.
+          let r = recordAt (now (s .args .table)) (l .i) in
+          let inside =
+          units-inside (s .args .words) (s .args .next) r (u .enter-row .result) e (joins .0) (joins .2) in
+          rw (read .read-row .ensures) (omega arith, λ bytes. omega (arith, most .2 (rw size at bytes))),
     )
 
 add-held : tie.Need-add-held Inv-loop μ-loop
 add-held c =
-    let l = c .before .before .before .before .before .before .before .before .before .before .before .loop in
-    let s = c .before .before .before .before .before .before .before .before .before .before .before .before .before
-    .before .before in
-    let few = c .before .before .before .before .before .if1 .left in
-    let low = l .inv .2 .low in
-    let upto = l .inv .2 .upto in
+    let i = c .before .before .before .before in
+    let l = i .before .before .before .before .before .before .before in
+    let s = l .before .before .before .before in
+    let few = i .if1 .left in
+    let low = l .loop .inv .2 .low in
+    let upto = l .loop .inv .2 .upto in
     let most = s .pre .0 in
     omega arith
 
@@ -89,18 +97,19 @@ loop-less c =
 loop-again : tie.Need-loop-again Inv-loop μ-loop
 loop-again c =
     let n = c .before .before in
-    let r = n .before in
-    let few = r .before .before .if1 .left in
-    let u = r .before .before .before .before .before in
-    let t = u .before .before in
+    let i = n .before .before in
+    let few = i .if1 .left in
+    let u = i .before .before .before in
+    let r = u .before .before in
+    let t = r .before in
     let l = t .before .loop in
     let s = t .before .before .before .before .before in
     let most = s .pre .0 in
     let size = l .inv .0 in
     let (joins, residues) = u .enter-row .ensures few in (
       n .note-row .kept .0 ∙ l .inv .0,
-      u .enter-row .kept .1 .1 .1 .1 .1 .0 ∙ l .inv .1,
-      map-next (u .enter-row .result) (n .note-row .last .0) (u .enter-row .last .1 .1 .1 .1 .1 .0) (l .inv .2)
+      u .enter-row .kept .1 .1 .1 .1 .1 .1 .0 ∙ l .inv .1,
+      map-next (u .enter-row .result) (n .note-row .last .0) (u .enter-row .last .1 .1 .1 .1 .1 .1 .0) (l .inv .2)
           (omega (arith, t .loop-test .taken)) few (omega arith) joins residues
           (subst (λ (x : Row). Adds (l .map) (n .note-row .last .0) (first cellRule x) (u .enter-row .result))
           (r .read-row .ensures) (n .note-row .ensures)),
@@ -122,12 +131,12 @@ map-rows-spec =
     Inv-loop
     μ-loop
     loop-holds
+    read-row-requires
     enter-row-requires
     add-result
     same-length
     same-length-2
     returns
-    read-row-requires
     note-row-requires
     add-held
     add-i

@@ -26,7 +26,10 @@ returns-4 : tie.Need-returns-4
 returns-4 c e = absurd (false≢true e)
 
 is-paved-requires : tie.Need-is-paved-requires
-is-paved-requires c κs = search needs
+is-paved-requires c κs =
+    let ready = c .before .before .before .before .before .before .pre .0 in
+    let small = ready .small in
+    (omega arith, λ bytes. omega (arith, ready .places bytes))
 
 mul-zero-part : tie.Need-mul-zero-part
 mul-zero-part c = search needs

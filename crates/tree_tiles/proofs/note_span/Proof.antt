@@ -6,7 +6,7 @@ use borrow.Author.Needs.{needs}
 use denote.Ref.{now}
 use lib.ListN.{length, length-set}
 use Rattle.tree_tiles.specs.Maps.{Adds}
-use Rattle.tree_tiles.proofs.MapLaws.{adds-more}
+use Rattle.tree_tiles.proofs.SpanLaws.{adds-byte}
 use Rattle.tree_tiles.proofs.note_span.Statement.{statement}
 use Rattle.tree_tiles.proofs.note_span.Tie as tie
 
@@ -18,7 +18,7 @@ abbrev μ-loop : tie.MeasureT-loop
 μ-loop map₀ lo n at₀ left₀ map at left = left
 
 loop-holds : tie.Need-loop-holds Inv-loop μ-loop
-loop-holds c = (omega arith, omega arith, omega arith, refl, λ k u a b out. b)
+loop-holds c = (omega arith, omega arith, omega arith, refl, λ u k out. k)
 
 slice-write-map : tie.Need-slice-write-map Inv-loop μ-loop
 slice-write-map c = search needs
@@ -36,12 +36,14 @@ loop-again : tie.Need-loop-again Inv-loop μ-loop
 loop-again c =
     let l = c .before .loop in
     let a = c .before .before .args in
-    let size = l .inv .3 in (
+    let size = l .inv .3 in
+    let bytes = c .before .before .pre .2 in (
       omega arith,
       omega arith,
       omega arith,
       simp length-set size,
-      adds-more (now (a .map)) (l .map) (a .lo) (a .n) (l .at) 255 (omega arith) (omega arith) (omega arith) (l .inv .4),
+      adds-byte (now (a .map)) (l .map) (a .lo) (a .n) (l .at) 255 (rw size bytes) (omega arith)
+          (omega arith) (omega arith) (l .inv .4),
     )
 
 cast-map : tie.Need-cast-map Inv-loop μ-loop
@@ -58,7 +60,9 @@ returns c =
     let l = c .before .loop in
     let a = c .before .before .args in
     let size = l .inv .3 in
-    adds-more (now (a .map)) (l .map) (a .lo) (a .n) (l .at) (l .left) (omega arith) (omega arith) (omega arith) (l .inv .4)
+    let bytes = c .before .before .pre .2 in
+    adds-byte (now (a .map)) (l .map) (a .lo) (a .n) (l .at) (l .left) (rw size bytes) (omega arith)
+    (omega arith) (omega arith) (l .inv .4)
 
 pub note-span-spec : {M : Type 1} → statement M
 note-span-spec =

@@ -29,7 +29,8 @@ void print_conditions(FILE *to, effort e)
     fprintf(to, "- One run, %d passes of %d rounds in rotated order, samples of %.0f microseconds. ", e.passes,
             e.rounds, e.sample / 1000);
     fputs("Times are nanoseconds: minimum, and median in brackets; ratios are of minima, and of medians in brackets.\n"
-          "- Release builds for plain x86-64 on both sides: the archive of rt staticlib; the twins with -O3.\n"
+          "- Release builds for plain x86-64 on both sides: the archive of rt staticlib; the twins with -O3. Functions "
+          "begin at multiples of 64 bytes in both, since where a loop lies decided up to a fifth.\n"
           "- Buffers were not cleared first: every byte was 0xa5 before format, and holders wrote every word of their "
           "blocks. Caches are warm.\n"
           "- Pools. Half full: half of the slots and words held, from the low end. Fragmented: all slots were filled, "

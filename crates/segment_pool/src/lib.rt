@@ -1,6 +1,7 @@
 // The segment pool: Brent's engine with the six calls of document 01. The number of segments, s, is an argument of
 // every call. No call asks anything of its caller: each checks the pool first, and its promise equates all that it
 // hands back and leaves with the machine's step.
+// Slices are lent on as `&*slice`, which keeps pointer and length in registers (docs/DECISIONS.md, what crosses calls).
 use call_parts::Named;
 use call_parts::Request;
 use calls::Answer;

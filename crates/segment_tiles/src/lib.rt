@@ -1,5 +1,6 @@
 // A quick test of the segment pool: blocks that lie side by side from the first word to the last, and an index that is
 // theirs. No unit is marked: the map has a bit for each word, set only where a record's block begins.
+// Slices are lent on as `&*slice`, which keeps pointer and length in registers (docs/DECISIONS.md, what crosses calls).
 use control_words::free_at;
 use control_words::is_held;
 use control_words::size_at;

@@ -1,4 +1,5 @@
 // The tree pool's soundness check: the free tree in an arena, over any memory, and the gate before every call.
+// Slices are lent on as `&*slice`, which keeps pointer and length in registers (docs/DECISIONS.md, what crosses calls).
 use free_tree::left_of;
 use free_tree::length_of;
 use free_tree::right_of;

@@ -1,5 +1,6 @@
 // A quick test that a tree pool is stored right: its free blocks and its records lie side by side like tiles. Where it
 // says yes, the pool is; where it says no, the exact check decides.
+// Slices are lent on as `&*slice`, which keeps pointer and length in registers (docs/DECISIONS.md, what crosses calls).
 use free_tree::left_of;
 use free_tree::length_of;
 use free_tree::right_of;

@@ -183,7 +183,7 @@ pub fn split(arena: &mut [u32], l: usize, x: usize) -> Sides
     }
 }
 
-// The same, without a call where there is no tree, which is so at most places of an insertion.
+// The same for an insertion, which often has no tree to split: then no call is made.
 fn parts(arena: &mut [u32], l: usize, x: usize) -> Sides
     requires { ⌜ ((t : Tree) × At formOne links (now arena) l t) ⌝ }
     ensures { λ r. ⌜ Parts formOne links (now (arena .entry)) (now (arena .exit)) l x (r .lo) (r .hi) ⌝ }

@@ -25,7 +25,7 @@ use Rattle.stored_forms.proofs.NodeLaws.{readable-one, within-le, link-within}
 use Rattle.stored_forms.proofs.NodeLaws.{in-range, covered-in, in-covered, holds-reads, holds-stored, nodeWord-zero}
 use Rattle.free_tree.specs.Shapes.{insert, delete, shrink, dropRun, beginsAt}
 use Rattle.free_tree.specs.Held.{links, cells, Same, NodeCleared, At, Became, NoNode, NoNodeNor, Deleted}
-use Rattle.free_tree.specs.Held.{Longer, Shrunk}
+use Rattle.free_tree.specs.Held.{Longer, Shrunk, Seat}
 use Rattle.free_tree.proofs.RunOrder.{startsBelow, startsFrom, beginsElsewhere, putRun-between, dropRun-past}
 use Rattle.free_tree.proofs.RunOrder.{firstThat-past}
 use Rattle.free_tree.proofs.ChangeLaws.{within-delete, insert-tree, delete-tree}
@@ -367,8 +367,8 @@ module _ {m : Words} {root : ℕ} (xs : List Run) (r : Run) (ys : List Run) (lie
 
 -- ---- by the code's own numbers
 
-pub take-in : {m : Words} {root block k : ℕ}
-    → ((xs : List Run) × (r : Run) × (ys : List Run) × Takes m root block k xs r ys)
+pub take-in : {m : Words} {root block over k : ℕ}
+    → ((xs : List Run) × (r : Run) × (ys : List Run) × Takes m root block over k xs r ys)
     → (block - 1 < cells formOne m) × (block - 1 + k < links)
 take-in (xs, r, ys, p) =
     let b = place xs r ys (p .lies) in
@@ -376,15 +376,25 @@ take-in (xs, r, ys, p) =
     let inside = b .inside in
     (omega (arith, p .at), omega (arith, p .at, p .enough, p .lies .tree .small))
 
-module _ {m : Words} {root block k n : ℕ} (len : n ≡ lengthAt formOne m (block - 1)) where
-  at-block : (xs : List Run) (r : Run) (ys : List Run) → Takes m root block k xs r ys
+pub take-tree : {m : Words} {root block over k : ℕ}
+    → ((xs : List Run) × (r : Run) × (ys : List Run) × Takes m root block over k xs r ys)
+    → (t : Tree) × At formOne links m root t
+take-tree (xs, r, ys, p) = (treeOf (xs ++ r ∷ ys), p .lies .tree)
+
+pub take-seat : {m : Words} {root block over k : ℕ}
+    → ((xs : List Run) × (r : Run) × (ys : List Run) × Takes m root block over k xs r ys)
+    → Seat formOne links m root block over
+take-seat (xs, r, ys, p) = p .seat
+
+module _ {m : Words} {root block over k n : ℕ} (len : n ≡ lengthAt formOne m (block - 1)) where
+  at-block : (xs : List Run) (r : Run) (ys : List Run) → Takes m root block over k xs r ys
       → (block - 1 ≡ r .start) × (n ≡ r .size)
   at-block xs r ys p =
       let e : block - 1 ≡ r .start = omega (arith, p .at) in
       (e, len ∙ ap (lengthAt formOne m) e ∙ block-length xs r ys (p .lies))
 
   -- some of the block is left
-  pub take-longer : k < n → ((xs : List Run) × (r : Run) × (ys : List Run) × Takes m root block k xs r ys)
+  pub take-longer : k < n → ((xs : List Run) × (r : Run) × (ys : List Run) × Takes m root block over k xs r ys)
       → (t : Tree) × (i : ℕ) × Longer formOne links m root (run (block - 1) i) k t
   take-longer h (xs, r, ys, p) =
       let (e, f) = at-block xs r ys p in (
@@ -394,14 +404,14 @@ module _ {m : Words} {root block k n : ℕ} (len : n ≡ lengthAt formOne m (blo
       )
 
   pub take-part : {m₁ m₂ : Words} {q : ℕ} → k < n → Shrunk formOne links m m₁ root (block - 1) k q
-      → NodeCleared formOne m₁ m₂ (block - 1) → Taken m m₂ root block k q
+      → NodeCleared formOne m₁ m₂ (block - 1) → Taken m m₂ root block over k q
   take-part h shr clear xs r ys p =
       let (e, f) = at-block xs r ys p in
       part-taken xs r ys (p .lies) k (omega arith) (p .some) (rw e at shr) (rw e at clear)
 
   -- nothing is left
   pub take-whole : {m₁ m₂ : Words} {q : ℕ} → n ≤ k → Deleted formOne links m m₁ root (block - 1) q
-      → NodeCleared formOne m₁ m₂ (block - 1) → Taken m m₂ root block k q
+      → NodeCleared formOne m₁ m₂ (block - 1) → Taken m m₂ root block over k q
   take-whole h del clear xs r ys p =
       let (e, f) = at-block xs r ys p in
       whole-taken xs r ys (p .lies) k (emptied xs r ys (p .lies) (rw e at del) (rw e at clear))

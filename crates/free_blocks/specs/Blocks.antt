@@ -9,7 +9,7 @@ use Rattle.words.specs.Lists.{Words}
 use Rattle.ledger.specs.Runs.{Run, covered, Gapped}
 use Rattle.ledger.specs.Runs.{addRun, shorten}
 use Rattle.stored_forms.specs.Tree.{formOne, treeOf}
-use Rattle.free_tree.specs.Held.{links, cells, At}
+use Rattle.free_tree.specs.Held.{links, cells, At, Seat}
 
 -- At the link `root` lies the tree of the runs rs, which lie apart and in order.
 pub record Lies (m : Words) (root : ℕ) (rs : List Run) : Type 0 where
@@ -24,10 +24,12 @@ pub record Changed (m m′ : Words) (rs rs′ : List Run) (root′ : ℕ) : Type
 
 -- ---- taking
 
--- the free block r, at the link `block`, has the k cells that are to be taken from its low end
-pub record Takes (m : Words) (root block k : ℕ) (xs : List Run) (r : Run) (ys : List Run) : Type 0 where
+-- The free block r, at the link `block`, has the k cells that are to be taken from its low end. Its father is at the
+-- link `over`.
+pub record Takes (m : Words) (root block over k : ℕ) (xs : List Run) (r : Run) (ys : List Run) : Type 0 where
   pub lies : Lies m root (xs ++ r ∷ ys)
   pub at : block ≡ suc (r .start)
+  pub seat : Seat formOne links m root block over
   pub some : 1 ≤ k
   pub enough : k ≤ r .size
 
@@ -36,9 +38,9 @@ pub record TakenFrom (m m′ : Words) (k root′ : ℕ) (xs : List Run) (r : Run
   pub change : Changed m m′ (xs ++ r ∷ ys) (xs ++ shorten k r ys) root′
   pub zeros : (i : ℕ) → 2 * r .start ≤ i → i < 2 * (r .start + k) → getD m′ i 0 ≡ 0
 
-abbrev pub Taken : Words → Words → ℕ → ℕ → ℕ → ℕ → Type 0
-Taken m m′ root block k root′ =
-    (xs : List Run) (r : Run) (ys : List Run) → Takes m root block k xs r ys → TakenFrom m m′ k root′ xs r ys
+abbrev pub Taken : Words → Words → ℕ → ℕ → ℕ → ℕ → ℕ → Type 0
+Taken m m′ root block over k root′ =
+    (xs : List Run) (r : Run) (ys : List Run) → Takes m root block over k xs r ys → TakenFrom m m′ k root′ xs r ys
 
 -- ---- giving back
 

@@ -3,23 +3,24 @@
 ghost use mathlib.Core.List.{List, _∷_, _++_};
 ghost use Prim.Native.Nat.{ℕ, _-_};
 ghost use Rattle.ledger.specs.Runs.{Run, run};
+ghost use Rattle.free_tree.specs.Shapes.{endsAt, beginsAt};
 ghost use Rattle.free_blocks.specs.Blocks.{Lies, Takes, Taken, Gives, Given};
 ghost use Rattle.free_blocks.specs.Giving.{HeldCell, TakenOut, MergedBelow, MergedAbove};
 
-// Takes the first `k` cells of the free block at the link `block`, and returns the link to the tree of what is left.
-// The cells taken read zero.
-pub fn take_cells(arena: &mut [u32], root: usize, block: usize, k: usize) -> usize
-    requires { ⌜ ((xs : List Run) × (r : Run) × (ys : List Run) × Takes (now arena) root block k xs r ys) ⌝ }
-    ensures { λ q. ⌜ Taken (now (arena .entry)) (now (arena .exit)) root block k q ⌝ }
+// Takes the first `k` cells of the free block at the link `block`, whose father is at the link `over`, and returns the
+// link to the tree of what is left. The cells taken read zero.
+pub fn take_cells(arena: &mut [u32], root: usize, block: usize, over: usize, k: usize) -> usize
+    requires { ⌜ ((xs : List Run) × (r : Run) × (ys : List Run) × Takes (now arena) root block over k xs r ys) ⌝ }
+    ensures { λ q. ⌜ Taken (now (arena .entry)) (now (arena .exit)) root block over k q ⌝ }
 {
     let c = block - 1;
     let n = free_tree::length_of(arena, c) as usize;
     if k < n {
-        let whole = free_tree::shrink(arena, root, c, k);
+        let whole = free_tree::shrink(arena, root, block, over, k);
         free_tree::clear_node(arena, c);
         return whole;
     }
-    let rest = free_tree::delete(arena, root, c);
+    let rest = free_tree::delete_at(arena, root, block, over);
     free_tree::clear_node(arena, c);
     rest
 }
@@ -41,13 +42,12 @@ struct Merge {
     cell: usize,
 }
 
-// Takes out the free block that ends at cell `lo`. The merged block begins where that block does, or at `lo` if none
-// touches.
-fn merge_below(arena: &mut [u32], root: usize, lo: usize) -> Merge
-    requires { ⌜ ((rs : List Run) × HeldCell (now arena) root lo rs) ⌝ }
-    ensures { λ q. ⌜ MergedBelow (now (arena .entry)) (now (arena .exit)) root lo (q .root) (q .cell) ⌝ }
+// Takes out the free block at the link `block`, which ends at cell `lo`. The merged block begins where that block does,
+// or at `lo` if there is none.
+fn merge_below(arena: &mut [u32], root: usize, block: usize, lo: usize) -> Merge
+    requires { ⌜ ((rs : List Run) × HeldCell (now arena) root lo (endsAt lo) block rs) ⌝ }
+    ensures { λ q. ⌜ MergedBelow (now (arena .entry)) (now (arena .exit)) root block lo (q .root) (q .cell) ⌝ }
 {
-    let block = free_tree::ending_at(arena, root, lo);
     if block == 0 {
         return Merge { root, cell: lo };
     }
@@ -59,13 +59,12 @@ fn merge_below(arena: &mut [u32], root: usize, lo: usize) -> Merge
     }
 }
 
-// Takes out the free block that begins at cell `hi`. The merged block ends where that block does, or at `hi` if none
-// touches.
-fn merge_above(arena: &mut [u32], root: usize, hi: usize) -> Merge
-    requires { ⌜ ((rs : List Run) × HeldCell (now arena) root (hi - 1) rs) ⌝ }
-    ensures { λ q. ⌜ MergedAbove (now (arena .entry)) (now (arena .exit)) root hi (q .root) (q .cell) ⌝ }
+// Takes out the free block at the link `block`, which begins at cell `hi`. The merged block ends where that block does,
+// or at `hi` if there is none.
+fn merge_above(arena: &mut [u32], root: usize, block: usize, hi: usize) -> Merge
+    requires { ⌜ ((rs : List Run) × HeldCell (now arena) root (hi - 1) (beginsAt hi) block rs) ⌝ }
+    ensures { λ q. ⌜ MergedAbove (now (arena .entry)) (now (arena .exit)) root block hi (q .root) (q .cell) ⌝ }
 {
-    let block = free_tree::beginning_at(arena, root, hi);
     if block == 0 {
         return Merge { root, cell: hi };
     }
@@ -85,10 +84,13 @@ pub fn give_cells(arena: &mut [u32], root: usize, lo: usize, hi: usize) -> usize
     ensures { λ q. ⌜ Given (now (arena .entry)) (now (arena .exit)) root lo hi q ⌝ }
 {
     words::wipe_part(arena, 2 * lo, 2 * hi);
-    let below = merge_below(arena, root, lo);
+    let touched = free_tree::touching(arena, root, lo, hi);
+    let under = touched.lo;
+    let over = touched.hi;
+    let below = merge_below(arena, root, under, lo);
     let first = below.cell;
     let others = below.root;
-    let above = merge_above(arena, others, hi);
+    let above = merge_above(arena, others, over, hi);
     let end = above.cell;
     let rest = above.root;
     free_tree::insert(arena, rest, first, (end - first) as u32)

@@ -3,7 +3,7 @@
 use Prim.Native.Nat.{ℕ, suc, _+_, _-_, _≤_, _<_}
 use native.Mathlib.Omega.{arith}
 use native.Mathlib.Numerals.{add-one}
-use mathlib.Core.Path.{_≡_, sym, _∙_}
+use mathlib.Core.Path.{_≡_, sym, _∙_, subst}
 use mathlib.Core.Logic.{_≢_}
 use mathlib.Core.Bool.{false}
 use lib.ListN.{length}
@@ -15,7 +15,7 @@ use Rattle.stored_forms.specs.Blocks.{NotFirst}
 use Rattle.stored_forms.proofs.NodeLaws.{Readable}
 use Rattle.free_tree.specs.Shapes.{below, above, standsAbove, insert, delete, Stops, beginsAt}
 use Rattle.free_tree.specs.Held.{cells, NodePut, At, Became, NoNode, NoNodeNor, Beside}
-use Rattle.free_tree.specs.Held.{BothJoined, Parted, Parts, Apart, Room, Deleted}
+use Rattle.free_tree.specs.Held.{BothJoined, Parted, Parts, Apart, Room, Deleted, Placed, Seat}
 use Rattle.free_tree.proofs.RunOrder.{wider}
 use Rattle.free_tree.proofs.PartLaws.{below-apart, above-apart}
 use Rattle.free_tree.proofs.ChangeLaws.{within-insert, within-delete}
@@ -200,3 +200,19 @@ module _ {F : Form} {bound : ℕ} (readable : Readable F bound) where
           out = λ d o. (o .2, o .1);
         };
   }
+
+  -- the search for cell x has ended at the link `at`, below the link `over`: the node there is the run's
+  module _ {m : Words} {l x at over : ℕ} (placed : Placed F bound m l (beginsAt x) x at over) (z : at ≢ 0) where
+    placed-cell : ((T : Tree) × At F bound m l T) → at - 1 ≡ x
+    placed-cell (T, p) =
+        let w = placed T p in
+        rooted (λ t. Stops (beginsAt x) t → at - 1 ≡ x) z (λ a n b q e. eqb-eq (at - 1) x e) (w .sub) (w .tree)
+        (w .end)
+
+    pub placed-seat : ((T : Tree) × At F bound m l T) → Seat F bound m l at over
+    placed-seat tree =
+        (z, subst (λ y. Placed F bound m l (beginsAt y) y at over) (sym (placed-cell tree)) placed)
+
+    pub seat-deleted : {m′ : Words} {k : ℕ} → Deleted F bound m m′ l (at - 1) k → Deleted F bound m m′ l x k
+    seat-deleted {m′} {k} done t p =
+        subst (λ y. Became F bound m m′ (NoNode t) k (delete y t)) (placed-cell (t, p)) (done t p)

@@ -14,3 +14,4 @@ pub mod ShrinkSteps
 pub mod FormOne
 pub mod Numbers
 pub mod SeekSteps
+pub mod TouchSteps

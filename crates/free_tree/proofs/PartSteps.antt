@@ -1,8 +1,8 @@
 -- The split by address in an arena, over the form: one law for each way through it. Assumes of a form that its nodes
 -- are readable.
-use Prim.Native.Nat.{ℕ, _+_, _-_, _≤_, _<_}
+use Prim.Native.Nat.{ℕ, _+_, _-_, _/_, _%_, _≤_, _<_}
 use native.Mathlib.Omega.{arith}
-use mathlib.Core.Path.{_≡_, refl, subst}
+use mathlib.Core.Path.{_≡_, refl, sym, subst}
 use mathlib.Core.Logic.{_≢_}
 use Rattle.words.specs.Lists.{Words}
 use Rattle.words.proofs.Tests.{of-lt, of-ge}
@@ -21,6 +21,12 @@ module _ {F : Form} {bound : ℕ} (readable : Readable F bound) where
     where
       none : {off : ℕ → Type 0} → Became F bound m m off 0 leaf
       none = unchanged readable (record { at = refl; holds = tt; within = omega arith; small = p .small })
+
+  -- the links to both parts in one number
+  pub parts-both : {m m′ : Words} {l x lo hi : ℕ} (both : ℕ) → (both % bound ≡ lo) × (both / bound ≡ hi)
+      → Parts F bound m m′ l x lo hi → Parts F bound m m′ l x (both % bound) (both / bound)
+  parts-both {m} {m′} {l} {x} {lo} both (e, f) p =
+      subst (λ i. Parts F bound m m′ l x i (both / bound)) (sym e) (subst (Parts F bound m m′ l x lo) (sym f) p)
 
   module _ {m m₁ m′ : Words} {l x s lo hi : ℕ} (z : l ≢ 0) (post : Parts F bound m m₁ s x lo hi) where
     pub parts-right : s ≡ rightAt F m (l - 1) → l - 1 < x → RightSet F m₁ m′ (l - 1) lo → Parts F bound m m′ l x l hi

@@ -48,7 +48,7 @@ module _ {A : Type 0} where
       rw (not-true (p x) (and-l (not (p x)) (all (λ x. not (p x)) xs) h))
       (firstThat-past p xs ys (and-r (not (p x)) (all (λ x. not (p x)) xs) h))
 
-  firstThat-none : (p : A → Bool) (xs : List A) → all (λ x. not (p x)) xs ≡ true → firstThat p xs ≡ none
+  pub firstThat-none : (p : A → Bool) (xs : List A) → all (λ x. not (p x)) xs ≡ true → firstThat p xs ≡ none
   firstThat-none p xs h = ap (firstThat p) (sym (append-nil xs)) ∙ firstThat-past p xs [] h
 
   pub firstThat-before : (p : A → Bool) (xs ys : List A) → all (λ x. not (p x)) ys ≡ true

@@ -1,24 +1,21 @@
--- Searches down the free tree: one law for each way through a turn of the loop. Assumes of a form that its nodes are
--- readable.
+-- The search for the leftmost fit: one law for each way through a turn of the loop, and the way to what it finds.
+-- Assumes of a form that its nodes are readable.
 use Prim.Native.Nat.{ℕ, suc, _+_, _-_, _≤_, _<_}
 use native.Mathlib.Omega.{arith}
-use mathlib.Core.Path.{_≡_, refl, sym, ap, _∙_}
+use mathlib.Core.Path.{_≡_, refl, sym, ap, _∙_, subst}
 use mathlib.Core.Logic.{_≢_}
-use mathlib.Core.Bool.{Bool, true, false, cond, not}
-use mathlib.Core.List.{_∷_, _++_}
+use mathlib.Core.Bool.{Bool, true, false, cond}
 use mathlib.Core.Option.{none, some}
-use Rattle.words.specs.Lists.{Words, all, firstThat}
-use Rattle.words.proofs.Tests.{and-i, of-le, of-gt}
+use Rattle.words.specs.Lists.{Words}
+use Rattle.words.proofs.Tests.{eqb-same, eqb-ne, of-le, of-gt}
 use Rattle.ledger.specs.Runs.{Run, run}
-use Rattle.stored_forms.specs.Tree.{Tree, leaf, node, inorder, Form, lengthAt, leftAt, rightAt}
-use Rattle.stored_forms.specs.Blocks.{rootFits, leftmost}
+use Rattle.stored_forms.specs.Tree.{Tree, leaf, node, Form, lengthAt, leftAt}
+use Rattle.stored_forms.specs.Blocks.{Within, rootFits, leftmost}
 use Rattle.stored_forms.proofs.TreeLaws.{longEnough}
-use Rattle.stored_forms.proofs.NodeLaws.{Readable}
-use Rattle.free_tree.specs.Shapes.{beginsAt, linkTo}
-use Rattle.free_tree.specs.Held.{cells, At, Placed, LeftmostFound, RunFound}
-use Rattle.free_tree.proofs.RunOrder.{within-all, firstThat-past, firstThat-before}
-use Rattle.free_tree.proofs.StepLaws.{rooted-length, at-none, at-left, at-right}
-use Rattle.free_tree.proofs.ShrinkLaws.{place-found}
+use Rattle.stored_forms.proofs.NodeLaws.{Readable, within-le, link-within}
+use Rattle.free_tree.specs.Shapes.{Under, whole, goLeft, Stops, beginsAt, linkTo}
+use Rattle.free_tree.specs.Held.{cells, At, Seat, LeftmostFound}
+use Rattle.free_tree.proofs.StepLaws.{rooted, rooted-length, at-none, at-left}
 
 -- the link to the leftmost fit of a tree whose root fits, else the last link that fitted
 abbrev fitOr : ℕ → Tree → ℕ → ℕ
@@ -42,19 +39,17 @@ fit-left n a q b d h = rw (of-le n (q .size) h) (go (rootFits n a))
     go true = refl
     go false = refl
 
-abbrev fails : (Run → Bool) → Run → Bool
-fails p r = not (p r)
-
 -- what the search for n cells at the link l has left to find; d is the last link that fitted
 abbrev pub FitLeft : Form → ℕ → Words → ℕ → ℕ → ℕ → ℕ → Type 0
 FitLeft F bound m root n l d =
     (T : Tree) → At F bound m root T → (t : Tree) × At F bound m l t × (linkTo (leftmost n T) ≡ fitOr n t d)
 
--- what the search for a run that passes has left to find at the link l
-abbrev pub RunLeft : Form → ℕ → Words → ℕ → (Run → Bool) → ℕ → Type 0
-RunLeft F bound m root p l =
+-- From the root to the subtree at the link l the way goes left alone, and its father is at the link `over`. So it is
+-- the way to any cell below the nodes on it.
+abbrev pub OnLeft : Form → ℕ → Words → ℕ → ℕ → ℕ → Type 0
+OnLeft F bound m root l over =
     (T : Tree) → At F bound m root T
-    → (t : Tree) × At F bound m l t × (firstThat p (inorder T) ≡ firstThat p (inorder t))
+    → (t : Tree) × At F bound m l t × (h : ℕ) × Within 0 h t × ((x : ℕ) → x < h → Under (beginsAt x) x T t over)
 
 module _ {F : Form} {bound : ℕ} (readable : Readable F bound) where
   -- ---- leftmost fit
@@ -88,75 +83,36 @@ module _ {F : Form} {bound : ℕ} (readable : Readable F bound) where
           e ∙ fit-left n a (run (l - 1) k) b d h ∙ ap (fitOr n a) (q .at),
         )) t q e
 
-  -- ---- the run that passes
+  -- ---- the way to it
 
-  pub run-start : {m : Words} {root : ℕ} (p : Run → Bool) → RunLeft F bound m root p root
-  run-start p T q = (T, q, refl)
+  pub left-start : {m : Words} {root : ℕ} → OnLeft F bound m root root 0
+  left-start {m} T p = (T, p, cells F m, p .within, λ x h. whole)
 
-  pub run-tree : {m : Words} {root l : ℕ} {p : Run → Bool} → RunLeft F bound m root p l
-      → ((T : Tree) × At F bound m root T)
-      → (t : Tree) × At F bound m l t
-  run-tree inv (T, q) = let (t, r, e) = inv T q in (t, r)
+  module _ {m : Words} {root l over : ℕ} (z : l ≢ 0) (inv : OnLeft F bound m root l over) where
+    pub left-next : {s : ℕ} → s ≡ leftAt F m (l - 1) → OnLeft F bound m root s l
+    left-next {s} f T p =
+        let (t, q, h, w, u) = inv T p in
+        rooted
+        (λ t. Within 0 h t → ((x : ℕ) → x < h → Under (beginsAt x) x T t over)
+        → (t : Tree) × At F bound m s t × (h : ℕ) × Within 0 h t × ((x : ℕ) → x < h → Under (beginsAt x) x T t l)) z
+        (λ a n b q w u. (
+          a,
+          at-left readable q f,
+          l - 1,
+          w .0,
+          λ x k. subst (Under (beginsAt x) x T a) (q .at)
+              (goLeft (u x (omega (arith, within-le b (l - 1 + n) h (w .2)))) (eqb-ne (l - 1) x (λ e. omega arith)) k),
+        )) t q w u
 
-  pub run-end : {m : Words} {root l : ℕ} {p : Run → Bool} → l ≡ 0 → RunLeft F bound m root p l
-      → RunFound F bound m root p 0
-  run-end {p = p} z inv T q =
-      let (t, r, e) = inv T q in
-      sym (ap linkTo (e ∙ at-none (λ t. firstThat p (inorder t) ≡ none) z refl t r))
-
-  -- the run that begins at cell x is where the search for its place ends
-  pub run-place : {m : Words} {root x at over : ℕ} → Placed F bound m root (beginsAt x) x at over
-      → RunFound F bound m root (beginsAt x) at
-  run-place {m} placed T p =
-      let w = placed T p in
-      sym (place-found 0 (cells F m) (p .within) (w .sub) (w .way) (w .end) ∙ w .tree .at)
-
-  -- k is the root's length, and no run on one side of it passes
-  module _ {m : Words} {root l k : ℕ} {p : Run → Bool} (z : l ≢ 0) (len : k ≡ lengthAt F m (l - 1))
-      (inv : RunLeft F bound m root p l) where
-    pub run-here : p (run (l - 1) k) ≡ true
-        → ((r : Run) → r .start < l - 1 → r .start + r .size < l - 1 + k → p r ≡ false) → RunFound F bound m root p l
-    run-here f other T q =
-        let (t, r, e) = inv T q in
-        sym (ap linkTo e ∙ rooted-length readable (λ t. linkTo (firstThat p (inorder t)) ≡ l) z len
-        (λ a b r.
-        let c = l - 1 in
-        let some-cells = r .within .1 in
-        let found : firstThat p (inorder a ++ run c k ∷ inorder b) ≡ some (run c k) =
-        firstThat-past p (inorder a) (run c k ∷ inorder b)
-        (within-all (fails p) a 0 c (r .within .0) (λ s u v w. ap not (other s (omega arith) (omega arith)))) ∙ rw f in
-        ap linkTo found ∙ r .at) t r)
-
-    -- the son's part of what is left, where no other run passes
-    to-son : {s : ℕ} (son : Tree → Tree → Tree)
-        → ((a b : Tree) → At F bound m l (node a (run (l - 1) k) b) → At F bound m s (son a b))
-        → ((a b : Tree) → At F bound m l (node a (run (l - 1) k) b)
-        → firstThat p (inorder (node a (run (l - 1) k) b)) ≡ firstThat p (inorder (son a b)))
-        → RunLeft F bound m root p s
-    to-son {s} son f g T q =
-        let (t, r, e) = inv T q in
-        rooted-length readable
-        (λ t. firstThat p (inorder T) ≡ firstThat p (inorder t)
-        → (t : Tree) × At F bound m s t × (firstThat p (inorder T) ≡ firstThat p (inorder t))) z len
-        (λ a b r e. (son a b, f a b r, e ∙ g a b r)) t r e
-
-    pub run-left : {s : ℕ} → s ≡ leftAt F m (l - 1)
-        → ((r : Run) → l - 1 ≤ r .start → l - 1 + k ≤ r .start + r .size → p r ≡ false) → RunLeft F bound m root p s
-    run-left f other =
-        to-son (λ a b. a) (λ a b r. at-left readable r f)
-        (λ a b r.
-        let c = l - 1 in
-        firstThat-before p (inorder a) (run c k ∷ inorder b)
-        (and-i (fails p (run c k)) (all (fails p) (inorder b)) (ap not (other (run c k) (omega arith) (omega arith)))
-        (within-all (fails p) b (c + k) (cells F m) (r .within .2)
-        (λ s u v w. ap not (other s (omega arith) (omega arith))))))
-
-    pub run-right : {s : ℕ} → s ≡ rightAt F m (l - 1)
-        → ((r : Run) → r .start ≤ l - 1 → r .start + r .size ≤ l - 1 + k → p r ≡ false) → RunLeft F bound m root p s
-    run-right f other =
-        to-son (λ a b. b) (λ a b r. at-right readable r f)
-        (λ a b r.
-        let c = l - 1 in
-        firstThat-past p (inorder a) (run c k ∷ inorder b)
-        (within-all (fails p) a 0 c (r .within .0) (λ s u v w. ap not (other s (omega arith) (omega arith))))
-        ∙ rw (other (run c k) (omega arith) (omega arith)))
+    pub left-seat : Seat F bound m root l over
+    left-seat = (
+      z,
+      λ T p.
+          let (t, q, h, w, u) = inv T p in
+          record {
+            sub = t;
+            tree = q;
+            way = u (l - 1) (omega (arith, link-within t 0 h w, q .at));
+            end = rooted (Stops (beginsAt (l - 1))) z (λ a n b q. eqb-same (l - 1)) t q;
+          },
+    )

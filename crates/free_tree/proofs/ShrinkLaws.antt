@@ -8,22 +8,23 @@ use mathlib.Core.List.{List, [], _∷_, _++_}
 use mathlib.Core.Option.{Option, some}
 use lib.Dec.{leb, ltb}
 use Rattle.words.specs.Lists.{all, firstThat}
-use Rattle.words.proofs.Tests.{false-of, and-l, and-r, and-i, eqb-same, eqb-ne, le-of, of-le, lt-of, of-lt, not-lt, of-ge}
-use Rattle.words.proofs.Tests.{eqb-eq, absurd-some}
+use Rattle.words.proofs.Tests.{false-of, and-l, and-r, and-i, eqb-same, eqb-ne, le-of, of-le, lt-of, of-lt, not-lt}
+use Rattle.words.proofs.Tests.{of-ge}
+use Rattle.words.proofs.Tests.{absurd-some}
 use Rattle.ledger.specs.Runs.{Run, run}
-use Rattle.stored_forms.specs.Tree.{Tree, leaf, node, inorder, Heaped, shorter, noLonger, link}
+use Rattle.stored_forms.specs.Tree.{Tree, leaf, node, inorder, Heaped, shorter, noLonger}
 use Rattle.stored_forms.proofs.TreeLaws.{tree-unique}
 use Rattle.stored_forms.specs.Blocks.{Within, NotFirst}
 use Rattle.stored_forms.proofs.NodeLaws.{within-le}
 use Rattle.free_tree.specs.Shapes.{below, above, join, standsAbove, insert, delete, standsOver, settle, shrink}
-use Rattle.free_tree.specs.Shapes.{Under, whole, goLeft, goRight, Stops, putRun, beginsAt, linkTo}
+use Rattle.free_tree.specs.Shapes.{putRun, beginsAt}
 use Rattle.free_tree.specs.Held.{Apart}
 use Rattle.free_tree.proofs.RunOrder.{wider, within-all, firstThat-past, firstThat-before, beginsElsewhere}
 use Rattle.free_tree.proofs.RunOrder.{startsBelow, startsFrom, putRun-between}
 use Rattle.free_tree.proofs.JoinLaws.{all-top, join-by, inorder-join, heaped-join, within-join}
 use Rattle.free_tree.proofs.PartLaws.{inorder-parts, starts-below, starts-above}
 use Rattle.free_tree.proofs.ChangeLaws.{stands-true, inorder-insert, heaped-insert, within-insert}
-use Rattle.free_tree.proofs.ChangeSteps.{apart-no-node, beyond}
+use Rattle.free_tree.proofs.ChangeSteps.{apart-no-node}
 
 -- ---- a run between two trees
 
@@ -171,27 +172,8 @@ module _ (x : ℕ) (a : Tree) (q : Run) (b : Tree) (lo hi : ℕ) (w : Within lo 
   pub found-right : q .start < x → find (inorder (node a q b)) ≡ find (inorder b)
   found-right h = past (omega arith) ∙ rw (eqb-ne (q .start) x (λ z. omega arith))
 
-  found-here : q .start ≡ x → find (inorder (node a q b)) ≡ some q
+  pub found-here : q .start ≡ x → find (inorder (node a q b)) ≡ some q
   found-here e = past (omega arith) ∙ rw (e, eqb-same x)
-
--- the search for it ends at its node, or where there is none
-module _ {x : ℕ} {T : Tree} (lo hi : ℕ) (w : Within lo hi T) where
-  way-found : {t : Tree} {over : ℕ} → Under (beginsAt x) x T t over
-      → ((l : ℕ) × (h : ℕ) × Within l h t) × (firstThat (beginsAt x) (inorder T) ≡ firstThat (beginsAt x) (inorder t))
-  way-found whole = ((lo, hi, w), refl)
-  way-found (goLeft {a} {b} {q} v e h) =
-      let ((l, u, i), f) = way-found v in
-      ((l, q .start, i .0), f ∙ found-left x a q b l u i h)
-  way-found (goRight {a} {b} {q} v e h) =
-      let ((l, u, i), f) = way-found v in
-      ((q .start + q .size, u, i .2), f ∙ found-right x a q b l u i (beyond x q e h))
-
-  pub place-found : (t : Tree) {over : ℕ} → Under (beginsAt x) x T t over → Stops (beginsAt x) t
-      → linkTo (firstThat (beginsAt x) (inorder T)) ≡ link t
-  place-found leaf v e = ap linkTo (way-found v .1)
-  place-found (node a q b) v e =
-      let ((l, u, i), f) = way-found v in
-      ap linkTo (f ∙ found-here x a q b l u i (eqb-eq (q .start) x e))
 
 -- it lies in the range of its tree
 pub found-within : (x n : ℕ) (t : Tree) (lo hi : ℕ) → Within lo hi t

@@ -184,10 +184,6 @@ module _ {F : Form} {bound : ℕ} (readable : Readable F bound) where
 
   -- ---- at the run: what is left of it lies between its sons
 
-  pub longer-tree : {m : Words} {l x k : ℕ} → ((t : Tree) × (n : ℕ) × Longer F bound m l (run x n) k t)
-      → (t : Tree) × At F bound m l t
-  longer-tree (t, n, p) = (t, p .tree)
-
   pub root-tree : {m : Words} {l x k : ℕ} → LongerRoot F bound m l x k → (l ≢ 0) × ((t : Tree) × At F bound m l t)
   root-tree (t, n, e, p) = (longer-root p, (t, p .tree))
 

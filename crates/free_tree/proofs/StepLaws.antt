@@ -70,9 +70,6 @@ module _ {F : Form} {bound : ℕ} (readable : Readable F bound) where
     pub at-length : lengthAt F m c ≡ n
     at-length = node-reads .0
 
-    at-end : c + n < bound
-    at-end = omega (arith, within-le b (c + n) (cells F m) (p .within .2), p .small)
-
     pub at-left : {s : ℕ} → s ≡ leftAt F m c → At F bound m s a
     at-left e =
         let high = within-le b (c + n) (cells F m) (p .within .2) in
@@ -100,11 +97,6 @@ module _ {F : Form} {bound : ℕ} (readable : Readable F bound) where
       (λ a n b p.
       subst (λ i. At F bound m l (node a (run (l - 1) i) b) → P (node a (run (l - 1) i) b)) (len ∙ at-length p)
       (f a b) p)
-
-  -- the root's block ends in the arena
-  pub root-end : {m : Words} {l k : ℕ} → l ≢ 0 → k ≡ lengthAt F m (l - 1) → (t : Tree) → At F bound m l t
-      → l - 1 + k < bound
-  root-end {l = l} {k = k} z len = rooted-length (λ t. l - 1 + k < bound) z len (λ a b p. at-end p)
 
   -- ---- the number of nodes
 

@@ -1,9 +1,10 @@
 -- The free tree in an arena, over the form: what a step asks of the arena, and what it leaves. Assumes nothing.
-use Prim.Native.Nat.{ℕ, zero, suc, _+_, _*_, _/_, _≤_, _<_}
+use Prim.Native.Nat.{ℕ, zero, suc, _+_, _-_, _*_, _/_, _≤_, _<_}
 use mathlib.Core.Path.{_≡_}
 use mathlib.Core.Logic.{_≢_}
-use mathlib.Core.Bool.{Bool}
+use mathlib.Core.Bool.{Bool, cond}
 use mathlib.Core.Option.{some}
+use lib.Dec.{eqb}
 use lib.ListN.{length, getD}
 use Rattle.words.specs.Lists.{Words, firstThat}
 use Rattle.ledger.specs.Runs.{Run, run}
@@ -11,7 +12,7 @@ use Rattle.stored_forms.specs.Tree.{Tree, leaf, node, inorder, Form, cellWords,
 use Rattle.stored_forms.specs.Blocks.{leftmost}
 use Rattle.stored_forms.specs.Blocks.{Within, NotFirst, Holds, Zeros}
 use Rattle.free_tree.specs.Shapes.{top, join, below, above, insert, delete, standsOver, settle, shrink}
-use Rattle.free_tree.specs.Shapes.{Under, Stops, beginsAt, linkTo}
+use Rattle.free_tree.specs.Shapes.{Under, Stops, endsAt, beginsAt, linkTo}
 
 -- a link of the first form is half a word
 abbrev pub links : ℕ
@@ -134,6 +135,10 @@ pub record Place (F : Form) (bound : ℕ) (m : Words) (stop : Run → Bool) (x :
 abbrev pub Placed : Form → ℕ → Words → ℕ → (Run → Bool) → ℕ → ℕ → ℕ → Type 0
 Placed F bound m l stop x at over = (T : Tree) → At F bound m l T → Place F bound m stop x T at over
 
+-- the node at the link `at` is one of the tree at the link l, and its father has the link `over`, 0 for none
+abbrev pub Seat : Form → ℕ → Words → ℕ → ℕ → ℕ → Type 0
+Seat F bound m l at over = (at ≢ 0) × Placed F bound m l (beginsAt (at - 1)) (at - 1) at over
+
 -- The link q is set at the node at the link `over`, on the side where cell x is, and the link to the whole is `root` as
 -- before; where there is no such node, q is the link to the whole.
 abbrev pub Hung : Form → Words → Words → ℕ → ℕ → ℕ → ℕ → ℕ → Type 0
@@ -205,9 +210,25 @@ Shrunk F bound m m′ l x k q =
 
 -- ---- searches
 
--- the search of the tree at the link `root` gave k: the leftmost fit for n cells, or the run that passes
+-- the search of the tree at the link `root` gave k, the leftmost fit for n cells
 abbrev pub LeftmostFound : Form → ℕ → Words → ℕ → ℕ → ℕ → Type 0
 LeftmostFound F bound m root n k = (t : Tree) → At F bound m root t → k ≡ linkTo (leftmost n t)
 
-abbrev pub RunFound : Form → ℕ → Words → ℕ → (Run → Bool) → ℕ → Type 0
-RunFound F bound m root p k = (t : Tree) → At F bound m root t → k ≡ linkTo (firstThat p (inorder t))
+-- The tree lies at the link l, and none of its blocks has a cell from lo up to hi.
+pub record Clear (F : Form) (bound : ℕ) (m : Words) (l lo hi : ℕ) (t : Tree) : Type 0 where
+  pub tree : At F bound m l t
+  pub some : lo < hi
+  pub apart : Apart (run lo (hi - lo)) t
+
+-- it gave the links to the blocks that touch these cells: the one that ends at lo, and the one that begins at hi
+abbrev pub TouchFound : Form → ℕ → Words → ℕ → ℕ → ℕ → ℕ → ℕ → Type 0
+TouchFound F bound m root lo hi a b =
+    (t : Tree) → Clear F bound m root lo hi t
+    → (a ≡ linkTo (firstThat (endsAt lo) (inorder t))) × (b ≡ linkTo (firstThat (beginsAt hi) (inorder t)))
+
+-- a link, or 0 if it is 0, or its block does not end at cell x; does not begin there
+abbrev pub ifEnds : Form → Words → ℕ → ℕ → ℕ
+ifEnds F m x l = cond (eqb l 0) 0 (cond (eqb (l - 1 + lengthAt F m (l - 1)) x) l 0)
+
+abbrev pub ifBegins : ℕ → ℕ → ℕ
+ifBegins x l = cond (eqb l (x + 1)) l 0

@@ -2,17 +2,14 @@
 // form of the tree pool"). The functions on one node alone know how it lies in words; every other goes through them.
 ghost use mathlib.Core.Path.{_≡_};
 ghost use mathlib.Core.Logic.{_≢_};
-ghost use mathlib.Core.Bool.{Bool};
-ghost use Prim.Native.Nat.{ℕ, _+_, _≤_, _<_};
-ghost use Rattle.words.specs.Lists.{firstThat};
-ghost use Rattle.ledger.specs.Runs.{Run, run};
-ghost use Rattle.stored_forms.specs.Tree.{Tree, inorder, formOne, lengthAt, leftAt, rightAt};
-ghost use Rattle.stored_forms.specs.Blocks.{leftmost};
-ghost use Rattle.free_tree.specs.Shapes.{standsAbove, endsAt, beginsAt, linkTo};
+ghost use Prim.Native.Nat.{ℕ, _+_, _-_, _/_, _%_, _≤_, _<_};
+ghost use Rattle.ledger.specs.Runs.{run};
+ghost use Rattle.stored_forms.specs.Tree.{Tree, formOne, lengthAt, leftAt, rightAt};
+ghost use Rattle.free_tree.specs.Shapes.{standsAbove, beginsAt};
 ghost use Rattle.free_tree.specs.Held.{links, cells, NodePut, LeftSet, RightSet, NodeCleared, At, Beside};
 ghost use Rattle.free_tree.specs.Held.{LeftWins, RightWins, LeftJoined, RightJoined, BothJoined, Parts, Room};
 ghost use Rattle.free_tree.specs.Held.{Inserted, Deleted, OverRoot, Between, Settled, Longer, Shrunk};
-ghost use Rattle.free_tree.specs.Held.{LeftmostFound, RunFound, Placed, Hung};
+ghost use Rattle.free_tree.specs.Held.{LeftmostFound, Placed, Seat, Hung, Clear, TouchFound, ifEnds, ifBegins};
 
 // ---- one node
 
@@ -144,52 +141,60 @@ pub fn join_trees(arena: &mut [u32], a: usize, b: usize) -> usize
 
 // ---- split
 
-// The links to the two parts of a tree.
-pub struct Sides {
-    pub lo: usize,
-    pub hi: usize,
+// Two links in one number, as a node has them in its second word. A number comes back in a register, where a struct
+// would come back through memory.
+fn both_links(lo: usize, hi: usize) -> u32
+    requires { ⌜ (lo < links) × (hi < links) ⌝ }
+    ensures { λ r. ⌜ (r % links ≡ lo) × (r / links ≡ hi) ⌝ }
+{
+    lo as u32 + 65536 * hi as u32
 }
 
-// Splits the tree at the link `l` into its blocks below cell `x` and those from it on. Where there is nothing further
-// down, no call is made to find that out.
-pub fn split(arena: &mut [u32], l: usize, x: usize) -> Sides
-    requires { ⌜ ((t : Tree) × At formOne links (now arena) l t) ⌝ }
-    ensures { λ r. ⌜ Parts formOne links (now (arena .entry)) (now (arena .exit)) l x (r .lo) (r .hi) ⌝ }
+fn low_link(both: u32) -> usize
+    ensures { λ r. ⌜ r ≡ both % links ⌝ }
 {
-    if l == 0 {
-        return Sides { lo: 0, hi: 0 };
-    }
+    (both % 65536) as usize
+}
+
+fn high_link(both: u32) -> usize
+    ensures { λ r. ⌜ r ≡ both / links ⌝ }
+{
+    (both / 65536) as usize
+}
+
+// Splits the tree at the link `l`, which is not 0, into its blocks below cell `x` and those from it on, and returns
+// the links to both parts. Where there is nothing further down, no call is made to find that out.
+fn split(arena: &mut [u32], l: usize, x: usize) -> u32
+    requires { ⌜ (l ≢ 0) × ((t : Tree) × At formOne links (now arena) l t) ⌝ }
+    ensures { λ r. ⌜ Parts formOne links (now (arena .entry)) (now (arena .exit)) l x (r % links) (r / links) ⌝ }
+{
     let c = l - 1;
     if c < x {
         let s = right_of(arena, c);
         if s == 0 {
-            return Sides { lo: l, hi: 0 };
+            return both_links(l, 0);
         }
         let p = split(arena, s, x);
-        let lo = p.lo;
-        let hi = p.hi;
-        set_right(arena, c, lo);
-        Sides { lo: l, hi }
+        set_right(arena, c, low_link(p));
+        both_links(l, high_link(p))
     } else {
         let s = left_of(arena, c);
         if s == 0 {
-            return Sides { lo: 0, hi: l };
+            return both_links(0, l);
         }
         let p = split(arena, s, x);
-        let lo = p.lo;
-        let hi = p.hi;
-        set_left(arena, c, hi);
-        Sides { lo, hi: l }
+        set_left(arena, c, high_link(p));
+        both_links(low_link(p), l)
     }
 }
 
 // The same for an insertion, which often has no tree to split: then no call is made.
-fn parts(arena: &mut [u32], l: usize, x: usize) -> Sides
+fn parts(arena: &mut [u32], l: usize, x: usize) -> u32
     requires { ⌜ ((t : Tree) × At formOne links (now arena) l t) ⌝ }
-    ensures { λ r. ⌜ Parts formOne links (now (arena .entry)) (now (arena .exit)) l x (r .lo) (r .hi) ⌝ }
+    ensures { λ r. ⌜ Parts formOne links (now (arena .entry)) (now (arena .exit)) l x (r % links) (r / links) ⌝ }
 {
     if l == 0 {
-        return Sides { lo: 0, hi: 0 };
+        return 0;
     }
     split(arena, l, x)
 }
@@ -285,14 +290,25 @@ pub fn insert(arena: &mut [u32], l: usize, x: usize, n: u32) -> usize
     let at = p.at;
     let over = p.over;
     let s = parts(arena, at, x);
-    let lo = s.lo;
-    let hi = s.hi;
-    put_node(arena, x, n, lo, hi);
+    put_node(arena, x, n, low_link(s), high_link(s));
     hang(arena, l, over, x, x + 1)
 }
 
-// Takes the block at cell `x` out of the tree at the link `l`, and returns the link to the rest. The block's words
-// stay as they are.
+// Takes the block at the link `at` out of the tree at the link `l`, and returns the link to the rest. Its father is at
+// the link `over`. The block's words stay as they are.
+pub fn delete_at(arena: &mut [u32], l: usize, at: usize, over: usize) -> usize
+    requires { ⌜ ((t : Tree) × At formOne links (now arena) l t) ⌝ }
+    requires { ⌜ Seat formOne links (now arena) l at over ⌝ }
+    ensures { λ r. ⌜ Deleted formOne links (now (arena .entry)) (now (arena .exit)) l (at - 1) r ⌝ }
+{
+    let c = at - 1;
+    let a = left_of(arena, c);
+    let b = right_of(arena, c);
+    let q = join_trees(arena, a, b);
+    hang(arena, l, over, c, q)
+}
+
+// The same for the block at cell `x`, whose place is searched.
 pub fn delete(arena: &mut [u32], l: usize, x: usize) -> usize
     requires { ⌜ ((t : Tree) × At formOne links (now arena) l t) ⌝ }
     ensures { λ r. ⌜ Deleted formOne links (now (arena .entry)) (now (arena .exit)) l x r ⌝ }
@@ -303,11 +319,7 @@ pub fn delete(arena: &mut [u32], l: usize, x: usize) -> usize
     if at == 0 {
         return l;
     }
-    let c = at - 1;
-    let a = left_of(arena, c);
-    let b = right_of(arena, c);
-    let q = join_trees(arena, a, b);
-    hang(arena, l, over, x, q)
+    delete_at(arena, l, at, over)
 }
 
 // ---- shrink
@@ -339,70 +351,98 @@ fn settle(arena: &mut [u32], lo: usize, hi: usize, x: usize, n: u32) -> usize
     insert(arena, rest, x, n)
 }
 
-// The block at cell `x`, of more than `k` cells, gives up its first `k` cells in the tree at the link `l`. Returns the
-// link to the whole. What is left of it can only sink below its sons: no block above it is shorter. The words of its
-// first cell stay as they are.
-pub fn shrink(arena: &mut [u32], l: usize, x: usize, k: usize) -> usize
-    requires { ⌜ ((t : Tree) × (n : ℕ) × Longer formOne links (now arena) l (run x n) k t) ⌝ }
-    ensures { λ r. ⌜ Shrunk formOne links (now (arena .entry)) (now (arena .exit)) l x k r ⌝ }
+// The block at the link `at`, of more than `k` cells, gives up its first `k` cells in the tree at the link `l`. Its
+// father is at the link `over`. Returns the link to the whole. What is left of it can only sink below its sons: no
+// block above it is shorter. The words of its first cell stay as they are.
+pub fn shrink(arena: &mut [u32], l: usize, at: usize, over: usize, k: usize) -> usize
+    requires { ⌜ ((t : Tree) × (n : ℕ) × Longer formOne links (now arena) l (run (at - 1) n) k t) ⌝ }
+    requires { ⌜ Seat formOne links (now arena) l at over ⌝ }
+    ensures { λ r. ⌜ Shrunk formOne links (now (arena .entry)) (now (arena .exit)) l (at - 1) k r ⌝ }
 {
-    let p = place_of(arena, l, x);
-    let at = p.at;
-    let over = p.over;
     let c = at - 1;
     let a = left_of(arena, c);
     let b = right_of(arena, c);
     let n = length_of(arena, c) as usize;
-    let q = settle(arena, a, b, x + k, (n - k) as u32);
-    hang(arena, l, over, x, q)
+    let q = settle(arena, a, b, c + k, (n - k) as u32);
+    hang(arena, l, over, c, q)
 }
 
-// ---- searches: each returns a link, 0 for none
+// ---- searches: they return links, 0 for none
 
-// The first block of at least `cells` cells: as long as the root is long enough, go left.
-pub fn leftmost_fit(arena: &[u32], root: usize, cells: u32) -> usize
+// The first block of at least `cells` cells, and its father: as long as the root is long enough, go left.
+pub fn leftmost_fit(arena: &[u32], root: usize, cells: u32) -> Place
     requires { ⌜ ((t : Tree) × At formOne links (now arena) root t) ⌝ }
-    ensures { λ r. ⌜ LeftmostFound formOne links (now (arena .entry)) root cells r ⌝ }
+    ensures { λ r. ⌜ LeftmostFound formOne links (now (arena .entry)) root cells (r .at) ⌝ }
+    ensures { λ r. ⌜ (r .at ≢ 0 → Seat formOne links (now (arena .entry)) root (r .at) (r .over)) ⌝ }
 {
-    let mut found: usize = 0;
+    let mut at: usize = 0;
+    let mut over: usize = 0;
     let mut l = root;
     while l != 0 {
         let c = l - 1;
         if length_of(arena, c) < cells {
-            return found;
+            return Place { at, over };
         }
-        found = l;
+        over = at;
+        at = l;
         l = left_of(arena, c);
     }
-    found
+    Place { at, over }
 }
 
-// The block that ends at cell `x`: it touches a block that begins there from below.
-pub fn ending_at(arena: &[u32], root: usize, x: usize) -> usize
-    requires { ⌜ ((t : Tree) × At formOne links (now arena) root t) ⌝ }
-    ensures { λ r. ⌜ RunFound formOne links (now (arena .entry)) root (endsAt x) r ⌝ }
+// The links to the blocks below and above some cells.
+pub struct Sides {
+    pub lo: usize,
+    pub hi: usize,
+}
+
+// The link itself if its block ends at cell `x`, else 0.
+fn if_ends(arena: &[u32], l: usize, x: usize) -> usize
+    requires { ⌜ (l ≤ cells formOne (now arena)) × (l ≢ 0 → l - 1 + lengthAt formOne (now arena) (l - 1) < links) ⌝ }
+    ensures { λ r. ⌜ r ≡ ifEnds formOne (now (arena .entry)) x l ⌝ }
 {
-    let mut l = root;
-    while l != 0 {
-        let c = l - 1;
-        let end = c + length_of(arena, c) as usize;
-        if end == x {
-            return l;
-        }
-        if x < end {
-            l = left_of(arena, c);
-        } else {
-            l = right_of(arena, c);
-        }
+    if l == 0 {
+        return 0;
+    }
+    let c = l - 1;
+    if c + length_of(arena, c) as usize == x {
+        return l;
     }
     0
 }
 
-// The block that begins at cell `x`: it touches a block that ends there from above.
-pub fn beginning_at(arena: &[u32], root: usize, x: usize) -> usize
-    requires { ⌜ ((t : Tree) × At formOne links (now arena) root t) ⌝ }
-    ensures { λ r. ⌜ RunFound formOne links (now (arena .entry)) root (beginsAt x) r ⌝ }
+// The link itself if its block begins at cell `x`, else 0.
+fn if_begins(l: usize, x: usize) -> usize
+    requires { ⌜ x < links ⌝ }
+    ensures { λ r. ⌜ r ≡ ifBegins x l ⌝ }
 {
-    let p = place_of(arena, root, x);
-    p.at
+    if l == x + 1 {
+        return l;
+    }
+    0
+}
+
+// The blocks that touch the cells from `lo` up to `hi`, of which none is free: the one that ends at `lo`, and the one
+// that begins at `hi`. One search by address passes both: they are the last that it leaves below and above.
+pub fn touching(arena: &[u32], root: usize, lo: usize, hi: usize) -> Sides
+    requires { ⌜ (hi ≤ cells formOne (now arena)) × ((t : Tree) × Clear formOne links (now arena) root lo hi t) ⌝ }
+    ensures { λ r. ⌜ TouchFound formOne links (now (arena .entry)) root lo hi (r .lo) (r .hi) ⌝ }
+{
+    let mut below: usize = 0;
+    let mut above: usize = 0;
+    let mut l = root;
+    while l != 0 {
+        let c = l - 1;
+        if lo < c {
+            above = l;
+            l = left_of(arena, c);
+        } else {
+            below = l;
+            l = right_of(arena, c);
+        }
+    }
+    Sides {
+        lo: if_ends(arena, below, lo),
+        hi: if_begins(above, hi),
+    }
 }

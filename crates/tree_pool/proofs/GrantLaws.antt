@@ -232,7 +232,7 @@ pub fitted : (a : Words) (root n k block : ℕ) → k ≡ span (record { unit = 
 unfolding formOne
 fitted a root n k block e found = subst (λ (x : ℕ). LeftmostFound formOne links a root x block) e found
 
-module _ (h : Head) (a t : Words) (n slot block : ℕ) (f : granting.Found h a t n slot block) where
+module _ (h : Head) (a t : Words) (n slot block over : ℕ) (f : granting.Found h a t n slot block over) where
   abbrev lent : Pool
   lent = poolOf h a t
 
@@ -240,7 +240,7 @@ module _ (h : Head) (a t : Words) (n slot block : ℕ) (f : granting.Found h a t
   cell = block - 1
 
   linked : block ≡ suc cell
-  linked = let z = f .some in omega arith
+  linked = let z = f .seat .0 in omega arith
 
   some-span : 1 ≤ span (formRule formOne) n
   some-span = some-units n (f .size)
@@ -259,7 +259,8 @@ module _ (h : Head) (a t : Words) (n slot block : ℕ) (f : granting.Found h a t
     fit = fits .0;
   }
 
-  takes : Takes a (h .root) block (span (formRule formOne) n) (fits .1 .2 .before) (fits .1 .0) (fits .1 .2 .after)
+  takes : Takes a (h .root) block over (span (formRule formOne) n) (fits .1 .2 .before) (fits .1 .0)
+      (fits .1 .2 .after)
   takes =
       let r = fits .1 .0 in
       let listed = fits .1 .2 in
@@ -267,12 +268,13 @@ module _ (h : Head) (a t : Words) (n slot block : ℕ) (f : granting.Found h a t
         lies = subst (λ (rs : List Run). Lies a (h .root) rs) (listed .split)
             (sound-lies (h .root) (h .next) a t (f .ok));
         at = linked ∙ ap suc (sym (fits .1 .1));
+        seat = f .seat;
         some = some-span;
         enough = le-of (span (formRule formOne) n) (r .size) (listed .passes);
       }
 
   pub place-takes : (xs : List Run) × (r : Run) × (ys : List Run)
-      × Takes a (h .root) block (span (formRule formOne) n) xs r ys
+      × Takes a (h .root) block over (span (formRule formOne) n) xs r ys
   place-takes = (fits .1 .2 .before, fits .1 .0, fits .1 .2 .after, takes)
 
   -- the block lies in the arena
@@ -290,7 +292,7 @@ module _ (h : Head) (a t : Words) (n slot block : ℕ) (f : granting.Found h a t
   place-answer =
       ap (λ (x : ℕ). granted (row (h .next) x n)) (sym address) ∙ sym (ask-done treeEngine lent n cell asked .0)
 
-  module _ (b u : Words) (root′ : ℕ) (taken : Taken a b (h .root) block (span (formRule formOne) n) root′) where
+  module _ (b u : Words) (root′ : ℕ) (taken : Taken a b (h .root) block over (span (formRule formOne) n) root′) where
     pub place-root : root′ < 65536
     place-root =
         let now-runs = fits .1 .2 .before ++ shorten (span (formRule formOne) n) (fits .1 .0) (fits .1 .2 .after) in

@@ -8,7 +8,7 @@ use Rattle.words.specs.Lists.{Words}
 use Rattle.ledger.specs.Records.{recordsOf}
 use Rattle.ledger.specs.Units.{span}
 use Rattle.stored_forms.specs.Tree.{formOne, formRule}
-use Rattle.free_tree.specs.Held.{links, LeftmostFound}
+use Rattle.free_tree.specs.Held.{links, LeftmostFound, Seat}
 use Rattle.calls.specs.Pool.{sound}
 use Rattle.calls.specs.Engines.{treeEngine}
 use Rattle.record_table.specs.declared.Found.the-variants.{At}
@@ -17,11 +17,11 @@ use Rattle.tree_pool.specs.declared.Head.{Head}
 use Rattle.tree_pool.specs.Promises.{poolOf}
 
 -- The pool is sound, n is a good size, slot `slot` is the lowest empty one, a ticket is left, and the leftmost fit
--- for n words is the block at the link `block`.
-pub record Found (h : Head) (a t : Words) (n slot block : ℕ) : Type 0 where
+-- for n words is the block at the link `block`, whose father is at the link `over`.
+pub record Found (h : Head) (a t : Words) (n slot block over : ℕ) : Type 0 where
   pub ok : sound treeEngine (poolOf h a t) ≡ true
   pub size : (eqb n 0 || ltb 16384 n) ≡ false
   pub empty : emptySlot (recordsOf t) ≡ At slot
   pub ticket : h .next ≢ 0
   pub fit : LeftmostFound formOne links a (h .root) (span (formRule formOne) n) block
-  pub some : block ≢ 0
+  pub seat : Seat formOne links a (h .root) block over

@@ -130,7 +130,7 @@ fn no_effect(number: u32) -> Effect
     }
 }
 
-// Takes the first cells of the block that was found, under the next ticket.
+// Takes the first cells of the block that was found, with its father, under the next ticket.
 fn place(
     head: Head,
     arena: &mut [u32],
@@ -138,13 +138,14 @@ fn place(
     words: u32,
     slot: usize,
     block: usize,
+    over: usize,
 ) -> Effect
-    requires { ⌜ Found head (now arena) (now table) words slot block ⌝ }
+    requires { ⌜ Found head (now arena) (now table) words slot block over ⌝ }
     ensures { λ r. ⌜ handed (granted head words r) (now (arena .exit)) (now (table .exit)) []
         ≡ acted (ask words) (poolOf head (now (arena .entry)) (now (table .entry))) ⌝ }
 {
     let cells = record_table::span_of(Rule { unit: 2, lead: 0 }, words);
-    let root = free_blocks::take_cells(arena, head.root as usize, block, cells);
+    let root = free_blocks::take_cells(arena, head.root as usize, block, over, cells);
     let address = (2 * (block - 1)) as u32;
     let new = Row {
         ticket: head.next,
@@ -176,11 +177,13 @@ fn grant(head: Head, arena: &mut [u32], table: &mut [u32], words: u32) -> Effect
         return no_effect(4);
     }
     let cells = record_table::span_of(Rule { unit: 2, lead: 0 }, words);
-    let block = free_tree::leftmost_fit(arena, head.root as usize, cells as u32);
+    let found = free_tree::leftmost_fit(arena, head.root as usize, cells as u32);
+    let block = found.at;
+    let over = found.over;
     if block == 0 {
         return no_effect(5);
     }
-    place(head, arena, table, words, slot, block)
+    place(head, arena, table, words, slot, block, over)
 }
 
 // The outcome of an allocation with this effect.

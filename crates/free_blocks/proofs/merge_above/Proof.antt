@@ -1,65 +1,49 @@
 -- `free_blocks::merge_above` meets its contract: no block touches, or the one that does is taken out. Assumes nothing.
+-- In a need, `b3` is the place three before its own.
 use borrow.Author.Needs.{needs}
 use native.Mathlib.Omega.{arith}
 use Rattle.free_blocks.proofs.GiveLaws.{block-lies, block-end, above-none, above-found}
 use Rattle.free_blocks.proofs.merge_above.Statement.{statement}
 use Rattle.free_blocks.proofs.merge_above.Tie as tie
 
-beginning-at-requires : tie.Need-beginning-at-requires
-beginning-at-requires c κs = search needs
-
-same-length : tie.Need-same-length
-same-length c = search needs
-
 returns : tie.Need-returns
-returns c = above-none (c .before .beginning-at .ensures) (c .if1 .taken)
+returns c = above-none (c .if1 .taken)
 
 sub-c : tie.Need-sub-c
 sub-c c = search needs
 
 length-of-requires : tie.Need-length-of-requires
-length-of-requires c κs =
-    let d = c .before in
-    let (rs, b) = d .before .before .before .before .pre in
-    block-end (block-lies (d .before .beginning-at .ensures) (d .if1 .left) (rs, b .lies)) .0
+length-of-requires c κs = block-end (block-lies (c .before .if1 .left) (c .before .before .before .pre)) .0
 
 cast-n : tie.Need-cast-n
 cast-n c = search needs
 
 take-out-requires : tie.Need-take-out-requires
 take-out-requires c κs =
-    let d = c .before .before .before in
-    let (rs, b) = d .before .before .before .before .pre in
-    block-lies (d .before .beginning-at .ensures) (d .if1 .left) (rs, b .lies)
+    let b3 = c .before .before .before in
+    let b5 = b3 .before .before in
+    block-lies (b3 .if1 .left) (b5 .pre)
 
-add-t16 : tie.Need-add-t16
-add-t16 c =
-    let d = c .before .before .before .before .before .before in
-    let (rs, b) = d .before .before .before .before .pre in
-    let end = block-end (block-lies (d .before .beginning-at .ensures) (d .if1 .left) (rs, b .lies)) .1 in
-    let len = c .before .before .before .before .length-of .ensures in
+add-t14 : tie.Need-add-t14
+add-t14 c =
+    let b4 = c .before .before .before .before in
+    let b6 = b4 .before .before in
+    let b8 = b6 .before .before in
+    let end = block-end (block-lies (b6 .if1 .left) (b8 .pre)) .1 in
+    let len = b4 .length-of .ensures in
     omega arith
 
-same-length-2 : tie.Need-same-length-2
-same-length-2 c = search needs
+same-length : tie.Need-same-length
+same-length c = search needs
 
 returns-2 : tie.Need-returns-2
 returns-2 c =
-    let d = c .before .before .before .before .before .before in
-    let n = c .before .before .before .before .length-of .ensures in
-    above-found (d .before .beginning-at .ensures) (d .if1 .left) n (c .before .before .take-out .ensures)
+    let b2 = c .before .before in
+    let b4 = b2 .before .before in
+    let b6 = b4 .before .before in
+    above-found (b6 .if1 .left) (b4 .length-of .ensures) (b2 .take-out .ensures)
 
 pub merge-above-spec : {M : Type 1} → statement M
 merge-above-spec =
     tie.close
-    (tie.spec
-    beginning-at-requires
-    same-length
-    returns
-    sub-c
-    length-of-requires
-    cast-n
-    take-out-requires
-    add-t16
-    same-length-2
-    returns-2)
+    (tie.spec returns sub-c length-of-requires cast-n take-out-requires add-t14 same-length returns-2)

@@ -1,8 +1,9 @@
 -- `free_blocks::take_cells` meets its contract: the block shrinks, or nothing of it is left. Assumes nothing.
+-- In a need, `b3` is the place three before its own.
 use borrow.Author.Needs.{needs}
 use Rattle.stored_forms.specs.Tree.{formOne}
 use Rattle.free_tree.proofs.Numbers.{in-kept}
-use Rattle.free_blocks.proofs.TakeLaws.{take-in, take-longer, take-part, take-whole}
+use Rattle.free_blocks.proofs.TakeLaws.{take-in, take-tree, take-seat, take-longer, take-part, take-whole}
 use Rattle.free_blocks.proofs.take_cells.Statement.{statement}
 use Rattle.free_blocks.proofs.take_cells.Tie as tie
 
@@ -17,38 +18,45 @@ cast-n c = search needs
 
 shrink-requires : tie.Need-shrink-requires
 shrink-requires c κs =
-    take-longer (c .before .before .length-of .ensures) (c .before .if1 .taken) (c .before .before .before .before .before .pre)
+    let p = c .before .before .before .before .before .pre in
+    (take-longer (c .before .before .length-of .ensures) (c .before .if1 .taken) p, take-seat p)
 
 clear-node-requires : tie.Need-clear-node-requires
 clear-node-requires c κs =
-    let d = c .before .before .before in
-    in-kept (formOne .cell) (d .shrink .kept .0) (take-in (d .before .before .before .before .before .before .pre) .0)
+    let b3 = c .before .before .before in
+    let b9 = b3 .before .before .before .before .before .before in
+    in-kept (formOne .cell) (b3 .shrink .kept .0) (take-in (b9 .pre) .0)
 
 same-length : tie.Need-same-length
 same-length c = search needs
 
 returns : tie.Need-returns
 returns c =
-    let d = c .before .before .before .before .before .before in
-    take-part (d .before .before .before .length-of .ensures) (d .before .before .if1 .taken) (d .shrink .ensures)
-    (c .before .before .clear-node .ensures)
+    let b2 = c .before .before in
+    let b6 = b2 .before .before .before .before in
+    let b8 = b6 .before .before in
+    let b9 = b8 .before in
+    take-part (b9 .length-of .ensures) (b8 .if1 .taken) (b6 .shrink .ensures) (b2 .clear-node .ensures)
 
-delete-requires : tie.Need-delete-requires
-delete-requires c κs = search needs
+delete-at-requires : tie.Need-delete-at-requires
+delete-at-requires c κs = let p = c .before .before .before .before .before .pre in (take-tree p, take-seat p)
 
 clear-node-requires-2 : tie.Need-clear-node-requires-2
 clear-node-requires-2 c κs =
-    let d = c .before .before .before in
-    in-kept (formOne .cell) (d .delete .kept .0) (take-in (d .before .before .before .before .before .before .pre) .0)
+    let b3 = c .before .before .before in
+    let b9 = b3 .before .before .before .before .before .before in
+    in-kept (formOne .cell) (b3 .delete-at .kept .0) (take-in (b9 .pre) .0)
 
 same-length-2 : tie.Need-same-length-2
 same-length-2 c = search needs
 
 returns-2 : tie.Need-returns-2
 returns-2 c =
-    let d = c .before .before .before .before .before .before in
-    take-whole (d .before .before .before .length-of .ensures) (d .before .before .if1 .left) (d .delete .ensures)
-    (c .before .before .clear-node2 .ensures)
+    let b2 = c .before .before in
+    let b6 = b2 .before .before .before .before in
+    let b8 = b6 .before .before in
+    let b9 = b8 .before in
+    take-whole (b9 .length-of .ensures) (b8 .if1 .left) (b6 .delete-at .ensures) (b2 .clear-node2 .ensures)
 
 pub take-cells-spec : {M : Type 1} → statement M
 take-cells-spec =
@@ -61,7 +69,7 @@ take-cells-spec =
     clear-node-requires
     same-length
     returns
-    delete-requires
+    delete-at-requires
     clear-node-requires-2
     same-length-2
     returns-2)

@@ -1,10 +1,10 @@
--- `free_tree::delete` meets its contract: the sons of the node at the place are joined and hung on its father. Assumes
+-- `free_tree::delete` meets its contract: there is no block at the cell, or it is taken out of its place. Assumes
 -- nothing.
+-- In a need, `b3` is the place three before its own.
 use borrow.Author.Needs.{needs}
 use Rattle.stored_forms.proofs.NodeLaws.{readable-one}
-use Rattle.free_tree.proofs.StepLaws.{at-in}
-use Rattle.free_tree.proofs.PlaceSteps.{place-at, place-kept, place-ready, place-hung}
-use Rattle.free_tree.proofs.ChangeSteps.{deletes, delete-none, sons-beside, delete-here}
+use Rattle.free_tree.proofs.PlaceSteps.{place-kept}
+use Rattle.free_tree.proofs.ChangeSteps.{deletes, delete-none, placed-seat, seat-deleted}
 use Rattle.free_tree.proofs.delete.Statement.{statement}
 use Rattle.free_tree.proofs.delete.Tie as tie
 
@@ -20,60 +20,22 @@ returns c =
     place-kept readable-one (deletes readable-one x) (c .before .place-of .ensures)
     (delete-none readable-one x (c .if1 .taken))
 
-sub-c : tie.Need-sub-c
-sub-c c = search needs
-
-left-of-requires : tie.Need-left-of-requires
-left-of-requires c κs =
-    let d = c .before .before in
-    at-in readable-one (c .before .if1 .left)
-    (place-at readable-one (d .place-of .ensures) (d .before .before .before .pre))
-
-right-of-requires : tie.Need-right-of-requires
-right-of-requires c κs =
-    let d = c .before .before .before .before in
-    at-in readable-one (c .before .before .before .if1 .left)
-    (place-at readable-one (d .place-of .ensures) (d .before .before .before .pre))
-
-join-trees-requires : tie.Need-join-trees-requires
-join-trees-requires c κs =
-    let d = c .before .before .before .before .before in
-    sons-beside readable-one (d .if1 .left) (c .before .before .before .left-of .ensures)
-    (c .before .right-of .ensures)
-    (place-at readable-one (d .before .place-of .ensures) (d .before .before .before .before .pre))
-
-hang-requires : tie.Need-hang-requires
-hang-requires c κs =
-    let j = c .before .before .before in
-    let d = j .before .before .before .before .before .before in
-    let s = d .before .before .before .before in
-    place-ready readable-one (deletes readable-one (s .args .x)) (d .before .place-of .ensures)
-    (delete-here readable-one (d .if1 .left) (j .before .before .before .before .left-of .ensures)
-    (j .before .before .right-of .ensures) (s .args .x) (j .join-trees .ensures)) (s .pre)
+delete-at-requires : tie.Need-delete-at-requires
+delete-at-requires c κs =
+    let s = c .before .before .before .before .before in
+    (s .pre, placed-seat readable-one (c .before .before .place-of .ensures) (c .before .if1 .left) (s .pre))
 
 same-length-2 : tie.Need-same-length-2
 same-length-2 c = search needs
 
 returns-2 : tie.Need-returns-2
 returns-2 c =
-    let j = c .before .before .before .before .before .before in
-    let d = j .before .before .before .before .before .before in
-    let x = d .before .before .before .before .args .x in
-    place-hung readable-one (deletes readable-one x) (d .before .place-of .ensures)
-    (delete-here readable-one (d .if1 .left) (j .before .before .before .before .left-of .ensures)
-    (j .before .before .right-of .ensures) x (j .join-trees .ensures)) (c .before .before .hang .ensures)
+    let b2 = c .before .before in
+    let b4 = b2 .before .before in
+    let b5 = b4 .before in
+    seat-deleted readable-one (b5 .place-of .ensures) (b4 .if1 .left) (b2 .delete-at .ensures)
 
 pub delete-spec : {M : Type 1} → statement M
 delete-spec =
     tie.close
-    (tie.spec
-    place-of-requires
-    same-length
-    returns
-    sub-c
-    left-of-requires
-    right-of-requires
-    join-trees-requires
-    hang-requires
-    same-length-2
-    returns-2)
+    (tie.spec place-of-requires same-length returns delete-at-requires same-length-2 returns-2)

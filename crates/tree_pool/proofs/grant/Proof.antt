@@ -130,10 +130,10 @@ returns-4 c =
     (ask-five treeEngine p (s .args .words) (i .if1 .left)
     (empty-found (now (s .args .table)) (v .slot .given .0 .0) found .1) (ne-eqb _ _ (k .before .if2 .left))
     (none-fits (h .root) (h .next) (now (s .args .arena)) (now (s .args .table)) (s .pre) (s .args .words)
-    (l .leftmost-fit .result)
+    (l .leftmost-fit .result .at)
     (some-units (s .args .words) (i .if1 .left))
-    (fitted (now (s .args .arena)) (h .root) (s .args .words) (k .span-of .result) (l .leftmost-fit .result)
-    (k .span-of .ensures) (l .leftmost-fit .ensures))
+    (fitted (now (s .args .arena)) (h .root) (s .args .words) (k .span-of .result) (l .leftmost-fit .result .at)
+    (k .span-of .ensures) (l .leftmost-fit .ensures .0))
     (c .before .if3 .taken)))
 
 place-requires : tie.Need-place-requires
@@ -150,9 +150,9 @@ place-requires c κs =
       empty = sym (m .empty-slot .ensures) ∙ v .slot .given .1;
       ticket = k .before .if2 .left;
       fit = fitted (now (s .args .arena)) (s .args .head .root) (s .args .words) (k .span-of .result)
-          (l .leftmost-fit .result)
-          (k .span-of .ensures) (l .leftmost-fit .ensures);
-      some = c .before .before .if3 .left;
+          (l .leftmost-fit .result .at)
+          (k .span-of .ensures) (l .leftmost-fit .ensures .0);
+      seat = l .leftmost-fit .ensures .1 (c .before .before .if3 .left);
     }
 
 same-length-5 : tie.Need-same-length-5

@@ -22,23 +22,23 @@ use Rattle.tree_pool.proofs.place.Tie as tie
 
 range : (s : tie.Start) → InRange (now (s .args .arena)) (now (s .args .table))
 range s = place-range (s .args .head) (now (s .args .arena)) (now (s .args .table)) (s .args .words) (s .args .slot)
-    (s .args .block) (s .pre)
+    (s .args .block) (s .args .over) (s .pre)
 
 inside : (s : tie.Start) → s .args .block - 1 < length (now (s .args .arena)) / 2
 inside s = place-inside (s .args .head) (now (s .args .arena)) (now (s .args .table)) (s .args .words) (s .args .slot)
-    (s .args .block) (s .pre)
+    (s .args .block) (s .args .over) (s .pre)
 
 -- what the cells taken leave, in the ledger's units
 taken : (c : tie.After-take-cells)
     → let s = c .before .before .before .before .before .before in
-    Taken (now (s .args .arena)) (c .take-cells .last .0) (s .args .head .root) (s .args .block)
+    Taken (now (s .args .arena)) (c .take-cells .last .0) (s .args .head .root) (s .args .block) (s .args .over)
     (span (formRule formOne) (s .args .words)) (c .take-cells .result)
 unfolding formOne
 taken c =
     let s = c .before .before .before .before .before .before in
     subst
-    (λ (x : ℕ). Taken (now (s .args .arena)) (c .take-cells .last .0) (s .args .head .root) (s .args .block) x
-    (c .take-cells .result))
+    (λ (x : ℕ). Taken (now (s .args .arena)) (c .take-cells .last .0) (s .args .head .root) (s .args .block)
+    (s .args .over) x (c .take-cells .result))
     (c .before .before .before .span-of .ensures) (c .take-cells .ensures)
 
 span-of-requires : tie.Need-span-of-requires
@@ -54,10 +54,10 @@ take-cells-requires c κs =
     let s = k .before .before .before in
     subst
     (λ (x : ℕ). (xs : List Run) × (r : Run) × (ys : List Run)
-    × Takes (now (s .args .arena)) (s .args .head .root) (s .args .block) x xs r ys)
+    × Takes (now (s .args .arena)) (s .args .head .root) (s .args .block) (s .args .over) x xs r ys)
     (sym (k .span-of .ensures))
     (place-takes (s .args .head) (now (s .args .arena)) (now (s .args .table)) (s .args .words) (s .args .slot)
-    (s .args .block) (s .pre))
+    (s .args .block) (s .args .over) (s .pre))
 
 sub-address : tie.Need-sub-address
 sub-address c = search needs
@@ -76,17 +76,17 @@ write-row-requires : tie.Need-write-row-requires
 write-row-requires c κs =
     let s = c .before .before .before .before .before .before .before .before .before in (
       place-slot (s .args .head) (now (s .args .arena)) (now (s .args .table)) (s .args .words) (s .args .slot)
-          (s .args .block) (s .pre),
+          (s .args .block) (s .args .over) (s .pre),
       range s .threes,
     )
 
-cast-t19 : tie.Need-cast-t19
-cast-t19 c =
+cast-t20 : tie.Need-cast-t20
+cast-t20 c =
     let t = c .before .before .before .before .before .before in
     let s = t .before .before .before .before .before .before in
     let below = place-root (s .args .head) (now (s .args .arena)) (now (s .args .table)) (s .args .words)
     (s .args .slot) (s .args .block)
-    (s .pre) (t .take-cells .last .0) (now (s .args .table)) (t .take-cells .result) (taken t) in
+    (s .args .over) (s .pre) (t .take-cells .last .0) (now (s .args .table)) (t .take-cells .result) (taken t) in
     omega arith
 
 same-length : tie.Need-same-length
@@ -103,14 +103,14 @@ returns c =
     let h = s .args .head in
     let a = now (s .args .arena) in
     let u = now (s .args .table) in
-    let q = place-pool h a u (s .args .words) (s .args .slot) (s .args .block) (s .pre) (t .take-cells .last .0)
-    (w .write-row .last .0)
+    let q = place-pool h a u (s .args .words) (s .args .slot) (s .args .block) (s .args .over) (s .pre)
+    (t .take-cells .last .0) (w .write-row .last .0)
     (t .take-cells .result) (taken t) (w .write-row .ensures) in
     acted-left (ask (s .args .words)) (poolOf h a u)
     (granted h (s .args .words)
     (record { number = 0; root = t .take-cells .result; address = 2 * (s .args .block - 1) }))
     (t .take-cells .last .0) (w .write-row .last .0)
-    (place-answer h a u (s .args .words) (s .args .slot) (s .args .block) (s .pre)) q
+    (place-answer h a u (s .args .words) (s .args .slot) (s .args .block) (s .args .over) (s .pre)) q
 
 pub place-spec : {M : Type 1} → statement M
 place-spec =
@@ -123,7 +123,7 @@ place-spec =
     mul-address
     cast-address
     write-row-requires
-    cast-t19
+    cast-t20
     same-length
     same-length-2
     returns)

@@ -1,0 +1,70 @@
+-- `free_tree::delete_at` meets its contract: the sons of the node are joined and hung on its father. Assumes nothing.
+-- In a need, `b3` is the place three before its own.
+use borrow.Author.Needs.{needs}
+use Prim.Native.Nat.{_-_}
+use Rattle.stored_forms.proofs.NodeLaws.{readable-one}
+use Rattle.free_tree.proofs.StepLaws.{at-in}
+use Rattle.free_tree.proofs.PlaceSteps.{place-at, place-ready, place-hung}
+use Rattle.free_tree.proofs.ChangeSteps.{deletes, sons-beside, delete-here}
+use Rattle.free_tree.proofs.delete_at.Statement.{statement}
+use Rattle.free_tree.proofs.delete_at.Tie as tie
+
+sub-c : tie.Need-sub-c
+sub-c c = search needs
+
+left-of-requires : tie.Need-left-of-requires
+left-of-requires c κs =
+    let s = c .before .before in
+    at-in readable-one (s .pre .1 .0) (place-at readable-one (s .pre .1 .1) (s .pre .0))
+
+right-of-requires : tie.Need-right-of-requires
+right-of-requires c κs =
+    let s = c .before .before .before .before in
+    at-in readable-one (s .pre .1 .0) (place-at readable-one (s .pre .1 .1) (s .pre .0))
+
+join-trees-requires : tie.Need-join-trees-requires
+join-trees-requires c κs =
+    let b1 = c .before in
+    let b3 = b1 .before .before in
+    let s = b3 .before .before .before in
+    sons-beside readable-one (s .pre .1 .0) (b3 .left-of .ensures) (b1 .right-of .ensures)
+    (place-at readable-one (s .pre .1 .1) (s .pre .0))
+
+hang-requires : tie.Need-hang-requires
+hang-requires c κs =
+    let b3 = c .before .before .before in
+    let b5 = b3 .before .before in
+    let b7 = b5 .before .before in
+    let s = b7 .before .before .before in
+    let (z, placed) = s .pre .1 in
+    let x = s .args .at - 1 in
+    place-ready readable-one (deletes readable-one x) placed
+    (delete-here readable-one z (b7 .left-of .ensures) (b5 .right-of .ensures) x (b3 .join-trees .ensures)) (s .pre .0)
+
+same-length : tie.Need-same-length
+same-length c = search needs
+
+returns : tie.Need-returns
+returns c =
+    let b2 = c .before .before in
+    let b6 = b2 .before .before .before .before in
+    let b8 = b6 .before .before in
+    let b10 = b8 .before .before in
+    let s = b10 .before .before .before in
+    let (z, placed) = s .pre .1 in
+    let x = s .args .at - 1 in
+    place-hung readable-one (deletes readable-one x) placed
+    (delete-here readable-one z (b10 .left-of .ensures) (b8 .right-of .ensures) x (b6 .join-trees .ensures))
+    (b2 .hang .ensures)
+
+pub delete-at-spec : {M : Type 1} → statement M
+delete-at-spec =
+    tie.close
+    (tie.spec
+    sub-c
+    left-of-requires
+    right-of-requires
+    join-trees-requires
+    hang-requires
+    same-length
+    returns)

@@ -1,4 +1,5 @@
--- The walk of the tree over tiles: one law for each way through it. Assumes nothing.
+-- What the walk of the tree over tiles finds: no tree, a node between two parts, and on the way to the right. Assumes
+-- nothing.
 use Prim.Native.Nat.{ℕ, suc, _+_, _≤_, _<_}
 use native.Mathlib.Decide.{decLe}
 use native.Mathlib.Omega.{arith}
@@ -12,14 +13,13 @@ use Rattle.ledger.specs.Runs.{Run, run, Gapped, covered}
 use Rattle.stored_forms.specs.Tree.{Tree, leaf, node, inorder, formOne}
 use Rattle.stored_forms.specs.Tree.{lengthAt, leftAt, rightAt}
 use Rattle.tiling.proofs.TileLaws.{covered-append, total-append}
-use Rattle.tree_tiles.specs.declared.Laid.{Laid}
 use Rattle.tree_tiles.specs.Maps.{Covers}
-use Rattle.tree_tiles.specs.Lay.{earliest, Ready, right, Placed, Found, Walked}
+use Rattle.tree_tiles.specs.Lay.{earliest, Ready, Placed, Found}
 use Rattle.tree_tiles.proofs.PaveLaws.{gapped-join}
 use Rattle.tree_tiles.proofs.LimitLaws.{node-heaped, node-short}
 use Rattle.tree_tiles.proofs.ReadLaws.{cell-reads}
 
--- ---- the ways through the walk
+-- ---- what is found
 
 module _ {m map : Words} {N : ℕ} where
   -- no tree at the link 0
@@ -39,17 +39,10 @@ module _ {m map : Words} {N : ℕ} where
     paved = λ u a b c. absurd (omega arith);
   }
 
-  -- where there is no left part
-  pub way-none : {l limit k allowed before : ℕ} → l ≡ 0 → k ≤ N → before ≤ k
-      → Walked m map N l limit k allowed before (right k allowed before)
-  way-none e h f = record { left = omega arith; found = λ x. none-found e h f }
-
-  pub way-stopped : {l limit k allowed before : ℕ} {r : Laid} (n : ℕ) → (r .ok ≡ false) × (r .left ≡ n)
-      → n ≤ allowed → Walked m map N l limit k allowed before r
-  way-stopped n s h =
-      let off = s .0 in
-      let left = s .1 in
-      record { left = omega arith; found = λ e. absurd (false≢true (sym off ∙ e)) }
+  -- the same, told of equal numbers
+  pub found-as : {l limit k before next free n s : ℕ} → n ≡ next → s ≡ free
+      → Found m map N l limit k before next free → Found m map N l limit k before n s
+  found-as en es x = rw (en, es) x
 
   module _ {c z lf rt limit k before next sum last free : ℕ} (ready : Ready m map N) (ez : z ≡ lengthAt formOne m c)
       (el : lf ≡ leftAt formOne m c) (er : rt ≡ rightAt formOne m c) (x : Found m map N lf z k before next sum)
@@ -119,39 +112,30 @@ module _ {m map : Words} {N : ℕ} where
 -- ---- the way to the right
 
 -- A walk from the link l has come to the link `at`: what lies there makes a whole with what lies behind.
-pub record Going (m map : Words) (N l limit k allowed before at below next left sum : ℕ) : Type 0 where
+pub record Going (m map : Words) (N l limit k before at below next sum : ℕ) : Type 0 where
   pub inside : next ≤ N
   pub few : sum ≤ next
-  pub fewer : left ≤ allowed
   pub rest : (end free : ℕ) → Found m map N at below next sum end free → Found m map N l limit k before end free
 
-module _ {m map : Words} {N l limit k allowed before : ℕ} where
-  pub going-start : k ≤ N → before ≤ k → Going m map N l limit k allowed before l limit k allowed before
-  going-start h f = record { inside = h; few = f; fewer = omega arith; rest = λ end free x. x }
+module _ {m map : Words} {N l limit k before : ℕ} where
+  pub going-start : k ≤ N → before ≤ k → Going m map N l limit k before l limit k before
+  going-start h f = record { inside = h; few = f; rest = λ end free x. x }
 
-  module _ {at below next left sum : ℕ} (g : Going m map N l limit k allowed before at below next left sum) where
+  module _ {at below next sum : ℕ} (g : Going m map N l limit k before at below next sum) where
     -- past the left part and the node at cell c
-    pub going-next : {c z lf rt from s : ℕ} (n : ℕ) → Ready m map N → at ≡ suc c → z ≡ lengthAt formOne m c
+    pub going-next : {c z lf rt from s : ℕ} → Ready m map N → at ≡ suc c → z ≡ lengthAt formOne m c
         → lf ≡ leftAt formOne m c → rt ≡ rightAt formOne m c → Found m map N lf z next sum from s
-        → Placed m map N from below c z → n ≤ left
-        → Going m map N l limit k allowed before rt (z + 1) (c + z) n (s + z)
-    going-next {c} n ready at-cell ez el er x p h =
+        → Placed m map N from below c z → Going m map N l limit k before rt (z + 1) (c + z) (s + z)
+    going-next ready at-cell ez el er x p =
         let few = x .few in
         let apart = p .apart in
-        let fewer = g .fewer in
         record {
           inside = p .inside;
           few = omega arith;
-          fewer = omega arith;
           rest = λ end free y.
               g .rest end free
               (subst (λ j. Found m map N j below next sum end free) (sym at-cell) (joined ready ez el er x p y));
         }
 
-    pub way-end : {r : Laid} → at ≡ 0 → r ≡ right next left sum → Walked m map N l limit k allowed before r
-    way-end e is =
-        let fewer = g .fewer in
-        subst (λ (r : Laid). Walked m map N l limit k allowed before r) (sym is) (record {
-          left = fewer;
-          found = λ x. g .rest next sum (none-found e (g .inside) (g .few));
-        })
+    pub going-end : at ≡ 0 → Found m map N l limit k before next sum
+    going-end e = g .rest next sum (none-found e (g .inside) (g .few))

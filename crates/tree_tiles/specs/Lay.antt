@@ -10,7 +10,6 @@ use Rattle.ledger.specs.Runs.{Run, Gapped, covered}
 use Rattle.stored_forms.specs.Tree.{Tree, link, inorder, Heaped, formOne}
 use Rattle.stored_forms.specs.Blocks.{Zeros, Holds}
 use Rattle.tiling.specs.Tiles.{total}
-use Rattle.tree_tiles.specs.declared.Laid.{Laid}
 use Rattle.tree_tiles.specs.Maps.{Covers, Paved, Roomy}
 
 -- where a free run may begin at the earliest, behind tiles that end at unit k: no two free runs touch
@@ -26,10 +25,6 @@ pub record Ready (m map : Words) (N : ℕ) : Type 0 where
   pub places : Roomy map N
   pub cells : 2 * N ≤ length m
   pub small : N < 65536
-
--- what a walk answers that found nothing wrong
-abbrev pub right : ℕ → ℕ → ℕ → Laid
-right next left free = record { ok = true; next = next; left = left; free = free }
 
 -- The node of z cells at cell c is a tile behind records that begin at unit k, it is shorter than the limit, and its
 -- block's other words are zero.
@@ -55,8 +50,3 @@ pub record Found (m map : Words) (N l limit k before next free : ℕ) : Type 0 w
   pub size : before + total (inorder tree) ≡ free
   pub few : free ≤ next
   pub paved : (u : ℕ) → k ≤ u → u < next → covered (inorder tree) u ≡ false → Covers map u
-
--- The walk's answer: what is left of the allowance, and where it says yes, such a tree.
-pub record Walked (m map : Words) (N l limit k allowed before : ℕ) (r : Laid) : Type 0 where
-  pub left : r .left ≤ allowed
-  pub found : r .ok ≡ true → Found m map N l limit k before (r .next) (r .free)

@@ -21,9 +21,9 @@ cellRule = record { unit = 2; lead = 0 }
 abbrev pub pairAt : Words → ℕ → ℕ
 pairAt map i = getD map i 0 + 256 * getD map (i + 1) 0
 
--- a map of 320 bytes has 80 places of four bytes; any other has a place of one byte for each unit
+-- a map of 384 bytes has 96 places of four bytes; any other has a place of one byte for each unit
 abbrev pub isEntries : Words → Bool
-isEntries map = eqb (length map) 320
+isEntries map = eqb (length map) 384
 
 -- the first unit of the span at place p
 abbrev pub firstAt : Words → ℕ → ℕ

@@ -15,11 +15,11 @@ ghost use Rattle.words.specs.Lists.{all, isZero};
 ghost use Rattle.ledger.specs.Records.{slots};
 ghost use Rattle.ledger.specs.Units.{first};
 ghost use Rattle.tree_tiles.specs.Maps.{pairAt, isEntries, Knows, Paved, Roomy, Adds, Mapped, Shown};
-ghost use Rattle.tree_tiles.specs.Lay.{Ready, right, Placed, Walked};
+ghost use Rattle.tree_tiles.specs.Lay.{Ready, Placed, Found};
 
 // ---- the map, which knows of spans: units that one record holds, in a row from a unit on
 
-// A map of 320 bytes has an entry of four bytes for each span: its first unit and its units, each as two bytes, the
+// A map of 384 bytes has an entry of four bytes for each span: its first unit and its units, each as two bytes, the
 // lower one first. An entry with no units is empty. An arena that is large for its records gets such a map, because a
 // map with a byte for each unit is wiped on every call.
 
@@ -74,7 +74,7 @@ fn span_at(map: &[u8], k: usize) -> usize
     requires { ⌜ Roomy (now map) (k + 1) ⌝ }
     ensures { λ n. ⌜ (n < 65536) × (0 < n → Knows (now (map .entry)) k n) ⌝ }
 {
-    if map.len() == 320 {
+    if map.len() == 384 {
         return entry_for(&*map, k);
     }
     map[k] as usize
@@ -121,7 +121,7 @@ fn note_row(map: &mut [u8], rule: Rule, r: Row, n: usize)
         return;
     }
     let lo = record_table::first_unit(rule, r);
-    if map.len() == 320 {
+    if map.len() == 384 {
         note_entry(&mut *map, lo, n);
         return;
     }
@@ -160,39 +160,6 @@ fn map_rows(
 
 // ---- the walk
 
-// What a walk of a part of the tree answers: whether all is well, the unit past the last block seen, how many more
-// nodes may be entered, and the units of the free blocks so far.
-pub struct Laid {
-    pub ok: bool,
-    pub next: usize,
-    pub left: usize,
-    pub free: usize,
-}
-
-// A walk that found nothing wrong.
-fn walked_to(next: usize, left: usize, free: usize) -> Laid
-    ensures { λ r. ⌜ r ≡ right next left free ⌝ }
-{
-    Laid {
-        ok: true,
-        next,
-        left,
-        free,
-    }
-}
-
-// A walk that found something wrong.
-fn stopped(left: usize) -> Laid
-    ensures { λ r. ⌜ (r .ok ≡ false) × (r .left ≡ left) ⌝ }
-{
-    Laid {
-        ok: false,
-        next: 0,
-        left,
-        free: 0,
-    }
-}
-
 // Whether the node of z cells at cell c is the next tile behind records that begin at unit k, shorter than the limit,
 // with zeros behind its two words. Free blocks that touch are none, but nothing lies before unit 0.
 fn node_ok(
@@ -227,7 +194,9 @@ fn node_ok(
 
 // Left part, node, right part: whether the blocks of the tree at the link, each shorter than the limit, are tiles from
 // unit k on, with records between them. Nodes to the left have to be shorter than their father, those to the right no
-// longer. Each node takes one of the allowance, and the right part gets what the left part left of it. The loop goes
+// longer. Answers the unit past the last block, or a number above `units` if something is wrong, and adds the blocks'
+// units to `*free`: one number comes back in a register, where a struct would come through memory. On any memory the
+// calls go no deeper than allowed, and the walk ends, because each node that is right lies further on. The loop goes
 // to the right, and only a left part that is there costs a call.
 fn walk(
     arena: &[u32],
@@ -237,52 +206,57 @@ fn walk(
     limit: usize,
     k: usize,
     allowed: usize,
-    free: usize,
-) -> Laid
+    free: &mut usize,
+) -> usize
     requires { ⌜ Ready (now arena) (now map) units ⌝ }
-    requires { ⌜ (k ≤ units) × (free ≤ k) ⌝ }
-    ensures { λ r. ⌜ Walked (now (arena .entry)) (now (map .entry)) units link limit k allowed free r ⌝ }
+    requires { ⌜ (k ≤ units) × (now free ≤ k) ⌝ }
+    ensures { λ r. ⌜ (r ≤ units → Found (now (arena .entry)) (now (map .entry)) units link limit k
+        (now (free .entry)) r (now (free .exit))) ⌝ }
 {
     let mut at = link;
     let mut below = limit;
     let mut next = k;
-    let mut left = allowed;
-    let mut sum = free;
     while at != 0 {
-        if left == 0 {
-            return stopped(left);
-        }
         if units < at {
-            return stopped(left);
+            return units + 1;
         }
         let c = at - 1;
         let z = length_of(arena, c) as usize;
         let lower = left_of(arena, c);
-        let mut part = walked_to(next, left - 1, sum);
         if lower != 0 {
-            part = walk(&*arena, &*map, units, lower, z, next, left - 1, sum);
+            if allowed == 0 {
+                return units + 1;
+            }
+            next = walk(
+                &*arena,
+                &*map,
+                units,
+                lower,
+                z,
+                next,
+                allowed - 1,
+                &mut *free,
+            );
+            if units < next {
+                return next;
+            }
         }
-        left = part.left;
-        let from = part.next;
-        if !part.ok {
-            return stopped(left);
-        }
-        if !node_ok(arena, map, units, from, below, c, z) {
-            return stopped(left);
+        if !node_ok(arena, map, units, next, below, c, z) {
+            return units + 1;
         }
         at = right_of(arena, c);
         below = z + 1;
         next = c + z;
-        sum = part.free + z;
+        *free += z;
     }
-    walked_to(next, left, sum)
+    next
 }
 
 // ---- the whole test
 
 // Whether records and free blocks are tiles, by a map that comes in all zero and m residues of tickets: they lead from
 // the first unit to the last, and have as many units together as the arena. A pool of n records has at most n + 1
-// free runs, so the walk is allowed no more nodes.
+// free runs, so the walk has to go no deeper.
 fn is_tiled_over(
     root: u32,
     next: u32,
@@ -304,7 +278,8 @@ fn is_tiled_over(
     }
     let units = words / 2;
     let allowed = table.len() / 3 + 1;
-    let walked = walk(
+    let mut sum: usize = 0;
+    let end = walk(
         &*arena,
         &*map,
         units,
@@ -312,11 +287,9 @@ fn is_tiled_over(
         units + 1,
         0,
         allowed,
-        0,
+        &mut sum,
     );
-    let end = walked.next;
-    let sum = walked.free;
-    if !walked.ok {
+    if units < end {
         return false;
     }
     let whole = sum + held;
@@ -385,14 +358,14 @@ fn is_tiled_8192(root: u32, next: u32, arena: &[u32], table: &[u32]) -> bool
     is_tiled_many(root, next, &*arena, &*table, &mut map)
 }
 
-// Entries lie from place first / 128 on: 64 places for 8192 units, and room behind them for 16 records that crowd the
+// Entries lie from place first / 128 on: 64 places for 8192 units, and room behind them for 32 records that crowd the
 // last.
 fn is_tiled_entries(root: u32, next: u32, arena: &[u32], table: &[u32]) -> bool
     requires { ⌜ (length (now arena) ≤ 16384) × (slots (now table) ≤ 256) ⌝ }
     ensures { λ r. ⌜ (r ≡ true → Shown root next (now (arena .entry)) (now (table .entry))) ⌝ }
 {
-    let mut map: [u8; 320] = [0; 320];
-    is_tiled_few(root, next, &*arena, &*table, &mut map)
+    let mut map: [u8; 384] = [0; 384];
+    is_tiled_by(root, next, &*arena, &*table, &mut map)
 }
 
 // Whether records and free blocks are tiles. If they are, the table holds a valid ledger and the arena the tree of its
@@ -411,7 +384,7 @@ pub fn is_tiled(root: u32, next: u32, arena: &[u32], table: &[u32]) -> bool
     if words <= 4096 {
         return is_tiled_2048(root, next, &*arena, &*table);
     }
-    if table.len() / 3 <= 16 {
+    if table.len() / 3 <= 32 {
         return is_tiled_entries(root, next, &*arena, &*table);
     }
     is_tiled_8192(root, next, &*arena, &*table)

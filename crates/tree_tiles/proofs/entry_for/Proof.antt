@@ -58,7 +58,7 @@ loop-again : tie.Need-loop-again Inv-loop μ-loop
 loop-again c =
     let l = c .before .before .before .before .before in
     let s = l .before .before in
-    (omega arith, omega (arith, eqb-eq (length (now (s .args .map))) 320 (s .pre)))
+    (omega arith, omega (arith, eqb-eq (length (now (s .args .map))) 384 (s .pre)))
 
 returns-3 : tie.Need-returns-3 Inv-loop μ-loop
 returns-3 c = (omega arith, λ some. absurd (omega arith))

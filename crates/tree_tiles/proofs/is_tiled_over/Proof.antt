@@ -3,7 +3,6 @@
 use native.Mathlib.Omega.{arith}
 use mathlib.Core.Bool.{false≢true}
 use borrow.Author.Needs.{needs}
-use Rattle.words.proofs.Tests.{not-false}
 use Rattle.tree_tiles.proofs.StoredLaws.{tiles-say}
 use Rattle.tree_tiles.proofs.is_tiled_over.Statement.{statement}
 use Rattle.tree_tiles.proofs.is_tiled_over.Tie as tie
@@ -28,7 +27,7 @@ add-walk c = search needs
 
 walk-requires : tie.Need-walk-requires
 walk-requires c κs =
-    let r = c .before .before .before .before .before .before in
+    let r = c .before .before .before .before .before .before .before in
     let s = r .before .before .before .before .before .before .before in
     let most = s .pre .0 .0 in
     let same = r .map-rows .kept .1 .1 .1 .0 in (
@@ -51,13 +50,11 @@ returns-2 c e = absurd (false≢true e)
 
 add-whole : tie.Need-add-whole
 add-whole c =
-    let w = c .before .before in
-    let r = w .before .before .before .before .before .before .before in
+    let w = c .before in
+    let r = w .before .before .before .before .before .before .before .before in
     let s = r .before .before .before .before .before .before .before in
-    let found = w .walk .ensures .found (not-false _ (c .if2 .left)) in
-    let few = found .few in
-    let inside = found .inside in
-    let held = w .before .before .if1 .left in
+    let found = w .walk .ensures (c .if2 .left) in
+    let held = w .before .before .before .if1 .left in
     let most = s .pre .0 .0 in
     omega arith
 
@@ -77,10 +74,11 @@ same-length-6 c = search needs
 
 returns-3 : tie.Need-returns-3
 returns-3 c e =
-    let w = c .before .before .before .before in
-    let r = w .before .before .before .before .before .before .before in
-    let found = w .walk .ensures .found (not-false _ (c .before .before .if2 .left)) in
-    tiles-say (c .is-paved .result) (r .map-rows .ensures (w .before .before .if1 .left)) found (c .is-paved .ensures) e
+    let w = c .before .before .before in
+    let r = w .before .before .before .before .before .before .before .before in
+    let found = w .walk .ensures (c .before .before .if2 .left) in
+    tiles-say (c .is-paved .result) (r .map-rows .ensures (w .before .before .before .if1 .left)) found
+    (c .is-paved .ensures) e
 
 pub is-tiled-over-spec : {M : Type 1} → statement M
 is-tiled-over-spec =

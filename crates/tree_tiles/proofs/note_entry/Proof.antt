@@ -88,7 +88,7 @@ loop-again c =
     let l = c .before .before .before .before in
     let s = l .before .before in
     let same = ap length (l .loop .inv .0) in
-    (l .loop .inv .0, omega arith, omega (arith, eqb-eq (length (now (s .args .map))) 320 (s .pre .2)))
+    (l .loop .inv .0, omega arith, omega (arith, eqb-eq (length (now (s .args .map))) 384 (s .pre .2)))
 
 same-length-2 : tie.Need-same-length-2 Inv-loop μ-loop
 same-length-2 c = search needs

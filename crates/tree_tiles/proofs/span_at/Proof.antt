@@ -10,7 +10,7 @@ use Rattle.tree_tiles.proofs.span_at.Statement.{statement}
 use Rattle.tree_tiles.proofs.span_at.Tie as tie
 
 entry-for-requires : tie.Need-entry-for-requires
-entry-for-requires c κs = ap (λ n. eqb n 320) (c .if1 .taken)
+entry-for-requires c κs = ap (λ n. eqb n 384) (c .if1 .taken)
 
 returns : tie.Need-returns
 returns c = search needs

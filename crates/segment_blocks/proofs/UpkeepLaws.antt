@@ -1,5 +1,5 @@
 -- One segment of the index brought up to date. Assumes nothing.
-use Prim.Native.Nat.{ℕ, _+_, _-_, _*_, _<_, _≤_, min}
+use Prim.Native.Nat.{ℕ, _+_, _-_, _*_, _^_, _<_, _≤_, min}
 use native.Mathlib.Decide.{decLt}
 use native.Mathlib.Nat.{mul-le-mul-left, mul-le-mul-right, add-mul, one-mul}
 use native.Mathlib.Omega.{arith}
@@ -28,6 +28,9 @@ module _ (W s g : ℕ) (Z : Sizes W s g) where
   pub sizes-each : 0 < g
   sizes-each = rw (Z .each) (size-pos W s sizes-some (Z .words))
 
+  small : g ≤ 16640
+  small = omega (arith, Z .each, size-le W s, sizes-few, Z .most)
+
   -- no product of a segment's number and a segment's size is large
   pub sizes-top : (k : ℕ) → k < s → (k + 1) * g ≤ 256 * 16640
   sizes-top k h = omega (arith, mul-le-mul-right g below, mul-le-mul-left 256 small)
@@ -35,8 +38,9 @@ module _ (W s g : ℕ) (Z : Sizes W s g) where
       below : k + 1 ≤ 256
       below = omega (arith, sizes-few)
 
-      small : g ≤ 16640
-      small = omega (arith, Z .each, size-le W s, sizes-few, Z .most)
+  -- a word's segment can be found in 32 bits
+  pub sizes-narrow : (u : ℕ) → u ≤ W → (0 < g) × (u < 2 ^ 32) × (g < 2 ^ 32)
+  sizes-narrow u h = (sizes-each, omega (arith, Z .most), omega (arith, small))
 
 module _ (v : List ℤ) (c : ℕ → ℤ) (s g k from : ℕ) (F : Facing v c s g k from) where
   module _ (hi : ℕ) (is : hi ≡ min ((k + 1) * g) (length v)) where

@@ -17,6 +17,7 @@ use segment_index::larger;
 use segment_index::lesser;
 use segment_index::raise;
 use segment_index::raise_most;
+use segment_index::segment_of;
 use words::wipe_part;
 
 // The first free block of n words or more from `from` on. There is one: the leaf of the segment says so.
@@ -135,13 +136,29 @@ pub fn reindex(
         → now (t .exit) ≡ indexOf c (length (now (v .entry))) s)
         ⌝ }
 {
-    let ka = a / g;
-    let kp = p / g;
-    let ke = e / g;
+    let ka = segment_of(a, g);
+    let kp = segment_of(p, g);
+    let ke = segment_of(e, g);
     let from = index_word(t, 2 * s + ka);
     refresh_segment(v, t, s, g, ka, from);
     refresh_if(kp != ka, v, t, s, g, kp, end);
     refresh_if((0 < y) & ((ke != ka) & (ke != kp)), v, t, s, g, ke, end);
+}
+
+// The same after a grant, with less to ask: it changes only the control word at p and, where y words of the free run
+// are left, the one at e. p's segment is scanned, and e's from e on if it is another one.
+pub fn reindex_grant(v: &[i32], t: &mut [u32], s: usize, g: usize, p: usize, e: usize, y: usize)
+    requires { ⌜ ((b : ℕ → ℤ) × (c : ℕ → ℤ) × Touched b c (now v) (now t) s g p p e e y) ⌝ }
+    ensures { λ _. ⌜
+        ((b : ℕ → ℤ) → (c : ℕ → ℤ) → Touched b c (now (v .entry)) (now (t .entry)) s g p p e e y
+        → now (t .exit) ≡ indexOf c (length (now (v .entry))) s)
+        ⌝ }
+{
+    let kp = segment_of(p, g);
+    let from = index_word(t, 2 * s + kp);
+    refresh_segment(v, t, s, g, kp, from);
+    let ke = segment_of(e, g);
+    refresh_if((0 < y) & (ke != kp), v, t, s, g, ke, e);
 }
 
 // The words from lo on get the value x.

@@ -166,7 +166,7 @@ pub fn tree_right(t: &[u32], s: usize) -> bool
 }
 
 // The two words of segment k.
-pub fn segment_right(t: &[u32], s: usize, k: usize, most: u32, first: u32) -> bool
+fn segment_right(t: &[u32], s: usize, k: usize, most: u32, first: u32) -> bool
     requires { ⌜ (k < s) × (length (now t) ≡ 3 * s) ⌝ }
     ensures { λ r. ⌜ r ≡ twoRight (now (t .entry)) s k most first ⌝ }
 {

@@ -22,7 +22,7 @@ use Rattle.segment_index.proofs.IndexLaws.{length-indexOf, index-heap, index-ag
 use Rattle.segment_index.proofs.RangeLaws.{weight-size, begins-not, FirstIn, first-found}
 use Rattle.segment_index.proofs.SizeLaws.{segment-low, segment-high, segment-in}
 use Rattle.segment_blocks.specs.Blocks.{Blocks, Chain, EndsAt}
-use Rattle.segment_blocks.proofs.UpkeepLaws.{sizes-some, sizes-few, sizes-each}
+use Rattle.segment_blocks.proofs.UpkeepLaws.{sizes-some, sizes-few, sizes-each, sizes-narrow}
 use Rattle.segment_places.specs.Stores.{Releasing}
 use Rattle.segment_places.specs.Views.{Whole, RunOf, Rest}
 use Rattle.segment_places.proofs.ChangeLaws.{controls, sound-whole, sound-blocks, sound-index}
@@ -32,21 +32,21 @@ use Rattle.segment_cores.specs.Cores.{Seat, Begun, Sitting, Beneath, res
 
 -- ---- a block below p
 
-module _ (c : ℕ → ℤ) (W : ℕ) (t : Words) (s d g p : ℕ) (S : Seat c W t s d g p) where
+module _ {c : ℕ → ℤ} {W : ℕ} {t : Words} {s d g p : ℕ} (S : Seat c W t s d g p) where
   some-segments : 0 < s
   some-segments = sizes-some W s g (S .sizes)
 
   pub seat-few : s ≤ 256
   seat-few = sizes-few W s g (S .sizes)
 
-  pub seat-each : 0 < g
+  seat-each : 0 < g
   seat-each = sizes-each W s g (S .sizes)
+
+  pub seat-narrow : (0 < g) × (p < 2 ^ 32) × (g < 2 ^ 32)
+  seat-narrow = sizes-narrow W s g (S .sizes) p (omega (arith, S .inside))
 
   pub seat-long : length t ≡ 3 * s
   seat-long = ap length (S .was) ∙ length-indexOf c W s
-
-  pub seat-segment : p / g < s
-  seat-segment = rw (S .sizes .each) (segment-in W s p some-segments (S .inside))
 
   leaf : (k : ℕ) → k < s → getD t (s + k) 0 ≡ largest c (k * g) g
   leaf k h = ap (λ (u : Words). getD u (s + k) 0) (S .was) ∙ index-agrees c W s k h .leaf ∙ rw (S .sizes .each)
@@ -54,66 +54,72 @@ module _ (c : ℕ → ℤ) (W : ℕ) (t : Words) (s d g p : ℕ) (S : Seat c W t
   first : (k : ℕ) → k < s → getD t (2 * s + k) 0 ≡ firstBlock c W (k * g) g
   first k h = ap (λ (u : Words). getD u (2 * s + k) 0) (S .was) ∙ index-agrees c W s k h .first ∙ rw (S .sizes .each)
 
-  own : (getD t (2 * s + p / g) 0 ≤ p) × FirstIn c (p / g * g) g (getD t (2 * s + p / g) 0)
-  own =
-      rw (first (p / g) seat-segment)
-      (first-found c W (p / g * g) g p (segment-low p g) (segment-high p g seat-each) (S .here))
+  -- p's segment
+  module _ {k : ℕ} (is : k ≡ p / g) where
+    pub seat-segment : k < s
+    seat-segment = rw (is, S .sizes .each) (segment-in W s p some-segments (S .inside))
 
-  pub begun-own : getD t (2 * s + p / g) 0 < p → Begun c p (getD t (2 * s + p / g) 0)
-  begun-own h = record { below = h; begins = own .1 .begins }
+    low : k * g ≤ p
+    low = rw is (segment-low p g)
 
-  -- p's segment has no earlier block: it is not the first segment
-  module _ (none-here : p ≤ getD t (2 * s + p / g) 0) where
-    not-first : 0 < p / g
-    not-first = go (decLt 0 (p / g))
-      where
-        go : Dec (0 < p / g) → 0 < p / g
-        go (yes h) = h
-        go (no h) =
-            let z : p / g * g ≡ 0 = ap (λ (k : ℕ). k * g) zero-seg ∙ zero-mul g in
-            absurd (omega (arith, ap natAbs (own .1 .quiet 0 (omega arith) (omega (arith, S .later))), S .start))
-          where
-            zero-seg : p / g ≡ 0
-            zero-seg = omega arith
+    own : (getD t (2 * s + k) 0 ≤ p) × FirstIn c (k * g) g (getD t (2 * s + k) 0)
+    own =
+        rw (first k seat-segment)
+        (first-found c W (k * g) g p low (rw is (segment-high p g seat-each)) (S .here))
 
-    pub seat-later : Later d t (s + p / g)
-    seat-later = record {
-      few = S .few;
-      heap = subst (λ (k : ℕ). Heap k t) (S .power) (rw (S .was) (index-heap c W s (S .sizes .power)));
-      first = subst (λ (k : ℕ). 0 < getD t k 0) (S .power) first-leaf;
-      after = omega (arith, S .power, not-first);
-      inside = omega (arith, S .power, seat-segment);
-    }
-      where
-        first-leaf : 0 < getD t s 0
-        first-leaf =
-            let e : s + 0 ≡ s = omega arith in
-            let z : 0 * g ≡ 0 = zero-mul g in
-            let some =
-            largest-begun c (0 * g) g 0 (omega arith) (omega (arith, seat-each)) (begins-not (c 0) (S .start)) in
-            omega (arith, ap (λ (k : ℕ). getD t k 0) e, leaf 0 some-segments)
+    pub begun-own : getD t (2 * s + k) 0 < p → Begun c p (getD t (2 * s + k) 0)
+    begun-own h = record { below = h; begins = own .1 .begins }
 
-    module _ (j : ℕ) (l : LastIn t (2 ^ d) (s + p / g) j) where
-      pub last-low : s ≤ j
-      last-low = omega (arith, l .above, S .power)
-
-      pub last-inside : j - s < s
-      last-inside = omega (arith, l .below, seat-segment, last-low)
-
-      pub begun-last : Begun c p (getD t (2 * s + (j - s)) 0)
-      begun-last =
-          let i = j - s in
-          let e : s + (j - s) ≡ j = omega (arith, last-low) in
-          let full = sym (ap (λ (k : ℕ). getD t k 0) e) ∙ leaf (j - s) last-inside in
-          let (u, a, b, w) = largest-at c (i * g) g (omega (arith, l .full)) in
-          let (x, f) = first-found c W (i * g) g u a b (omega (arith, weight-size (c u), l .full)) in
-          let up : (j - s + 1) * g ≤ p / g * g = mul-le-mul-right g before in
-          let sum : (j - s + 1) * g ≡ (j - s) * g + g = rw (add-mul (j - s) 1 g, one-mul g) in
-          rw (first (j - s) last-inside)
-          (record { below = omega (arith, f .high, segment-low p g); begins = f .begins })
+    -- it has no earlier block: it is not the first segment
+    module _ (none-here : p ≤ getD t (2 * s + k) 0) where
+      not-first : 0 < k
+      not-first = go (decLt 0 k)
         where
-          before : j - s + 1 ≤ p / g
-          before = omega (arith, l .below, last-low)
+          go : Dec (0 < k) → 0 < k
+          go (yes h) = h
+          go (no h) =
+              let e : k ≡ 0 = omega arith in
+              let z : k * g ≡ 0 = ap (λ (k : ℕ). k * g) e ∙ zero-mul g in
+              absurd (omega (arith, ap natAbs (own .1 .quiet 0 (omega arith) (omega (arith, S .later))), S .start))
+
+      pub seat-later : Later d t (s + k)
+      seat-later = record {
+        few = S .few;
+        heap = subst (λ (k : ℕ). Heap k t) (S .power) (rw (S .was) (index-heap c W s (S .sizes .power)));
+        first = subst (λ (k : ℕ). 0 < getD t k 0) (S .power) first-leaf;
+        after = omega (arith, S .power, not-first);
+        inside = omega (arith, S .power, seat-segment);
+      }
+        where
+          first-leaf : 0 < getD t s 0
+          first-leaf =
+              let e : s + 0 ≡ s = omega arith in
+              let z : 0 * g ≡ 0 = zero-mul g in
+              let some =
+              largest-begun c (0 * g) g 0 (omega arith) (omega (arith, seat-each)) (begins-not (c 0) (S .start)) in
+              omega (arith, ap (λ (k : ℕ). getD t k 0) e, leaf 0 some-segments)
+
+      module _ {j : ℕ} (l : LastIn t (2 ^ d) (s + k) j) where
+        pub last-low : s ≤ j
+        last-low = omega (arith, l .above, S .power)
+
+        pub last-inside : j - s < s
+        last-inside = omega (arith, l .below, seat-segment, last-low)
+
+        pub begun-last : Begun c p (getD t (2 * s + (j - s)) 0)
+        begun-last =
+            let i = j - s in
+            let e : s + (j - s) ≡ j = omega (arith, last-low) in
+            let full = sym (ap (λ (k : ℕ). getD t k 0) e) ∙ leaf (j - s) last-inside in
+            let (u, a, b, w) = largest-at c (i * g) g (omega (arith, l .full)) in
+            let (x, f) = first-found c W (i * g) g u a b (omega (arith, weight-size (c u), l .full)) in
+            let up : (j - s + 1) * g ≤ k * g = mul-le-mul-right g before in
+            let sum : (j - s + 1) * g ≡ (j - s) * g + g = rw (add-mul (j - s) 1 g, one-mul g) in
+            rw (first (j - s) last-inside)
+            (record { below = omega (arith, f .high, low); begins = f .begins })
+          where
+            before : j - s + 1 ≤ k
+            before = omega (arith, l .below, last-low)
 
 -- ---- in a sound pool
 

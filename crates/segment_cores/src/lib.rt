@@ -1,5 +1,7 @@
 // The segment pool's search, grant and release on a sound pool: the index leads to the blocks, and follows their
 // change.
+// Slices are lent to the upkeep as `&*v` and `&mut *t`, which keeps them in registers (docs/DECISIONS.md, what crosses
+// calls).
 ghost use mathlib.Core.Path.{_≡_};
 ghost use Prim.Native.Nat.{ℕ, _+_, _-_, _*_, _≤_, _<_, _^_};
 ghost use lib.IntN.{ℤ, pos};
@@ -19,9 +21,11 @@ use segment_blocks::block_before;
 use segment_blocks::build_index;
 use segment_blocks::first_fit;
 use segment_blocks::reindex;
+use segment_blocks::reindex_grant;
 use segment_index::descend;
 use segment_index::index_word;
 use segment_index::last_before;
+use segment_index::segment_of;
 use words::wipe_part_signed;
 use words::wipe_signed;
 
@@ -64,7 +68,7 @@ pub fn allot(v: &mut [i32], t: &mut [u32], s: usize, g: usize, p: usize, n: usiz
     let y = size_at(v, p) - n;
     put_rest(v, p + n, y);
     put_held(v, p, n);
-    reindex(v, t, s, g, p, p, p + n, p + n, y);
+    reindex_grant(&*v, &mut *t, s, g, p, p + n, y);
 }
 
 // The free words from a place on at which a block begins, or the arena ends.
@@ -82,7 +86,7 @@ fn begun_before(t: &[u32], s: usize, d: u32, g: usize, p: usize) -> usize
     requires { ⌜ ((c : ℕ → ℤ) × (W : ℕ) × Seat c W (now t) s d g p) ⌝ }
     ensures { λ r. ⌜ ((c : ℕ → ℤ) → (W : ℕ) → Seat c W (now (t .entry)) s d g p → Begun c p r) ⌝ }
 {
-    let k = p / g;
+    let k = segment_of(p, g);
     let from = index_word(t, 2 * s + k);
     if from < p {
         return from;
@@ -135,7 +139,7 @@ pub fn release(v: &mut [i32], t: &mut [u32], s: usize, d: u32, g: usize, p: usiz
     let x = free_below(v, t, s, d, g, p);
     let y = free_above(v, p + n);
     merge(v, p, n, x, y);
-    reindex(v, t, s, g, p - x, p, p + n, p + n + y, y);
+    reindex(&*v, &mut *t, s, g, p - x, p, p + n, p + n + y, y);
 }
 
 // One free block, and the index of it: the pool that format makes.

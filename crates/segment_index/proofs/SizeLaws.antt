@@ -1,13 +1,19 @@
--- Segments: which one a word lies in. Assumes nothing.
-use Prim.Native.Nat.{ℕ, _+_, _-_, _*_, _/_, _<_, _≤_}
+-- Segments: how many there are, and which one a word lies in. Assumes nothing.
+use Prim.Native.Nat.{ℕ, _+_, _-_, _*_, _/_, _%_, _^_, _<_, _≤_}
 use native.Mathlib.Decide.{decLt}
 use native.Mathlib.Nat.{div-eq-of-lt-le, lt-div-mul-add, div-mul-le-self, div-le-self, mul-le-mul-right, mul-comm}
 use native.Mathlib.Nat.{add-mul, one-mul, zero-mul}
 use native.Mathlib.Omega.{arith}
 use mathlib.Core.Logic.{_≢_}
 use mathlib.Core.Path.{_≡_, sym, _∙_}
+use lib.Dec.{lit<}
+use lib.Pow.{shl-exact}
 use Rattle.stored_forms.specs.Segments.{segmentSize}
 use Rattle.stored_forms.proofs.SegmentLaws.{segment-size}
+
+-- 1 moved to a place below 64, as a machine computes it
+pub one-moved : (b : ℕ) → b < 64 → 1 * 2 ^ b % 2 ^ 64 ≡ 2 ^ b
+one-moved b h = shl-exact {a = 1} 1 b 64 (lit< tt) (omega arith) ∙ one-mul (2 ^ b)
 
 pub size-pos : (W S : ℕ) → 0 < S → 0 < W → 0 < segmentSize W S
 size-pos W S h i = go (decLt 0 (segmentSize W S))

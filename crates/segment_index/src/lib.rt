@@ -3,7 +3,7 @@
 ghost use mathlib.Core.Path.{_≡_};
 ghost use Prim.Native.Nat.{ℕ, _+_, _*_, _/_, _^_, _≤_, _<_, max, min};
 ghost use lib.ListN.{length, getD};
-ghost use Rattle.stored_forms.specs.Segments.{depth, segmentSize};
+ghost use Rattle.stored_forms.specs.Segments.{depth, mostWords, segmentSize};
 ghost use Rattle.segment_index.specs.Tree.{Heap, LowestLeaf, Raised, LastIn};
 ghost use Rattle.segment_index.specs.Climb.{Later, Above, Under};
 
@@ -15,12 +15,20 @@ pub fn index_word(t: &[u32], i: usize) -> usize
     t[i] as usize
 }
 
-// The words of a segment: w / s, rounded up.
-pub fn segment_size(w: usize, s: usize) -> usize
-    requires { ⌜ (0 < s) × (w + s < 2 ^ 64) ⌝ }
-    ensures { λ r. ⌜ r ≡ segmentSize w s ⌝ }
+// The words of each of 2 ^ d segments: w / 2 ^ d, rounded up. It is shifted, since a division takes much longer.
+pub fn segment_size(w: usize, d: u32) -> usize
+    requires { ⌜ (w ≤ mostWords) × (d ≤ depth) ⌝ }
+    ensures { λ r. ⌜ r ≡ segmentSize w (2 ^ d) ⌝ }
 {
-    (w + (s - 1)) / s
+    (w + ((1usize << d) - 1)) >> d
+}
+
+// The segment of g words that a word lies in. The division is in 32 bits, where it takes less time than in 64.
+pub fn segment_of(at: usize, g: usize) -> usize
+    requires { ⌜ (0 < g) × (at < 2 ^ 32) × (g < 2 ^ 32) ⌝ }
+    ensures { λ r. ⌜ r ≡ at / g ⌝ }
+{
+    (at as u32 / g as u32) as usize
 }
 
 pub fn larger(a: u32, b: u32) -> u32
@@ -52,12 +60,12 @@ pub fn descend(t: &[u32], d: u32, n: u32) -> usize
     i
 }
 
-// The other son of the word above i.
+// The other son of the word above i. The compiler sees in this form that only the last bit changes, and turns it.
 fn beside(i: usize) -> usize
     requires { ⌜ (0 < i) × (i < 2 ^ 63) ⌝ }
     ensures { λ r. ⌜ r + i ≡ 4 * (i / 2) + 1 ⌝ }
 {
-    4 * (i / 2) + 1 - i
+    2 * (i / 2) + (1 - i % 2)
 }
 
 // A leaf gets a new value, and each word above it the larger of its sons: the one that was just written is carried up.

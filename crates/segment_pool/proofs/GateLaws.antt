@@ -1,9 +1,9 @@
 -- The gate: the lent lengths, and when the map, the arena and the index together are a stored pool. Assumes nothing.
-use Prim.Native.Nat.{ℕ, zero, suc, _+_, _*_, _%_, _≤_, _<_, _^_}
+use Prim.Native.Nat.{ℕ, _+_, _*_, _%_, _≤_, _<_, _^_}
 use native.Mathlib.Decide.{ℕ-discrete, decLe}
 use native.Mathlib.Omega.{arith}
 use mathlib.Core.Path.{_≡_, refl, sym, ap, _∙_, subst}
-use mathlib.Core.Bool.{Bool, true, false, _&&_, false≢true}
+use mathlib.Core.Bool.{Bool, true, false, _&&_}
 use mathlib.Core.List.{List, []}
 use lib.Dec.{eqb, leb}
 use lib.IntN.{ℤ, pos}
@@ -58,10 +58,9 @@ module _ (S next : ℕ) (v : List ℤ) (t x : Words) where
         indexed = eqb-eq (length x) (3 * S) (search (and-l, and-r));
       }
 
--- a number of segments is not 0
-pub power-pos : (S : ℕ) → isPower S depth ≡ true → 0 < S
-power-pos zero e = absurd (false≢true e)
-power-pos (suc S) e = omega arith
+-- the size of a segment, where S is given by its depth
+pub sized : (W d : ℕ) {S g : ℕ} → S ≡ 2 ^ d → g ≡ segmentSize W (2 ^ d) → g ≡ segmentSize W S
+sized W d e h = rw e h
 
 pub measured : {S : ℕ} {v : List ℤ} {t x : Words} → InRange S v t x → (g : ℕ) → g ≡ segmentSize (length v) S
     → Measured v x S g

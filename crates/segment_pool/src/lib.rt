@@ -90,7 +90,7 @@ fn is_stored_over(
         return false;
     }
     ranged(arena);
-    let g = segment_index::segment_size(words, s as usize);
+    let g = segment_index::segment_size(words, control_words::depth_of(s));
     segment_check::pool_right(&*arena, &*index, &*used, &*table, s as usize, g)
 }
 
@@ -111,7 +111,7 @@ fn is_stored(s: u32, next: u32, arena: &[i32], table: &[u32], index: &[u32]) -> 
     ensures { λ r. ⌜ r
         ≡ stored segmentEngine (segmentPool s next (now (arena .entry)) (now (table .entry)) (now (index .entry))) ⌝ }
 {
-    let g = segment_index::segment_size(arena.len(), s as usize);
+    let g = segment_index::segment_size(arena.len(), control_words::depth_of(s));
     if segment_tiles::is_tiled(next, &*arena, &*table, &*index, s as usize, g) {
         return true;
     }
@@ -190,7 +190,7 @@ pub fn format(s: u32, arena: &mut [i32], table: &mut [u32], index: &mut [u32]) -
             answer: call_parts::refused(8),
         };
     }
-    let g = segment_index::segment_size(arena.len(), s as usize);
+    let g = segment_index::segment_size(arena.len(), control_words::depth_of(s));
     segment_cores::lay_out(arena, index, s as usize, g);
     words::wipe(table);
     let none = Row {
@@ -240,7 +240,7 @@ fn place(
         (segmentPool s (head .next) (now (arena .entry)) (now (table .entry)) (now (index .entry))) ⌝ }
 {
     let n = record_table::span_of(Rule { unit: 1, lead: 1 }, words);
-    let g = segment_index::segment_size(arena.len(), s as usize);
+    let g = segment_index::segment_size(arena.len(), control_words::depth_of(s));
     segment_cores::allot(arena, index, s as usize, g, at, n);
     let address = (at + 1) as u32;
     let new = Row {
@@ -349,7 +349,7 @@ fn give_back(
     let at = record_table::first_unit(Rule { unit: 1, lead: 1 }, named);
     let n = record_table::span_of(Rule { unit: 1, lead: 1 }, named.words);
     let d = control_words::depth_of(s);
-    let g = segment_index::segment_size(arena.len(), s as usize);
+    let g = segment_index::segment_size(arena.len(), d);
     segment_cores::release(arena, index, s as usize, d, g, at, n);
     let none = Row {
         ticket: 0,

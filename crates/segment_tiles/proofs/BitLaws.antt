@@ -1,17 +1,18 @@
 -- Laws of bits: a power of two has one, and a map with one more set. Assumes nothing.
 use Prim.Native.Nat.{ℕ, suc, _+_, _-_, _*_, _/_, _%_, _^_, _<_}
 use native.Mathlib.Decide.{ℕ-discrete, decLt}
-use native.Mathlib.Nat.{pow-suc, one-mul, div-eq-of-lt, zero-div}
+use native.Mathlib.Nat.{pow-suc, div-eq-of-lt, zero-div}
 use native.Mathlib.Omega.{arith}
 use mathlib.Core.Bool.{true, false≢true}
 use mathlib.Core.Path.{_≡_, sym, ap, _∙_}
 use lib.Bits.{bitOr, or-step, or-shr}
-use lib.Dec.{eqb, lit<}
+use lib.Dec.{eqb}
 use lib.ListN.{length, getD, set}
-use lib.Pow.{pow-add, pow-lt, shl-exact, shl-shr}
+use lib.Pow.{pow-add, pow-lt, shl-shr}
 use lib.Seq.{getD-set-same, getD-set-other}
 use Rattle.words.specs.Lists.{Words, all, isZero}
 use Rattle.words.proofs.ListLaws.{zeros-at}
+use Rattle.segment_index.proofs.SizeLaws.{one-moved}
 use Rattle.segment_tiles.specs.BitMaps.{bitOf, bitAt}
 
 -- ---- a number
@@ -38,10 +39,6 @@ or-other : (w b j : ℕ) → (j ≡ b → ⊥) → bitOf (bitOr w (2 ^ b)) j ≡
 or-other w b j q =
     ap (λ n. eqb n 1)
     (ap (λ n. n % 2) (or-shr w (2 ^ b) j) ∙ or-bit (w / 2 ^ j) (2 ^ b / 2 ^ j) (power-other b j q))
-
--- 1 moved to a place below 64, as a machine computes it
-one-moved : (b : ℕ) → b < 64 → 1 * 2 ^ b % 2 ^ 64 ≡ 2 ^ b
-one-moved b h = shl-exact {a = 1} 1 b 64 (lit< tt) (omega arith) ∙ one-mul (2 ^ b)
 
 -- ---- a map
 

@@ -75,8 +75,8 @@ fn is_free_block(v: &[i32], at: usize, n: usize, after: bool) -> bool
     zero_part_signed(v, at + 1, at + n)
 }
 
-// Where blocks that are laid have led: the next one begins at `next`, past the arena's end if one is wrong. So many words
-// are free up to there, `after` says whether the last block is, and `most` is the largest weight.
+// Where blocks that are laid have led: the next one begins at `next`, past the arena's end if one is wrong. So many
+// words are free up to there, `after` says whether the last block is, and `most` is the largest weight.
 struct Stand {
     next: usize,
     free: usize,
@@ -156,7 +156,7 @@ fn lay_all(v: &[i32], map: &[u64], t: &[u32], s: usize, g: usize) -> usize
         let hi = lesser((k + 1) * g, w);
         let first = t[2 * s + k] as usize;
         if at < hi {
-            let stand = lay(v, map, at, hi, free, after);
+            let stand = lay(&*v, &*map, at, hi, free, after);
             if (first != at) | (w < stand.next) | (t[s + k] != stand.most) {
                 return w + 1;
             }
@@ -231,7 +231,7 @@ fn map_rows(
     let mut held: usize = 0;
     let mut i = 0;
     while i < table.len() / 3 {
-        let u = map_row(v, next, table, i, &mut *map, &mut *seen, m);
+        let u = map_row(&*v, next, &*table, i, &mut *map, &mut *seen, m);
         if words - held < u {
             return words + 1;
         }
@@ -260,18 +260,18 @@ fn is_tiled_over(
     ensures { λ r. ⌜ (r ≡ true → Stored next (now (arena .entry)) (now (table .entry)) (now (index .entry)) s) ⌝ }
 {
     let words = arena.len();
-    let held = map_rows(arena, next, table, &mut *map, &mut *seen, m);
+    let held = map_rows(&*arena, next, &*table, &mut *map, &mut *seen, m);
     if words < held {
         return false;
     }
-    let free = lay_all(arena, map, index, s, g);
+    let free = lay_all(&*arena, &*map, &*index, s, g);
     if words < free {
         return false;
     }
     if free + held != words {
         return false;
     }
-    tree_right(index, s)
+    tree_right(&*index, s)
 }
 
 // The residues and the map are wiped whole, so that few slots get few, and a small pool a small one.

@@ -2,55 +2,70 @@
 -- scanned. Assumes nothing.
 use native.Mathlib.Omega.{arith}
 use borrow.Author.Needs.{needs}
-use Rattle.segment_blocks.proofs.TouchLaws.{each-pos, a-segment, pending, ready-a, ready-p, ready-e, reindexed}
-use Rattle.segment_blocks.proofs.UpkeepLaws.{sizes-few}
+use Rattle.segment_blocks.proofs.TouchLaws.{was-long, a-segment, ready-a, ready-p, ready-e, reindexed}
+use Rattle.segment_blocks.proofs.UpkeepLaws.{sizes-few, sizes-narrow}
 use Rattle.segment_blocks.proofs.reindex.Statement.{statement}
 use Rattle.segment_blocks.proofs.reindex.Tie as tie
 
-div-ka : tie.Need-div-ka
-div-ka c = let (b, f, x) = c .before .pre in each-pos b f _ _ _ _ _ _ _ _ _ x
+segment-of-requires : tie.Need-segment-of-requires
+segment-of-requires c κs = let (b, f, x) = c .before .pre in sizes-narrow _ _ _ (x .sizes) _ (omega arith)
 
-div-kp : tie.Need-div-kp
-div-kp c = let (b, f, x) = c .before .pre in each-pos b f _ _ _ _ _ _ _ _ _ x
+segment-of-requires-2 : tie.Need-segment-of-requires-2
+segment-of-requires-2 c κs =
+    let (b, f, x) = c .before .before .pre in
+    sizes-narrow _ _ _ (x .sizes) _ (omega arith)
 
-div-ke : tie.Need-div-ke
-div-ke c = let (b, f, x) = c .before .pre in each-pos b f _ _ _ _ _ _ _ _ _ x
+segment-of-requires-3 : tie.Need-segment-of-requires-3
+segment-of-requires-3 c κs =
+    let (b, f, x) = c .before .before .before .pre in
+    sizes-narrow _ _ _ (x .sizes) _ (omega arith)
 
 mul-index-word : tie.Need-mul-index-word
-mul-index-word c = let (b, f, x) = c .before .before .pre in omega (arith, sizes-few _ _ _ (x .sizes))
+mul-index-word c =
+    let (b, f, x) = c .before .before .before .before .before .pre in
+    omega (arith, sizes-few _ _ _ (x .sizes))
 
 add-index-word : tie.Need-add-index-word
 add-index-word c =
-    let (b, f, x) = c .before .before .pre in
-    omega (arith, sizes-few _ _ _ (x .sizes), a-segment b f _ _ _ _ _ _ _ _ _ x)
+    let k = c .before .before .before in
+    let (b, f, x) = k .before .before .pre in
+    omega (arith, sizes-few _ _ _ (x .sizes), a-segment x (k .segment-of .ensures))
 
 index-word-requires : tie.Need-index-word-requires
 index-word-requires c κs =
-    let (b, f, x) = c .before .before .pre in
-    omega (arith, a-segment b f _ _ _ _ _ _ _ _ _ x, pending b f _ _ _ _ _ _ _ _ _ x .long)
+    let k = c .before .before .before in
+    let (b, f, x) = k .before .before .pre in
+    omega (arith, a-segment x (k .segment-of .ensures), was-long x)
 
 refresh-segment-requires : tie.Need-refresh-segment-requires
 refresh-segment-requires c κs =
-    let (b, f, x) = c .before .before .before .before .pre in
-    (f, rw (c .before .index-word .ensures) (ready-a b f _ _ _ _ _ _ _ _ _ x))
+    let k = c .before .before .before .before .before in
+    let (b, f, x) = k .before .before .pre in
+    (f, rw (c .before .index-word .ensures) (ready-a x (k .segment-of .ensures)))
 
 refresh-if-requires : tie.Need-refresh-if-requires
 refresh-if-requires c κs =
     let r = c .before .before .before in
-    let (b, f, x) = r .before .before .before .before .before .pre in
-    let from = r .before .before .index-word .ensures in
-    let first = r .refresh-segment .ensures f (rw from (ready-a b f _ _ _ _ _ _ _ _ _ x)) in
-    λ on. (f, ready-p b f _ _ _ _ _ _ _ _ _ x _ first on)
+    let k = r .before .before .before .before in
+    let (b, f, x) = k .before .before .before .before .pre in
+    let ia = k .before .before .segment-of .ensures in
+    let ip = k .before .segment-of2 .ensures in
+    let ie = k .segment-of3 .ensures in
+    let first = r .refresh-segment .ensures f (rw (r .before .before .index-word .ensures) (ready-a x ia)) in
+    λ on. (f, ready-p x ia ip ie first on)
 
 refresh-if-requires-2 : tie.Need-refresh-if-requires-2
 refresh-if-requires-2 c κs =
     let q = c .before .before .before in
     let r = q .before .before .before .before in
-    let (b, f, x) = r .before .before .before .before .before .pre in
-    let from = r .before .before .index-word .ensures in
-    let first = r .refresh-segment .ensures f (rw from (ready-a b f _ _ _ _ _ _ _ _ _ x)) in
-    let second = q .refresh-if .ensures f (ready-p b f _ _ _ _ _ _ _ _ _ x _ first) in
-    λ on. (f, ready-e b f _ _ _ _ _ _ _ _ _ x _ first _ second on)
+    let k = r .before .before .before .before in
+    let (b, f, x) = k .before .before .before .before .pre in
+    let ia = k .before .before .segment-of .ensures in
+    let ip = k .before .segment-of2 .ensures in
+    let ie = k .segment-of3 .ensures in
+    let first = r .refresh-segment .ensures f (rw (r .before .before .index-word .ensures) (ready-a x ia)) in
+    let second = q .refresh-if .ensures f (ready-p x ia ip ie first) in
+    λ on. (f, ready-e x ia ip ie first second on)
 
 same-length : tie.Need-same-length
 same-length c = search needs
@@ -60,20 +75,23 @@ returns c =
     let z = c .before .before in
     let q = z .before .before .before .before in
     let r = q .before .before .before .before in
+    let k = r .before .before .before .before in
+    let ia = k .before .before .segment-of .ensures in
+    let ip = k .before .segment-of2 .ensures in
+    let ie = k .segment-of3 .ensures in
     λ b f x.
-    let from = r .before .before .index-word .ensures in
-    let first = r .refresh-segment .ensures f (rw from (ready-a b f _ _ _ _ _ _ _ _ _ x)) in
-    let second = q .refresh-if .ensures f (ready-p b f _ _ _ _ _ _ _ _ _ x _ first) in
-    let third = z .refresh-if2 .ensures f (ready-e b f _ _ _ _ _ _ _ _ _ x _ first _ second) in
-    reindexed b f _ _ _ _ _ _ _ _ _ x _ first _ second _ third
+    let first = r .refresh-segment .ensures f (rw (r .before .before .index-word .ensures) (ready-a x ia)) in
+    let second = q .refresh-if .ensures f (ready-p x ia ip ie first) in
+    let third = z .refresh-if2 .ensures f (ready-e x ia ip ie first second) in
+    reindexed x ia ip ie first second third
 
 pub reindex-spec : {M : Type 1} → statement M
 reindex-spec =
     tie.close
     (tie.spec
-    div-ka
-    div-kp
-    div-ke
+    segment-of-requires
+    segment-of-requires-2
+    segment-of-requires-3
     mul-index-word
     add-index-word
     index-word-requires

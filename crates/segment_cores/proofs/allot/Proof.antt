@@ -50,20 +50,16 @@ put-rest-requires c κs =
 put-held-requires : tie.Need-put-held-requires
 put-held-requires c κs = search needs
 
-add-reindex : tie.Need-add-reindex
-add-reindex c = search needs
+add-reindex-grant : tie.Need-add-reindex-grant
+add-reindex-grant c = search needs
 
-add-reindex-2 : tie.Need-add-reindex-2
-add-reindex-2 c = search needs
-
-reindex-requires : tie.Need-reindex-requires
-reindex-requires c κs =
+reindex-grant-requires : tie.Need-reindex-grant-requires
+reindex-grant-requires c κs =
     let h = c .before .before .before in
     let (L, M, k) = h .before .before .before .before .before .before .before .before .pre in (
       controls L _,
       controls M _,
-      grant-touches L M _ _ _ _ _ _ k _ (left (h .before .before .before .before .before))
-          _ (stored h),
+      grant-touches L M _ _ _ _ _ _ k _ (left (h .before .before .before .before .before)) _ (stored h),
     )
 
 same-length : tie.Need-same-length
@@ -79,7 +75,8 @@ returns c =
     let y = left (h .before .before .before .before .before) in
     λ L M k.
     let touched = grant-touches L M _ _ _ _ _ _ k _ y _ (stored h) in
-    grant-becomes L M _ _ _ _ _ _ k _ y _ (stored h) _ (r .reindex .ensures (controls L _) (controls M _) touched)
+    let right = r .reindex-grant .ensures (controls L _) (controls M _) touched in
+    grant-becomes L M _ _ _ _ _ _ k _ y _ (stored h) _ right
 
 pub allot-spec : {M : Type 1} → statement M
 allot-spec =
@@ -90,9 +87,8 @@ allot-spec =
     add-put-rest
     put-rest-requires
     put-held-requires
-    add-reindex
-    add-reindex-2
-    reindex-requires
+    add-reindex-grant
+    reindex-grant-requires
     same-length
     same-length-2
     returns)

@@ -1,6 +1,5 @@
 -- `segment_pool::format` meets its contract: one free block, its index and a wiped table hold nothing. Assumes nothing.
 use Prim.Native.Nat.{ℕ}
-use native.Mathlib.Omega.{arith}
 use mathlib.Core.Path.{_≡_, _∙_, sym, subst}
 use mathlib.Core.Bool.{true}
 use borrow.Author.Needs.{needs}
@@ -11,7 +10,7 @@ use Rattle.segment_blocks.specs.Upkeep.{Sizes}
 use Rattle.calls.specs.Pool.{lengths}
 use Rattle.calls.specs.Engines.{segmentEngine}
 use Rattle.segment_pool.specs.Promises.{segmentPool}
-use Rattle.segment_pool.proofs.GateLaws.{InRange, power-pos}
+use Rattle.segment_pool.proofs.GateLaws.{InRange, sized}
 use Rattle.segment_pool.proofs.FormatLaws.{format-refused, format-done, format-sizes, fit}
 use Rattle.segment_pool.proofs.format.Statement.{statement}
 use Rattle.segment_pool.proofs.format.Tie as tie
@@ -52,15 +51,20 @@ returns c =
     format-refused (s .args .s) (now (s .args .arena)) (now (s .args .table)) (now (s .args .index))
     (c .refused .result) (sym (not-true _ (c .before .if1 .taken)) ∙ r .right-lengths .ensures 0) (c .refused .ensures)
 
+depth-of-requires : tie.Need-depth-of-requires
+depth-of-requires c κs = fits c .power
+
 segment-size-requires : tie.Need-segment-size-requires
-segment-size-requires c κs = (power-pos (entry c .args .s) (fits c .power), omega (arith, fits c .most))
+segment-size-requires c κs = (fits (c .before) .most, c .depth-of .ensures .1)
 
 lay-out-requires : tie.Need-lay-out-requires
 lay-out-requires c κs =
-    let i = c .before .before .before in
+    let z = c .before .before in
+    let d = z .before in
+    let i = d .before in
     let s = entry i in (
       subst (λ (g : ℕ). Sizes (length (now (s .args .arena))) (s .args .s) g)
-          (sym (c .before .before .segment-size .ensures))
+          (sym (sized _ _ (d .depth-of .ensures .0) (z .segment-size .ensures)))
           (format-sizes (s .args .s) (now (s .args .arena)) (now (s .args .table)) (now (s .args .index)) (right i)),
       fits i .indexed,
     )
@@ -84,7 +88,7 @@ returns-2 : tie.Need-returns-2
 returns-2 c =
     let w = c .before .before .before in
     let l = w .before .before .before .before .before in
-    let i = l .before .before .before .before in
+    let i = l .before .before .before .before .before in
     let s = entry i in
     format-done (s .args .s) (now (s .args .arena)) (now (s .args .table)) (now (s .args .index)) (right i)
     (l .lay-out .last .0) (w .wipe .last .0) (l .lay-out .last .1 .0) (c .succeeded .result)
@@ -100,6 +104,7 @@ format-spec =
     same-length-2
     same-length-3
     returns
+    depth-of-requires
     segment-size-requires
     lay-out-requires
     wipe-requires

@@ -1,6 +1,5 @@
 -- `segment_pool::give_back` meets its contract: the words that go back make the act a release. Assumes nothing.
 use Prim.Native.Nat.{ℕ}
-use native.Mathlib.Omega.{arith}
 use mathlib.Core.Path.{sym, subst₃}
 use mathlib.Core.List.{[], _∷_}
 use borrow.Author.Needs.{needs}
@@ -10,7 +9,7 @@ use Rattle.segment_places.specs.Stores.{Releasing}
 use Rattle.calls.specs.Pool.{Pool}
 use Rattle.segment_pool.specs.Promises.{segmentPool, vacated}
 use Rattle.calls.specs.Step.{give}
-use Rattle.segment_pool.proofs.GateLaws.{InRange, power-pos}
+use Rattle.segment_pool.proofs.GateLaws.{InRange, sized}
 use Rattle.segment_pool.proofs.ActedLaws.{acted-left}
 use Rattle.segment_pool.proofs.ReleaseLaws.{release-range, release-slot, release-releasing}
 use Rattle.segment_pool.proofs.ReleaseLaws.{release-answer, release-pool}
@@ -46,7 +45,8 @@ released-at c =
     subst₃
     (λ (g p m : ℕ). Releasing (old s) (rest s) (now (s .args .arena)) (now (s .args .index)) (s .args .s)
     (d .depth-of .result) g p m)
-    (sym (c .segment-size .ensures)) (sym (u .first-unit .ensures)) (sym (n .span-of .ensures))
+    (sym (sized _ _ (d .depth-of .ensures .0) (c .segment-size .ensures))) (sym (u .first-unit .ensures))
+    (sym (n .span-of .ensures))
     (release-releasing (s .args .head) (s .args .s) (now (s .args .arena)) (now (s .args .table))
     (now (s .args .index)) (s .args .named) (s .args .slot) (s .pre .0) (s .pre .1)
     (u .before .ranged .ensures) (d .depth-of .result) (d .depth-of .ensures .0) (d .depth-of .ensures .1))
@@ -65,8 +65,7 @@ depth-of-requires c κs = range (c .before .before .before .before .before .befo
 
 segment-size-requires : tie.Need-segment-size-requires
 segment-size-requires c κs =
-    let s = c .before .before .before .before .before .before .before in
-    (power-pos (s .args .s) (range s .power), omega (arith, range s .most))
+    (range (c .before .before .before .before .before .before .before) .most, c .depth-of .ensures .1)
 
 release-requires : tie.Need-release-requires
 release-requires c κs =

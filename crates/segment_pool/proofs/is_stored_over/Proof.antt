@@ -4,7 +4,7 @@ use borrow.Author.Needs.{needs}
 use denote.Ref.{now}
 use Rattle.words.proofs.Tests.{not-true, not-false}
 use Rattle.segment_pool.proofs.GateLaws.{in-range, not-stored, Checked, check-passes}
-use Rattle.segment_pool.proofs.GateLaws.{mapped, measured, power-pos, stored-is}
+use Rattle.segment_pool.proofs.GateLaws.{mapped, measured, sized, stored-is}
 use Rattle.segment_pool.proofs.is_stored_over.Statement.{statement}
 use Rattle.segment_pool.proofs.is_stored_over.Tie as tie
 
@@ -45,28 +45,30 @@ checked c =
 ranged-requires : tie.Need-ranged-requires
 ranged-requires c κs = search needs
 
+depth-of-requires : tie.Need-depth-of-requires
+depth-of-requires c κs = checked (c .before) .known .fit .power
+
 segment-size-requires : tie.Need-segment-size-requires
-segment-size-requires c κs =
-    let fit = checked (c .before) .known .fit in
-    (power-pos (start (c .before) .args .s) (fit .power), omega (arith, fit .most))
+segment-size-requires c κs = (checked (c .before .before) .known .fit .most, c .depth-of .ensures .1)
 
 pool-right-requires : tie.Need-pool-right-requires
 pool-right-requires c κs =
-    let e = c .before .before .before in
+    let d = c .before .before in
+    let e = d .before .before in
     let k = checked e in
     let s = start e in
     let long = s .pre .1 .0 in
     let size = e .before .before .before .table-check .kept .1 .1 .1 .1 .0 in (
       mapped k (omega arith),
-      measured (k .known .fit) _ (c .before .segment-size .ensures),
+      measured (k .known .fit) _ (sized _ _ (d .depth-of .ensures .0) (c .before .segment-size .ensures)),
     )
 
 same-length-2 : tie.Need-same-length-2
-same-length-2 c = c .before .before .before .before .before .before .before .table-check .kept .1 .1 .1 .1 .0
+same-length-2 c = c .before .before .before .before .before .before .before .before .table-check .kept .1 .1 .1 .1 .0
 
 returns-2 : tie.Need-returns-2
 returns-2 c =
-    let r = c .before .before .before in
+    let r = c .before .before .before .before in
     let k = checked (r .before) in
     stored-is (k .known) (r .ranged .ensures) (c .pool-right .result) (c .pool-right .ensures)
 
@@ -78,6 +80,7 @@ is-stored-over-spec =
     same-length
     returns
     ranged-requires
+    depth-of-requires
     segment-size-requires
     pool-right-requires
     same-length-2

@@ -126,7 +126,7 @@ static int report(effort e, const char *path)
         return 0;
     print_growth(stdout, &by_words);
     print_growth(stdout, &by_records);
-    print_summary(stdout, rows, row_count);
+    print_summary(stdout, rows, row_count, &by_words, &by_records);
     FILE *picture = fopen(path, "w");
     if (picture == NULL) {
         perror(path);

@@ -112,15 +112,35 @@ void print_growth(FILE *to, const growth *g)
 
 // ---- in short
 
-// The rows in which the proved code takes more than 1.2 times what the twins of these groups take.
-static size_t rows_above(const measured *rows, size_t count, enum group first, enum group last)
+// How the proved code does against the twins of some groups.
+typedef struct {
+    size_t rows, above; // above: it takes more than 1.2 times the best twin
+    double most;        // the largest ratio
+} standing;
+
+static void count_in(standing *s, const measured *rows, size_t count, enum group first, enum group last)
 {
-    size_t above = 0;
     for (size_t i = 0; i < count; i++) {
         const timed *twin = quickest(&rows[i].t, first, last);
-        above += twin != NULL && quickest(&rows[i].t, PROVED, PROVED)->least > 1.2 * twin->least;
+        if (twin == NULL)
+            continue;
+        double r = ratio(quickest(&rows[i].t, PROVED, PROVED)->least, twin->least);
+        s->rows++;
+        s->above += r > 1.2;
+        s->most = r > s->most ? r : s->most;
     }
-    return above;
+}
+
+// Over the rows of the table and the points of both curves.
+static standing stand(const measured *rows, size_t count, const growth *const curves[2], enum group first,
+                      enum group last)
+{
+    standing s = {0, 0, 0};
+    count_in(&s, rows, count, first, last);
+    for (int k = 0; k < 2; k++)
+        for (int e = TREE; e <= SEGMENT; e++)
+            count_in(&s, curves[k]->points[e], curves[k]->count, first, last);
+    return s;
 }
 
 // The largest ratio to memcmp of a checked find on 16,384 words with so many slots.
@@ -137,11 +157,14 @@ static double find_to_memcmp(const measured *rows, size_t count, enum engine e, 
     return most;
 }
 
-void print_summary(FILE *to, const measured *rows, size_t count)
+void print_summary(FILE *to, const measured *rows, size_t count, const growth *by_words, const growth *by_records)
 {
-    fprintf(to, "- Rows in which the proved code takes more than 1.2 times the best twin that marks units: %zu of %zu; ",
-            rows_above(rows, count, MARKS_UNITS, MARKS_UNITS), count);
-    fprintf(to, "the best twin of all: %zu.\n", rows_above(rows, count, MARKS_UNITS, LAYS_TILES));
+    const growth *const curves[2] = {by_words, by_records};
+    standing marks = stand(rows, count, curves, MARKS_UNITS, MARKS_UNITS);
+    standing all = stand(rows, count, curves, MARKS_UNITS, LAYS_TILES);
+    fprintf(to, "- Rows, growth included, in which the proved code takes more than 1.2 times the best twin");
+    fprintf(to, " that marks units: %zu of %zu, at most %.2f times; of all: %zu, at most %.2f times.\n", marks.above,
+            marks.rows, marks.most, all.above, all.most);
     fprintf(to, "- A checked find on 16,384 words takes at most so many times memcmp of the arena:");
     for (int e = TREE; e <= SEGMENT; e++)
         fprintf(to, " %s %.1f with 16 slots, %.1f with 256%s", engine_name((enum engine)e),

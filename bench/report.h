@@ -29,7 +29,7 @@ typedef struct {
 void print_conditions(FILE *to, effort e);
 void print_rows(FILE *to, const measured *rows, size_t count);
 void print_growth(FILE *to, const growth *g);
-void print_summary(FILE *to, const measured *rows, size_t count);
+void print_summary(FILE *to, const measured *rows, size_t count, const growth *by_words, const growth *by_records);
 void draw(FILE *to, const measured *rows, size_t count, const growth *by_words, const growth *by_records);
 
 #endif

@@ -15,8 +15,8 @@ static inline lf_segment_outcome segment_refused(uint32_t next, uint32_t number)
     return (lf_segment_outcome){next, refused(number)};
 }
 
-// The control words at a, b and, where a free block lies or lay there, e have changed; `end` is the first block past
-// them. Each segment that holds one is scanned once.
+// The control words at a, b and, where a free block lay there, e have changed; `end` is the first block past them. Each
+// segment that holds one is scanned once.
 static void reindex(const segment_pool *p, size_t a, size_t b, size_t e, size_t end, bool free_at_e)
 {
     size_t ka = segment_of(p->h, a), kb = segment_of(p->h, b), ke = segment_of(p->h, e);
@@ -24,6 +24,15 @@ static void reindex(const segment_pool *p, size_t a, size_t b, size_t e, size_t 
     if (kb != ka)
         refresh(p->v, p->index, p->h, kb, end);
     if (free_at_e && ke != ka && ke != kb)
+        refresh(p->v, p->index, p->h, ke, end);
+}
+
+// The same after a grant, which changes only those at `at` and, where a rest lies there, at `end`.
+static void reindex_grant(const segment_pool *p, size_t at, size_t end, bool rest)
+{
+    size_t k = segment_of(p->h, at), ke = segment_of(p->h, end);
+    refresh(p->v, p->index, p->h, k, p->index[2 * p->h.s + k]);
+    if (rest && ke != k)
         refresh(p->v, p->index, p->h, ke, end);
 }
 
@@ -43,7 +52,7 @@ static ALWAYS_INLINE void take_words(const segment_pool *p, size_t at, size_t n)
     if (rest != 0)
         p->v[at + n] = (int32_t)rest;
     p->v[at] = -(int32_t)n;
-    reindex(p, at, at, at + n, at + n, rest != 0);
+    reindex_grant(p, at, at + n, rest != 0);
 }
 
 // The free words right below the block at a word: the blocks of its segment, or of the last before it in which one

@@ -31,7 +31,7 @@ static inline size_t lesser(size_t a, size_t b)
 
 static inline shape shape_of(size_t words, uint32_t s)
 {
-    return (shape){words, s, ((uint32_t)words + s - 1) / s};
+    return (shape){words, s, ((uint32_t)words + s - 1) >> __builtin_ctz(s)};
 }
 
 static inline size_t segment_of(shape h, size_t at)

@@ -222,7 +222,7 @@ fn map_rows(
     m: usize,
 ) -> usize
     requires { ⌜ (length (now v) ≤ 16384) × (length (now v) ≤ 64 * length (now map)) × (0 < m)
-        × (length (now seen) ≡ m) × (all isZero (now map) ≡ true) ⌝ }
+        × (length (now seen) ≡ m) × (all isZero (now map) ≡ true) × (slots (now table) ≤ 256) ⌝ }
     ensures { λ u. ⌜ (u ≤ length (now (v .entry))
         → Headed (now (v .entry)) next (now (table .entry)) (now (map .exit)) (now (seen .exit)) m
         (slots (now (table .entry))) u) ⌝ }
@@ -232,7 +232,7 @@ fn map_rows(
     let mut i = 0;
     while i < table.len() / 3 {
         let u = map_row(&*v, next, &*table, i, &mut *map, &mut *seen, m);
-        if words - held < u {
+        if words < u {
             return words + 1;
         }
         held += u;
@@ -256,7 +256,7 @@ fn is_tiled_over(
     m: usize,
 ) -> bool
     requires { ⌜ Measured (now arena) (now index) s g × (length (now arena) ≤ 64 * length (now map)) × (0 < m)
-        × (length (now seen) ≡ m) × (all isZero (now map) ≡ true) ⌝ }
+        × (length (now seen) ≡ m) × (all isZero (now map) ≡ true) × (slots (now table) ≤ 256) ⌝ }
     ensures { λ r. ⌜ (r ≡ true → Stored next (now (arena .entry)) (now (table .entry)) (now (index .entry)) s) ⌝ }
 {
     let words = arena.len();
@@ -285,7 +285,7 @@ fn is_tiled_few(
     map: &mut [u64],
 ) -> bool
     requires { ⌜ Measured (now arena) (now index) s g × (length (now arena) ≤ 64 * length (now map))
-        × (all isZero (now map) ≡ true) ⌝ }
+        × (all isZero (now map) ≡ true) × (slots (now table) ≤ 256) ⌝ }
     ensures { λ r. ⌜ (r ≡ true → Stored next (now (arena .entry)) (now (table .entry)) (now (index .entry)) s) ⌝ }
 {
     let mut seen: [u8; 128] = [0; 128];
@@ -312,7 +312,7 @@ fn is_tiled_many(
     map: &mut [u64],
 ) -> bool
     requires { ⌜ Measured (now arena) (now index) s g × (length (now arena) ≤ 64 * length (now map))
-        × (all isZero (now map) ≡ true) ⌝ }
+        × (all isZero (now map) ≡ true) × (slots (now table) ≤ 256) ⌝ }
     ensures { λ r. ⌜ (r ≡ true → Stored next (now (arena .entry)) (now (table .entry)) (now (index .entry)) s) ⌝ }
 {
     let mut seen: [u8; 2048] = [0; 2048];
@@ -339,7 +339,7 @@ fn is_tiled_by(
     map: &mut [u64],
 ) -> bool
     requires { ⌜ Measured (now arena) (now index) s g × (length (now arena) ≤ 64 * length (now map))
-        × (all isZero (now map) ≡ true) ⌝ }
+        × (all isZero (now map) ≡ true) × (slots (now table) ≤ 256) ⌝ }
     ensures { λ r. ⌜ (r ≡ true → Stored next (now (arena .entry)) (now (table .entry)) (now (index .entry)) s) ⌝ }
 {
     if table.len() / 3 <= 16 {
@@ -356,7 +356,7 @@ fn is_tiled_small(
     s: usize,
     g: usize,
 ) -> bool
-    requires { ⌜ Measured (now arena) (now index) s g × (length (now arena) ≤ 128) ⌝ }
+    requires { ⌜ Measured (now arena) (now index) s g × (length (now arena) ≤ 128) × (slots (now table) ≤ 256) ⌝ }
     ensures { λ r. ⌜ (r ≡ true → Stored next (now (arena .entry)) (now (table .entry)) (now (index .entry)) s) ⌝ }
 {
     let mut map: [u64; 2] = [0; 2];
@@ -371,7 +371,7 @@ fn is_tiled_middle(
     s: usize,
     g: usize,
 ) -> bool
-    requires { ⌜ Measured (now arena) (now index) s g × (length (now arena) ≤ 2048) ⌝ }
+    requires { ⌜ Measured (now arena) (now index) s g × (length (now arena) ≤ 2048) × (slots (now table) ≤ 256) ⌝ }
     ensures { λ r. ⌜ (r ≡ true → Stored next (now (arena .entry)) (now (table .entry)) (now (index .entry)) s) ⌝ }
 {
     let mut map: [u64; 32] = [0; 32];
@@ -386,7 +386,7 @@ fn is_tiled_large(
     s: usize,
     g: usize,
 ) -> bool
-    requires { ⌜ Measured (now arena) (now index) s g ⌝ }
+    requires { ⌜ Measured (now arena) (now index) s g × (slots (now table) ≤ 256) ⌝ }
     ensures { λ r. ⌜ (r ≡ true → Stored next (now (arena .entry)) (now (table .entry)) (now (index .entry)) s) ⌝ }
 {
     let mut map: [u64; 256] = [0; 256];
@@ -396,7 +396,7 @@ fn is_tiled_large(
 // Whether the table holds a valid ledger, and arena and index are its stored form. Where it says no, this may still be
 // so: it is the exact check that refuses.
 pub fn is_tiled(next: u32, arena: &[i32], table: &[u32], index: &[u32], s: usize, g: usize) -> bool
-    requires { ⌜ Measured (now arena) (now index) s g ⌝ }
+    requires { ⌜ Measured (now arena) (now index) s g × (slots (now table) ≤ 256) ⌝ }
     ensures { λ r. ⌜ (r ≡ true → Stored next (now (arena .entry)) (now (table .entry)) (now (index .entry)) s) ⌝ }
 {
     if arena.len() <= 128 {

@@ -21,7 +21,8 @@ segment-size-requires c κs = (fit (c .before .before .before) .most, c .depth-o
 is-tiled-requires : tie.Need-is-tiled-requires
 is-tiled-requires c κs =
     let d = c .before in
-    measured (fit (d .before .before .before)) _ (sized _ _ (d .depth-of .ensures .0) (c .segment-size .ensures))
+    let in-range = fit (d .before .before .before) in
+    (measured in-range _ (sized _ _ (d .depth-of .ensures .0) (c .segment-size .ensures)), in-range .few)
 
 returns : tie.Need-returns
 returns c =

@@ -1,6 +1,6 @@
 -- `segment_tiles::map_rows` meets its contract: before slot i the map has the first words of the earlier records.
 -- Assumes nothing.
-use Prim.Native.Nat.{_-_, _≤_}
+use Prim.Native.Nat.{_*_, _-_, _≤_}
 use native.Mathlib.Omega.{arith}
 use mathlib.Core.Path.{subst, _≡_, _∙_, refl}
 use denote.Ref.{now}
@@ -13,7 +13,7 @@ use Rattle.segment_tiles.proofs.map_rows.Tie as tie
 
 abbrev Inv-loop : tie.InvT-loop
 Inv-loop v next table map₀ seen₀ m words held₀ i₀ map seen held i =
-    (i ≤ slots table) × (held ≤ length v) × (length map ≡ length map₀) × (length seen ≡ length seen₀)
+    (i ≤ slots table) × (held ≤ 16384 * i) × (length map ≡ length map₀) × (length seen ≡ length seen₀)
     × Headed v next table map seen m i held
 
 abbrev μ-loop : tie.MeasureT-loop
@@ -23,7 +23,7 @@ loop-holds : tie.Need-loop-holds Inv-loop μ-loop
 loop-holds c =
     let s = c .before .before .before in
     let a = s .args in
-    let (few, long, some, wide, zeros) = s .pre in (
+    let (few, long, some, wide, zeros, slots-few) = s .pre in (
       omega arith,
       omega arith,
       refl,
@@ -35,12 +35,9 @@ map-row-requires : tie.Need-map-row-requires Inv-loop μ-loop
 map-row-requires c κs =
     let l = c .before .before .before in
     let s = l .before .before .before .before in
-    let (few, long, some, wide, zeros) = s .pre in
+    let (few, long, some, wide, zeros, slots-few) = s .pre in
     let (upto, low, same-map, same-seen, headed) = l .loop .inv in
     (few, omega arith, omega arith, some, same-seen ∙ wide, headed .noted, headed .heads)
-
-sub-if1 : tie.Need-sub-if1 Inv-loop μ-loop
-sub-if1 c = omega arith
 
 add-result : tie.Need-add-result Inv-loop μ-loop
 add-result c = omega arith
@@ -107,7 +104,6 @@ map-rows-spec =
     μ-loop
     loop-holds
     map-row-requires
-    sub-if1
     add-result
     same-length
     same-length-2

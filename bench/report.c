@@ -114,7 +114,7 @@ void print_growth(FILE *to, const growth *g)
 
 // How the proved code does against the twins of some groups.
 typedef struct {
-    size_t rows, above; // above: it takes more than 1.2 times the best twin
+    size_t rows, above; // above: the proved code takes more than 1.2 times the best twin's time
     double most;        // the largest ratio
 } standing;
 
@@ -163,8 +163,8 @@ void print_summary(FILE *to, const measured *rows, size_t count, const growth *b
     standing marks = stand(rows, count, curves, MARKS_UNITS, MARKS_UNITS);
     standing all = stand(rows, count, curves, MARKS_UNITS, LAYS_TILES);
     fprintf(to, "- Rows, growth included, in which the proved code takes more than 1.2 times the best twin");
-    fprintf(to, " that marks units: %zu of %zu, at most %.2f times; of all: %zu, at most %.2f times.\n", marks.above,
-            marks.rows, marks.most, all.above, all.most);
+    fprintf(to, " that marks units: %zu of %zu, at most %.2f times; the best twin of all: %zu, at most %.2f times.\n",
+            marks.above, marks.rows, marks.most, all.above, all.most);
     fprintf(to, "- A checked find on 16,384 words takes at most so many times memcmp of the arena:");
     for (int e = TREE; e <= SEGMENT; e++)
         fprintf(to, " %s %.1f with 16 slots, %.1f with 256%s", engine_name((enum engine)e),

@@ -17,7 +17,7 @@ static inline lf_segment_outcome segment_refused(uint32_t next, uint32_t number)
 
 // The control words at a, b and, where a free block lay there, e have changed; `end` is the first block past them. Each
 // segment that holds one is scanned once.
-static void reindex(const segment_pool *p, size_t a, size_t b, size_t e, size_t end, bool free_at_e)
+static ALWAYS_INLINE void reindex(const segment_pool *p, size_t a, size_t b, size_t e, size_t end, bool free_at_e)
 {
     size_t ka = segment_of(p->h, a), kb = segment_of(p->h, b), ke = segment_of(p->h, e);
     refresh(p->v, p->index, p->h, ka, p->index[2 * p->h.s + ka]);
@@ -28,7 +28,7 @@ static void reindex(const segment_pool *p, size_t a, size_t b, size_t e, size_t 
 }
 
 // The same after a grant, which changes only those at `at` and, where a rest lies there, at `end`.
-static void reindex_grant(const segment_pool *p, size_t at, size_t end, bool rest)
+static ALWAYS_INLINE void reindex_grant(const segment_pool *p, size_t at, size_t end, bool rest)
 {
     size_t k = segment_of(p->h, at), ke = segment_of(p->h, end);
     refresh(p->v, p->index, p->h, k, p->index[2 * p->h.s + k]);

@@ -9,29 +9,38 @@ static inline bool node_fits(const uint32_t *arena, tree_map *m, size_t k, size_
     return run_is_next(m, k, c, z) && zero_words(arena + 2 * c + 2, 2 * z - 2);
 }
 
-// Nodes to the left are shorter than their father, those to the right no longer. A pool of n live records has at most
-// n + 1 free runs, so no more nodes are entered, on any memory.
+// Left part, node, right part. Nodes to the left are shorter than their father, those to the right no longer. A pool of
+// n live records has at most n + 1 free runs, so the walk goes no deeper, on any memory; and each node that fits lies
+// further on. Only a node with a left part is kept for later.
 static bool walk(const uint32_t *arena, tree_map *m, size_t root)
 {
     uint16_t above[MOST_RECORDS + 1];
-    size_t depth = 0, allowed = m->live + 1, k = 0, at = root, limit = m->units + 1;
+    size_t depth = 0, k = 0, at = root, limit = m->units + 1, deepest = m->live + 1;
     for (;;) {
-        while (at != 0) {
-            if (allowed == 0 || at > m->units || length_of(arena, at - 1) >= limit)
-                return false;
-            allowed--;
-            above[depth++] = (uint16_t)(at - 1);
-            limit = length_of(arena, at - 1);
-            at = left_of(arena, at - 1);
-        }
-        if (depth == 0)
+        if (at == 0)
             return runs_end(m, k);
-        size_t c = above[--depth], z = length_of(arena, c);
-        if (!node_fits(arena, m, k, c, z))
+        if (at > m->units || length_of(arena, at - 1) >= limit)
             return false;
-        k = c + z;
-        limit = z + 1;
-        at = right_of(arena, c);
+        size_t c = at - 1, z = length_of(arena, c);
+        at = left_of(arena, c);
+        if (at != 0) {
+            if (depth == deepest)
+                return false;
+            above[depth++] = (uint16_t)c;
+            limit = z;
+            continue;
+        }
+        for (;;) {
+            if (!node_fits(arena, m, k, c, z))
+                return false;
+            k = c + z;
+            limit = z + 1;
+            at = right_of(arena, c);
+            if (at != 0 || depth == 0)
+                break;
+            c = above[--depth];
+            z = length_of(arena, c);
+        }
     }
 }
 

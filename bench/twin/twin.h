@@ -1,5 +1,6 @@
 // The C twin of the proved library: the same calls, the same numbers, the same stored words, on any memory. It is
-// what the benchmark divides by, so it is written for speed and given every idea that the proved code has.
+// what the benchmark divides by, so it is written for speed, and has the proved code's ideas wherever they make it
+// faster.
 //
 // Names: lf_ with -DPREFIX_LF (a library that takes the proved one's place in the comparison program), else
 // TWIN_PREFIX, so that twins of several compilers stand in one program.

@@ -25,7 +25,7 @@ pub record Changed (m m′ : Words) (rs rs′ : List Run) (root′ : ℕ) : Type
 -- ---- taking
 
 -- The free block r, at the link `block`, has the k cells that are to be taken from its low end. Its father is at the
--- link `over`.
+-- link `over`, 0 for none.
 pub record Takes (m : Words) (root block over k : ℕ) (xs : List Run) (r : Run) (ys : List Run) : Type 0 where
   pub lies : Lies m root (xs ++ r ∷ ys)
   pub at : block ≡ suc (r .start)

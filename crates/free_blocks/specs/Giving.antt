@@ -13,7 +13,7 @@ use Rattle.free_tree.specs.Shapes.{endsAt, beginsAt, linkTo}
 use Rattle.free_blocks.specs.Blocks.{Lies, Changed}
 
 -- From m to m′ the cells from x up to y, one of the free runs rs or none, were taken out, and read zero. The runs that
--- are left touch them nowhere, and every other is among them.
+-- are left touch them nowhere, and every other run of rs is among them.
 pub record Removed (m m′ : Words) (rs rest : List Run) (x y root′ : ℕ) : Type 0 where
   pub change : Changed m m′ rs rest root′
   pub order : x ≤ y

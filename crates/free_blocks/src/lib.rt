@@ -7,8 +7,8 @@ ghost use Rattle.free_tree.specs.Shapes.{endsAt, beginsAt};
 ghost use Rattle.free_blocks.specs.Blocks.{Lies, Takes, Taken, Gives, Given};
 ghost use Rattle.free_blocks.specs.Giving.{HeldCell, TakenOut, MergedBelow, MergedAbove};
 
-// Takes the first `k` cells of the free block at the link `block`, whose father is at the link `over`, and returns the
-// link to the tree of what is left. The cells taken read zero.
+// Takes the first `k` cells of the free block at the link `block`, whose father is at the link `over`, 0 for none, and
+// returns the link to the tree of what is left. The cells taken read zero.
 pub fn take_cells(arena: &mut [u32], root: usize, block: usize, over: usize, k: usize) -> usize
     requires { ⌜ ((xs : List Run) × (r : Run) × (ys : List Run) × Takes (now arena) root block over k xs r ys) ⌝ }
     ensures { λ q. ⌜ Taken (now (arena .entry)) (now (arena .exit)) root block over k q ⌝ }
@@ -85,12 +85,12 @@ pub fn give_cells(arena: &mut [u32], root: usize, lo: usize, hi: usize) -> usize
 {
     words::wipe_part(arena, 2 * lo, 2 * hi);
     let touched = free_tree::touching(arena, root, lo, hi);
-    let under = touched.lo;
-    let over = touched.hi;
-    let below = merge_below(arena, root, under, lo);
+    let lower = touched.lo;
+    let upper = touched.hi;
+    let below = merge_below(arena, root, lower, lo);
     let first = below.cell;
     let others = below.root;
-    let above = merge_above(arena, others, over, hi);
+    let above = merge_above(arena, others, upper, hi);
     let end = above.cell;
     let rest = above.root;
     free_tree::insert(arena, rest, first, (end - first) as u32)

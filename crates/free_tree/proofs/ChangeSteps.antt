@@ -201,7 +201,7 @@ module _ {F : Form} {bound : ℕ} (readable : Readable F bound) where
         };
   }
 
-  -- the search for cell x has ended at the link `at`, below the link `over`: the node there is the run's
+  -- the search for cell x has ended at the link `at`, below the link `over`: the node there is at cell x
   module _ {m : Words} {l x at over : ℕ} (placed : Placed F bound m l (beginsAt x) x at over) (z : at ≢ 0) where
     placed-cell : ((T : Tree) × At F bound m l T) → at - 1 ≡ x
     placed-cell (T, p) =

@@ -9,8 +9,7 @@ use mathlib.Core.Option.{Option, some}
 use lib.Dec.{leb, ltb}
 use Rattle.words.specs.Lists.{all, firstThat}
 use Rattle.words.proofs.Tests.{false-of, and-l, and-r, and-i, eqb-same, eqb-ne, le-of, of-le, lt-of, of-lt, not-lt}
-use Rattle.words.proofs.Tests.{of-ge}
-use Rattle.words.proofs.Tests.{absurd-some}
+use Rattle.words.proofs.Tests.{of-ge, absurd-some}
 use Rattle.ledger.specs.Runs.{Run, run}
 use Rattle.stored_forms.specs.Tree.{Tree, leaf, node, inorder, Heaped, shorter, noLonger}
 use Rattle.stored_forms.proofs.TreeLaws.{tree-unique}

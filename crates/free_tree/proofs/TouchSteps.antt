@@ -43,10 +43,10 @@ module _ (F : Form) (m : Words) (x : ℕ) where
       go (yes z) = rw z
       go (no z) = rw (eqb-ne a 0 z, eqb-ne (a - 1 + lengthAt F m (a - 1)) x (h z))
 
-pub begins-yes : (x b : ℕ) → b ≡ x + 1 → ifBegins x b ≡ b
+begins-yes : (x b : ℕ) → b ≡ x + 1 → ifBegins x b ≡ b
 begins-yes x b e = rw (e, eqb-same (x + 1))
 
-pub begins-no : (x b : ℕ) → b ≢ x + 1 → ifBegins x b ≡ 0
+begins-no : (x b : ℕ) → b ≢ x + 1 → ifBegins x b ≡ 0
 begins-no x b h = rw (eqb-ne b (x + 1) h)
 
 abbrev endsElsewhere : ℕ → Run → Bool
@@ -79,7 +79,7 @@ module _ (F : Form) (m : Words) (x y : Tree) (l n k e : ℕ) (z : l ≢ 0)
         (within-all (endsElsewhere lo) x k (l - 1) (range .0)
         (λ r u v w. ends-away lo r (λ d. omega (arith, some-cells))))
 
-    pub ends-past : linkOr (firstThat (endsAt lo) (inorder x ++ run (l - 1) n ∷ inorder y)) (ifEnds F m lo a)
+    ends-past : linkOr (firstThat (endsAt lo) (inorder x ++ run (l - 1) n ∷ inorder y)) (ifEnds F m lo a)
         ≡ linkOr (firstThat (endsAt lo) (inorder y)) (ifEnds F m lo l)
     ends-past = go (ℕ-discrete (l - 1 + n) lo)
       where
@@ -102,7 +102,7 @@ module _ (F : Form) (m : Words) (x y : Tree) (l n k e : ℕ) (z : l ≢ 0)
 
   -- the block lies above the cells up to hi, and so does the last that was passed, at the link b
   module _ (hi b : ℕ) (over : hi ≤ l - 1) (begun : b ≢ 0 → e < b) where
-    pub begins-past : linkOr (firstThat (beginsAt hi) (inorder x ++ run (l - 1) n ∷ inorder y)) (ifBegins hi b)
+    begins-past : linkOr (firstThat (beginsAt hi) (inorder x ++ run (l - 1) n ∷ inorder y)) (ifBegins hi b)
         ≡ linkOr (firstThat (beginsAt hi) (inorder x)) (ifBegins hi l)
     begins-past = go (ℕ-discrete (l - 1) hi)
       where
@@ -126,11 +126,12 @@ module _ (F : Form) (m : Words) (x y : Tree) (l n k e : ℕ) (z : l ≢ 0)
 
 -- ---- the search
 
--- the run of T that ends at lo is in the subtree t, or is the one at the link a; the run that begins at hi, or at b
+-- the run of T that ends at lo is in its subtree t, or is the one at the link a
 abbrev Below : Form → Words → ℕ → Tree → Tree → ℕ → Type 0
 Below F m lo T t a =
     linkTo (firstThat (endsAt lo) (inorder T)) ≡ linkOr (firstThat (endsAt lo) (inorder t)) (ifEnds F m lo a)
 
+-- the run of T that begins at hi is in its subtree t, or is the one at the link b
 abbrev Above : ℕ → Tree → Tree → ℕ → Type 0
 Above hi T t b =
     linkTo (firstThat (beginsAt hi) (inorder T)) ≡ linkOr (firstThat (beginsAt hi) (inorder t)) (ifBegins hi b)

@@ -220,15 +220,17 @@ pub record Clear (F : Form) (bound : ℕ) (m : Words) (l lo hi : ℕ) (t : Tree)
   pub some : lo < hi
   pub apart : Apart (run lo (hi - lo)) t
 
--- it gave the links to the blocks that touch these cells: the one that ends at lo, and the one that begins at hi
+-- the search of the tree at the link `root` gave a and b, the links to the block that ends at lo and to the one that
+-- begins at hi, 0 for none
 abbrev pub TouchFound : Form → ℕ → Words → ℕ → ℕ → ℕ → ℕ → ℕ → Type 0
 TouchFound F bound m root lo hi a b =
     (t : Tree) → Clear F bound m root lo hi t
     → (a ≡ linkTo (firstThat (endsAt lo) (inorder t))) × (b ≡ linkTo (firstThat (beginsAt hi) (inorder t)))
 
--- a link, or 0 if it is 0, or its block does not end at cell x; does not begin there
+-- the link l itself if its block ends at cell x, else 0
 abbrev pub ifEnds : Form → Words → ℕ → ℕ → ℕ
 ifEnds F m x l = cond (eqb l 0) 0 (cond (eqb (l - 1 + lengthAt F m (l - 1)) x) l 0)
 
+-- the link l itself if its block begins at cell x, else 0
 abbrev pub ifBegins : ℕ → ℕ → ℕ
 ifBegins x l = cond (eqb l (x + 1)) l 0

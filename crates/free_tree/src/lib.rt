@@ -79,6 +79,29 @@ pub fn clear_node(arena: &mut [u32], c: usize)
     arena[2 * c + 1] = 0;
 }
 
+// Two links in one number, as a node has them in its second word. A number comes back in a register, where a struct
+// would come back through memory.
+fn both_links(lo: usize, hi: usize) -> u32
+    requires { ⌜ (lo < links) × (hi < links) ⌝ }
+    ensures { λ r. ⌜ (r % links ≡ lo) × (r / links ≡ hi) ⌝ }
+{
+    lo as u32 + 65536 * hi as u32
+}
+
+// The link in the lower half.
+fn low_link(both: u32) -> usize
+    ensures { λ r. ⌜ r ≡ both % links ⌝ }
+{
+    (both % 65536) as usize
+}
+
+// The link in the upper half.
+fn high_link(both: u32) -> usize
+    ensures { λ r. ⌜ r ≡ both / links ⌝ }
+{
+    (both / 65536) as usize
+}
+
 // ---- join
 
 // Joins the trees at the links `a` and `b`, where the root of `a` stays on top.
@@ -141,27 +164,6 @@ pub fn join_trees(arena: &mut [u32], a: usize, b: usize) -> usize
 
 // ---- split
 
-// Two links in one number, as a node has them in its second word. A number comes back in a register, where a struct
-// would come back through memory.
-fn both_links(lo: usize, hi: usize) -> u32
-    requires { ⌜ (lo < links) × (hi < links) ⌝ }
-    ensures { λ r. ⌜ (r % links ≡ lo) × (r / links ≡ hi) ⌝ }
-{
-    lo as u32 + 65536 * hi as u32
-}
-
-fn low_link(both: u32) -> usize
-    ensures { λ r. ⌜ r ≡ both % links ⌝ }
-{
-    (both % 65536) as usize
-}
-
-fn high_link(both: u32) -> usize
-    ensures { λ r. ⌜ r ≡ both / links ⌝ }
-{
-    (both / 65536) as usize
-}
-
 // Splits the tree at the link `l`, which is not 0, into its blocks below cell `x` and those from it on, and returns
 // the links to both parts. Where there is nothing further down, no call is made to find that out.
 fn split(arena: &mut [u32], l: usize, x: usize) -> u32
@@ -201,7 +203,7 @@ fn parts(arena: &mut [u32], l: usize, x: usize) -> u32
 
 // ---- the place of a change
 
-// Where a search by address ends: the link to the subtree there, 0 for none, and the link to its father, 0 for none.
+// Where a search ends: the link to what lies there, 0 for none, and the link to its father, 0 for none.
 pub struct Place {
     pub at: usize,
     pub over: usize,
@@ -295,7 +297,7 @@ pub fn insert(arena: &mut [u32], l: usize, x: usize, n: u32) -> usize
 }
 
 // Takes the block at the link `at` out of the tree at the link `l`, and returns the link to the rest. Its father is at
-// the link `over`. The block's words stay as they are.
+// the link `over`, 0 for none. The block's words stay as they are.
 pub fn delete_at(arena: &mut [u32], l: usize, at: usize, over: usize) -> usize
     requires { ⌜ ((t : Tree) × At formOne links (now arena) l t) ⌝ }
     requires { ⌜ Seat formOne links (now arena) l at over ⌝ }
@@ -352,8 +354,8 @@ fn settle(arena: &mut [u32], lo: usize, hi: usize, x: usize, n: u32) -> usize
 }
 
 // The block at the link `at`, of more than `k` cells, gives up its first `k` cells in the tree at the link `l`. Its
-// father is at the link `over`. Returns the link to the whole. What is left of it can only sink below its sons: no
-// block above it is shorter. The words of its first cell stay as they are.
+// father is at the link `over`, 0 for none. Returns the link to the whole. What is left of it can only sink below its
+// sons: no block above it is shorter. The words of its first cell stay as they are.
 pub fn shrink(arena: &mut [u32], l: usize, at: usize, over: usize, k: usize) -> usize
     requires { ⌜ ((t : Tree) × (n : ℕ) × Longer formOne links (now arena) l (run (at - 1) n) k t) ⌝ }
     requires { ⌜ Seat formOne links (now arena) l at over ⌝ }
@@ -423,7 +425,8 @@ fn if_begins(l: usize, x: usize) -> usize
 }
 
 // The blocks that touch the cells from `lo` up to `hi`, of which none is free: the one that ends at `lo`, and the one
-// that begins at `hi`. One search by address passes both: they are the last that it leaves below and above.
+// that begins at `hi`. If there are such blocks, one search by address passes both: they are the last
+// that it leaves below and above.
 pub fn touching(arena: &[u32], root: usize, lo: usize, hi: usize) -> Sides
     requires { ⌜ (hi ≤ cells formOne (now arena)) × ((t : Tree) × Clear formOne links (now arena) root lo hi t) ⌝ }
     ensures { λ r. ⌜ TouchFound formOne links (now (arena .entry)) root lo hi (r .lo) (r .hi) ⌝ }

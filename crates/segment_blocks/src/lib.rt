@@ -117,8 +117,8 @@ fn refresh_if(on: bool, v: &[i32], t: &mut [u32], s: usize, g: usize, k: usize, 
     refresh_segment(v, t, s, g, k, from);
 }
 
-// The index follows a change of at most three control words: at a, p and e. A segment that holds two of them is
-// scanned once.
+// The index follows a release, which changes at most three control words: at a and p, and at e if the y words there
+// were free. The merged block begins at a, and no other before `end`. A segment that holds two of them is scanned once.
 pub fn reindex(
     v: &[i32],
     t: &mut [u32],

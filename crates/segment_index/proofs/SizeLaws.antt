@@ -1,4 +1,4 @@
--- Segments: how many there are, and which one a word lies in. Assumes nothing.
+-- Segments: how many there are, how long they are, and which one a word lies in. Assumes nothing.
 use Prim.Native.Nat.{ℕ, _+_, _-_, _*_, _/_, _%_, _^_, _<_, _≤_}
 use native.Mathlib.Decide.{decLt}
 use native.Mathlib.Nat.{div-eq-of-lt-le, lt-div-mul-add, div-mul-le-self, div-le-self, mul-le-mul-right, mul-comm}

@@ -60,7 +60,7 @@ pub fn descend(t: &[u32], d: u32, n: u32) -> usize
     i
 }
 
-// The other son of the word above i. The compiler sees in this form that only the last bit changes, and turns it.
+// The other son of the word above i. In this form the compiler sees that only the last bit changes, and flips it.
 fn beside(i: usize) -> usize
     requires { ⌜ (0 < i) × (i < 2 ^ 63) ⌝ }
     ensures { λ r. ⌜ r + i ≡ 4 * (i / 2) + 1 ⌝ }

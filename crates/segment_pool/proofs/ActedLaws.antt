@@ -5,7 +5,7 @@ use mathlib.Core.Bool.{true, false}
 use mathlib.Core.List.{List, []}
 use lib.IntN.{ℤ}
 use lib.Dec.{eqb}
-use Prim.Native.Nat.{ℕ}
+use Prim.Native.Nat.{ℕ, _/_}
 use Rattle.words.specs.Lists.{Words}
 use Rattle.ledger.specs.declared.Row.{Row}
 use Rattle.calls.specs.Pool.{Pool, sound}
@@ -17,7 +17,6 @@ use Rattle.call_parts.proofs.AskLaws.{RefusedBy}
 use Rattle.call_parts.proofs.GateLaws.{gate, gate-refuses}
 use Rattle.segment_pool.specs.declared.Head.{Head}
 use Rattle.segment_pool.specs.declared.Outcome.{Outcome}
-use Rattle.segment_pool.specs.declared.Effect.{Effect}
 use Rattle.segment_pool.specs.Promises.{segmentPool, Left, handed, left, acted, refusedWith, granted, vacated}
 
 pub acted-left : (act : Act) (p : Pool) (S : ℕ) (o : Outcome) (b : List ℤ) (u x : Words)
@@ -48,10 +47,10 @@ module _ (h : Head) (S : ℕ) (v : List ℤ) (t x : Words) where
       same-left act p v t x e (acted-left act p S (refusedWith h n) v t x (sym (r .0)) (sym (r .1)))
 
   -- refused in the effect alone: the outcome that it comes to is the refusal
-  pub granted-refused : (e : Effect) (n : ℕ) → e .number ≡ n → eqb n 0 ≡ false
+  pub granted-refused : (e n : ℕ) → e / 65536 ≡ n → eqb n 0 ≡ false
       → (k : ℕ) → RefusedBy segmentEngine p (ask k) n → handed (granted h k e) v t x [] ≡ acted (ask k) p
   granted-refused e n is some k =
-      let refuses : eqb (e .number) 0 ≡ false = ap (λ (m : ℕ). eqb m 0) is ∙ some in
+      let refuses : eqb (e / 65536) 0 ≡ false = ap (λ (m : ℕ). eqb m 0) is ∙ some in
       refused-left (ask k) (granted h k e) n (rw refuses (ap (refusedWith h) is))
 
   pub vacated-refused : (n : ℕ) → eqb n 0 ≡ false → (r : Row) → RefusedBy segmentEngine p (give r) n

@@ -1,5 +1,5 @@
 -- What the segment pool's calls hand back and leave, and the machine's outcome, in one form. Assumes nothing.
-use Prim.Native.Nat.{ℕ, _+_, _*_, _<_, _^_}
+use Prim.Native.Nat.{ℕ, _+_, _*_, _/_, _%_, _<_, _^_}
 use mathlib.Core.Path.{_≡_}
 use mathlib.Core.Bool.{Bool, cond}
 use mathlib.Core.List.{List, [], _++_, map}
@@ -20,7 +20,6 @@ use Rattle.calls.specs.Step as machine
 use Rattle.calls.specs.Pool as memory
 use Rattle.segment_pool.specs.declared.Head.{Head}
 use Rattle.segment_pool.specs.declared.Outcome.{Outcome}
-use Rattle.segment_pool.specs.declared.Effect.{Effect}
 use Rattle.calls.specs.Engines.{segmentEngine}
 
 -- signed words by their 32 bits, as the machine has them; two signed words with the same bits are one
@@ -102,15 +101,16 @@ ran rs bs p = (
 abbrev pub refusedWith : Head → ℕ → Outcome
 refusedWith h n = record { head = h; answer = refusal n }
 
--- what an allocation of n words comes to by its effect: a refusal, or the next ticket at the address that was found
-abbrev pub granted : Head → ℕ → Effect → Outcome
+-- what an allocation of n words comes to by its effect: a refusal with the number in the upper half, or, if that is 0,
+-- the next ticket at the address in the lower half
+abbrev pub granted : Head → ℕ → ℕ → Outcome
 granted h n e =
-    cond (eqb (e .number) 0)
+    cond (eqb (e / 65536) 0)
     (record {
       head = record { next = nextAfter (h .next) };
-      answer = machine.granted (record { ticket = h .next; address = e .address; words = n });
+      answer = machine.granted (record { ticket = h .next; address = e % 65536; words = n });
     })
-    (refusedWith h (e .number))
+    (refusedWith h (e / 65536))
 
 -- what a release comes to by its number: a refusal, or the named record once more; no ticket is used up
 abbrev pub vacated : Head → Row → ℕ → Outcome

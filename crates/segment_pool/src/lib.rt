@@ -11,7 +11,7 @@ use record_table::Found as Slot;
 ghost use mathlib.Core.Path.{_≡_};
 ghost use mathlib.Core.Bool.{true};
 ghost use mathlib.Core.List.{[], _∷_};
-ghost use Prim.Native.Nat.{_+_, _*_, _%_, _<_, _≤_};
+ghost use Prim.Native.Nat.{_+_, _*_, _/_, _%_, _<_, _≤_};
 ghost use lib.ListN.{length};
 ghost use Rattle.words.specs.Lists.{all, isZero};
 ghost use Rattle.calls.specs.Pool.{lengths, stored, sound};
@@ -32,14 +32,6 @@ pub struct Head {
 pub struct Outcome {
     pub head: Head,
     pub answer: Answer,
-}
-
-// What an allocation on a sound pool has come to, as far as its caller does not know it: number, and the address of
-// the block that was granted. It is small, because a struct comes back through memory: an outcome that is read there at
-// once costs a wait.
-struct Effect {
-    number: u32,
-    address: u32,
 }
 
 // ---- the tests before every call
@@ -216,14 +208,17 @@ fn refused_with(head: Head, number: u32) -> Outcome
     }
 }
 
-// The effect of an allocation that is refused: none.
-fn no_effect(number: u32) -> Effect
-    ensures { λ r. ⌜ r .number ≡ number ⌝ }
+// The effect of an allocation that is refused: no address, and its number in the upper half.
+fn no_effect(number: u32) -> u32
+    requires { ⌜ number < 65536 ⌝ }
+    ensures { λ r. ⌜ r / 65536 ≡ number ⌝ }
 {
-    Effect { number, address: 0 }
+    65536 * number
 }
 
-// Takes the first words of the free block that was found, under the next ticket.
+// Takes the first words of the free block that was found, under the next ticket. What an allocation has come to, as
+// far as its caller does not know it, is one number, its effect: a struct would come back through memory, and what is
+// read there at once costs a wait.
 fn place(
     head: Head,
     s: u32,
@@ -233,7 +228,7 @@ fn place(
     words: u32,
     slot: usize,
     at: usize,
-) -> Effect
+) -> u32
     requires { ⌜ Found head s (now arena) (now table) (now index) words slot at ⌝ }
     ensures { λ r. ⌜ handed (granted head words r) (now (arena .exit)) (now (table .exit)) (now (index .exit)) []
         ≡ acted (ask words)
@@ -249,7 +244,7 @@ fn place(
         words,
     };
     record_table::write_row(table, slot, new);
-    Effect { number: 0, address }
+    address
 }
 
 // An allocation on a sound pool: the tests in the order of their numbers, then the search.
@@ -260,7 +255,7 @@ fn grant(
     table: &mut [u32],
     index: &mut [u32],
     words: u32,
-) -> Effect
+) -> u32
     requires { ⌜ sound segmentEngine (segmentPool s (head .next) (now arena) (now table) (now index)) ≡ true ⌝ }
     ensures { λ r. ⌜ handed (granted head words r) (now (arena .exit)) (now (table .exit)) (now (index .exit)) []
         ≡ acted (ask words)
@@ -286,16 +281,16 @@ fn grant(
 }
 
 // The outcome of an allocation with this effect.
-fn outcome_of_grant(head: Head, words: u32, done: Effect) -> Outcome
+fn outcome_of_grant(head: Head, words: u32, done: u32) -> Outcome
     ensures { λ r. ⌜ r ≡ granted head words done ⌝ }
 {
-    let number = done.number;
+    let number = done / 65536;
     if number != 0 {
         return refused_with(head, number);
     }
     let new = Row {
         ticket: head.next,
-        address: done.address,
+        address: done % 65536,
         words,
     };
     Outcome {

@@ -17,7 +17,7 @@ use Rattle.tree_pool.specs.declared.Head.{Head}
 use Rattle.tree_pool.specs.Promises.{poolOf}
 
 -- The pool is sound, n is a good size, slot `slot` is the lowest empty one, a ticket is left, and the leftmost fit
--- for n words is the block at the link `block`, whose father is at the link `over`.
+-- for n words is the block at the link `block`, whose father is at the link `over`, 0 for none.
 pub record Found (h : Head) (a t : Words) (n slot block over : ℕ) : Type 0 where
   pub ok : sound treeEngine (poolOf h a t) ≡ true
   pub size : (eqb n 0 || ltb 16384 n) ≡ false

@@ -130,7 +130,7 @@ fn no_effect(number: u32) -> Effect
     }
 }
 
-// Takes the first cells of the block that was found, with its father, under the next ticket.
+// Takes the first cells of the block that was found, under the next ticket. The block's father was found with it.
 fn place(
     head: Head,
     arena: &mut [u32],

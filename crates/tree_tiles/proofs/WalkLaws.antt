@@ -39,7 +39,7 @@ module _ {m map : Words} {N : ℕ} where
     paved = λ u a b c. absurd (omega arith);
   }
 
-  -- the same, told of equal numbers
+  -- what was found, said of equal numbers
   pub found-as : {l limit k before next free n s : ℕ} → n ≡ next → s ≡ free
       → Found m map N l limit k before next free → Found m map N l limit k before n s
   found-as en es x = rw (en, es) x

@@ -1,5 +1,5 @@
--- A walk of the free tree over tiles, on any memory: where it says yes, the nodes met from left to right are free
--- tiles, and records lie side by side from each to the next. 01, "Stored form of the tree pool". Assumes nothing.
+-- A walk of the free tree over tiles, on any memory: where it finds nothing wrong, the nodes met from left to right are
+-- free tiles, and records lie side by side from each to the next. 01, "Stored form of the tree pool". Assumes nothing.
 use Prim.Native.Nat.{ℕ, _+_, _*_, _≤_, _<_, min}
 use mathlib.Core.Path.{_≡_}
 use mathlib.Core.Bool.{Bool, true, false}

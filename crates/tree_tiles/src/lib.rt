@@ -192,12 +192,13 @@ fn node_ok(
     is_paved(map, k, c) & words::zero_part(arena, 2 * c + 2, 2 * (c + z))
 }
 
-// Left part, node, right part: whether the blocks of the tree at the link, each shorter than the limit, are tiles from
-// unit k on, with records between them. Nodes to the left have to be shorter than their father, those to the right no
-// longer. Answers the unit past the last block, or a number above `units` if something is wrong, and adds the blocks'
-// units to `*free`: one number comes back in a register, where a struct would come through memory. On any memory the
-// calls go no deeper than allowed, and the walk ends, because each node that is right lies further on. The loop goes
-// to the right, and only a left part that is there costs a call.
+// Left part, node, right part: whether the blocks of the tree at the link, each shorter than the limit, are tiles
+// from unit k on, with records between them. Nodes to the left have to be shorter than their father, those to the
+// right no longer. Answers the unit past the last block, k if there is none, or a number above `units` if something
+// is wrong; if nothing is, the blocks' units have been added to `*free`. One number comes back in a register, where
+// a struct would come through memory. On any memory calls lie in each other no deeper than allowed, and the walk
+// ends, because each node that is right lies further on. The loop goes to the right, and only a left part that is
+// there costs a call.
 fn walk(
     arena: &[u32],
     map: &[u8],

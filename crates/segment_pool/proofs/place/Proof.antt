@@ -1,7 +1,8 @@
 -- `segment_pool::place` meets its contract: what was found makes the act a grant. Assumes nothing.
 use Prim.Native.Nat.{ℕ, _+_, _<_}
+use native.Mathlib.Nat.{div-eq-of-lt, mod-eq-of-lt}
 use native.Mathlib.Omega.{arith}
-use mathlib.Core.Path.{sym, subst, subst₂}
+use mathlib.Core.Path.{_≡_, refl, sym, subst, subst₂}
 use borrow.Author.Needs.{needs}
 use denote.Ref.{now}
 use lib.IntN.{pos}
@@ -11,11 +12,12 @@ use Rattle.ledger.specs.Records.{Ledger, row, recordsOf, enter}
 use Rattle.ledger.specs.Units.{span, addressAt}
 use Rattle.stored_forms.specs.Segments.{segmentRule}
 use Rattle.segment_places.specs.Stores.{Granting, Becomes}
-use Rattle.calls.specs.Pool.{Pool}
-use Rattle.segment_pool.specs.Promises.{segmentPool, granted}
+use Rattle.calls.specs.Pool.{Pool, nextAfter}
 use Rattle.calls.specs.Step.{ask}
+use Rattle.calls.specs.Step as machine
+use Rattle.segment_pool.specs.Promises.{segmentPool, granted}
 use Rattle.segment_pool.proofs.GateLaws.{InRange, sized}
-use Rattle.segment_pool.proofs.ActedLaws.{acted-left}
+use Rattle.segment_pool.proofs.ActedLaws.{same-left, acted-left}
 use Rattle.segment_pool.proofs.GrantLaws.{place-range, place-slot, place-inside}
 use Rattle.segment_pool.proofs.GrantLaws.{place-granting, place-answer, place-pool}
 use Rattle.segment_pool.proofs.place.Statement.{statement}
@@ -119,12 +121,20 @@ returns c =
     let after = place-pool (s .args .head) (s .args .s) (now (s .args .arena)) (now (s .args .table))
     (now (s .args .index)) (s .args .words) (s .args .slot) (s .args .at) (s .pre)
     (l .allot .last .0) (w .write-row .last .0) (l .allot .last .1 .0) (becomes l) (w .write-row .ensures) in
-    acted-left (ask (s .args .words)) (pool s) (s .args .s)
-    (granted (s .args .head) (s .args .words) (record { number = 0; address = s .args .at + 1 }))
+    let small : s .args .at + 1 < 65536 = omega (arith, inside s, range s .most) in
+    let named : granted (s .args .head) (s .args .words) (s .args .at + 1)
+    ≡ record {
+      head = record { next = nextAfter (s .args .head .next) };
+      answer = machine.granted (row (s .args .head .next) (s .args .at + 1) (s .args .words));
+    }
+    = rw (div-eq-of-lt small, mod-eq-of-lt small) in
+    same-left (ask (s .args .words)) (pool s)
+    (l .allot .last .0) (w .write-row .last .0) (l .allot .last .1 .0) named
+    (acted-left (ask (s .args .words)) (pool s) (s .args .s) _
     (l .allot .last .0) (w .write-row .last .0) (l .allot .last .1 .0)
     (place-answer (s .args .head) (s .args .s) (now (s .args .arena)) (now (s .args .table))
     (now (s .args .index)) (s .args .words) (s .args .slot) (s .args .at) (s .pre))
-    after
+    after)
 
 pub place-spec : {M : Type 1} → statement M
 place-spec =

@@ -28,7 +28,8 @@ void print_conditions(FILE *to, effort e)
     line_of("/proc/loadavg", "", load, sizeof load);
     fprintf(to, "- One run, %d passes of %d rounds in rotated order, samples of %.0f microseconds. ", e.passes,
             e.rounds, e.sample / 1000);
-    fputs("Times are nanoseconds: minimum, and median in brackets; ratios are of minima, and of medians in brackets.\n"
+    fputs("Times are nanoseconds: minimum, and median in brackets; ratios are of minima, and in "
+          "brackets the median of the rounds' ratios.\n"
           "- Release builds for plain x86-64 on both sides: the archive of rt staticlib; the twins with -O3. Functions "
           "begin at multiples of 64 bytes in both, since where a loop lies decided up to a fifth.\n"
           "- Buffers were not cleared first: every byte was 0xa5 before format, and holders wrote every word of their "
@@ -54,7 +55,7 @@ static void print_against(FILE *to, const timed *us, const timed *other)
     }
     char cell[64];
     snprintf(cell, sizeof cell, "%.0f %s", other->least, other->name);
-    fprintf(to, " %-24s | %5.2f (%5.2f) |", cell, ratio(us->least, other->least), ratio(us->median, other->median));
+    fprintf(to, " %-24s | %5.2f (%5.2f) |", cell, ratio(us->least, other->least), other->by_round);
 }
 
 // Times under 100 are printed with a decimal.
@@ -114,8 +115,8 @@ void print_growth(FILE *to, const growth *g)
 
 // How the proved code does against the twins of some groups.
 typedef struct {
-    size_t rows, above; // above: the proved code takes more than 1.2 times the best twin's time
-    double most;        // the largest ratio
+    size_t rows, above, above_by_round; // above: the proved code takes more than 1.2 times the best twin's time
+    double most, most_by_round;         // the largest ratio
 } standing;
 
 static void count_in(standing *s, const measured *rows, size_t count, enum group first, enum group last)
@@ -128,6 +129,9 @@ static void count_in(standing *s, const measured *rows, size_t count, enum group
         s->rows++;
         s->above += r > 1.2;
         s->most = r > s->most ? r : s->most;
+        r = most_by_round(&rows[i].t, first, last);
+        s->above_by_round += r > 1.2;
+        s->most_by_round = r > s->most_by_round ? r : s->most_by_round;
     }
 }
 
@@ -135,7 +139,7 @@ static void count_in(standing *s, const measured *rows, size_t count, enum group
 static standing stand(const measured *rows, size_t count, const growth *const curves[2], enum group first,
                       enum group last)
 {
-    standing s = {0, 0, 0};
+    standing s = {0, 0, 0, 0, 0};
     count_in(&s, rows, count, first, last);
     for (int k = 0; k < 2; k++)
         for (int e = TREE; e <= SEGMENT; e++)
@@ -165,6 +169,8 @@ void print_summary(FILE *to, const measured *rows, size_t count, const growth *b
     fprintf(to, "- Rows, growth included, in which the proved code takes more than 1.2 times the best twin");
     fprintf(to, " that marks units: %zu of %zu, at most %.2f times; the best twin of all: %zu, at most %.2f times.\n",
             marks.above, marks.rows, marks.most, all.above, all.most);
+    fprintf(to, "- The same by the median of the rounds' ratios, to every twin: %zu, at most %.2f times.\n",
+            all.above_by_round, all.most_by_round);
     fprintf(to, "- A checked find on 16,384 words takes at most so many times memcmp of the arena:");
     for (int e = TREE; e <= SEGMENT; e++)
         fprintf(to, " %s %.1f with 16 slots, %.1f with 256%s", engine_name((enum engine)e),

@@ -70,8 +70,23 @@ static int by_size(const void *a, const void *b)
     return (x > y) - (x < y);
 }
 
+// While the samples are still in their order.
+static double median_by_round(const timings *t, const timed *us, const timed *other)
+{
+    double ratios[SAMPLES_MOST];
+    for (size_t r = 0; r < t->taken; r++)
+        ratios[r] = us->samples[r] / other->samples[r];
+    qsort(ratios, t->taken, sizeof ratios[0], by_size);
+    return ratios[t->taken / 2];
+}
+
 void sum_up(timings *t)
 {
+    const timed *us = t->by;
+    while (us->group != PROVED)
+        us++;
+    for (size_t k = 0; k < t->count; k++)
+        t->by[k].by_round = median_by_round(t, us, &t->by[k]);
     for (size_t k = 0; k < t->count; k++) {
         timed *w = &t->by[k];
         qsort(w->samples, t->taken, sizeof w->samples[0], by_size);
@@ -87,4 +102,13 @@ const timed *quickest(const timings *t, enum group first, enum group last)
         if (t->by[k].group >= first && t->by[k].group <= last && (best == NULL || t->by[k].least < best->least))
             best = &t->by[k];
     return best;
+}
+
+double most_by_round(const timings *t, enum group first, enum group last)
+{
+    double most = 0;
+    for (size_t k = 0; k < t->count; k++)
+        if (t->by[k].group >= first && t->by[k].group <= last && t->by[k].by_round > most)
+            most = t->by[k].by_round;
+    return most;
 }

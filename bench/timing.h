@@ -1,5 +1,6 @@
 // Times of several contestants at one task: many repetitions a sample, the contestants in rotated order, so that what
-// disturbs the machine falls on all of them; minimum and median of the samples.
+// disturbs the machine falls on all of them; minimum and median of the samples, and how the proved library stands to each
+// of the others round by round.
 #ifndef TIMING_H
 #define TIMING_H
 
@@ -23,6 +24,7 @@ typedef struct {
     const char *name;
     enum group group;
     double least, median; // nanoseconds
+    double by_round;      // the proved library's sample by this one's in the same round: the median
     double samples[SAMPLES_MOST];
 } timed;
 
@@ -40,10 +42,14 @@ typedef struct {
 // Adds the samples of one pass.
 void time_pass(timings *t, effort e, pool *p, contest c);
 
-// Minima and medians, once all passes are done.
+// Minima, medians and ratios by round, once all passes are done. Where the clock moves, a minimum may come from a quick
+// moment that another contestant did not get; samples of one round are taken within a millisecond or two.
 void sum_up(timings *t);
 
 // The quickest of the groups, by minimum; NULL where there is none.
 const timed *quickest(const timings *t, enum group first, enum group last);
+
+// The largest ratio by round to any of the groups.
+double most_by_round(const timings *t, enum group first, enum group last);
 
 #endif

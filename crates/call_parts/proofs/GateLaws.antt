@@ -5,22 +5,23 @@ use native.Mathlib.Nat.{lt-mul-div-succ}
 use native.Mathlib.Omega.{arith}
 use mathlib.Core.Path.{_≡_, refl, sym, ap, _∙_}
 use mathlib.Core.Logic.{_≢_}
-use mathlib.Core.Bool.{Bool, true, false, cond, _&&_, and-true}
+use mathlib.Core.Bool.{Bool, true, false, cond, _&&_}
 use Rattle.words.specs.Lists.{Words}
-use Rattle.words.proofs.Tests.{eqb-ne, and-i}
+use lib.Dec.{eqb}
+use Rattle.words.proofs.Tests.{eqb-ne}
 use Rattle.ledger.specs.declared.Row.{Row}
 use Rattle.ledger.specs.declared.Rule.{Rule}
 use Rattle.ledger.specs.Records.{recordAt, recordsOf, sameBlock, recordOf}
 use Rattle.calls.specs.Pool.{Pool, ledger, wordCount, Engine, Laws, ruleOf, lengths, stored, sound}
-use Rattle.calls.specs.Step.{Call, find, look, granted, refusal, accepted, give, query, Outcome, arenaPart, placeholder}
-use Rattle.calls.specs.Step.{named, numberOf, answerOf, answerTo, suits, refusedWhole, perform, checked, step}
-use Rattle.calls.specs.Demand1.{isFormat}
+use Rattle.calls.specs.Step.{Call, single, find, look, success, refusal, accepted, Act, give, query, bad, Outcome}
+use Rattle.calls.specs.Step.{arenaPart, placeholder, named, numberOf, answerDone, answerTo, suits, fills, behind, gate}
+use Rattle.calls.specs.Step.{refusedBy, actsDone, perform, step}
 use Rattle.calls.proofs.StoreLaws.{sound-valid}
 use Rattle.ledger.specs.Units.{span, first, past, addressAt}
 use Rattle.ledger.proofs.UnitLaws.{valid-record}
 use mathlib.Core.Option.{some}
-use Rattle.calls.proofs.ActLaws.{act-done, act-refused, answer-number, Way, eight, one, runs, way, step-sound}
-use Rattle.calls.proofs.ActLaws.{named-zero}
+use Rattle.calls.proofs.ActLaws.{named-zero, act-done, act-refused, answer-number}
+use Rattle.calls.proofs.GateLaws.{Way, stops, runs, way, step-stops, sound-gate, gate-same, step-sound}
 use Rattle.record_table.specs.declared.Found.{Found}
 use Rattle.record_table.specs.declared.Found.the-variants.{At, Nothing}
 use Rattle.record_table.specs.Slots.{ticketSlot}
@@ -31,34 +32,17 @@ use Rattle.call_parts.proofs.AskLaws.{RefusedBy, refused-by}
 
 -- ---- the gate
 
--- 8, then 1; 0 for a sound pool
-abbrev pub gate : Engine → Pool → ℕ
-gate E p = cond (lengths E p) (cond (stored E p) 0 1) 8
+-- the gate's number for every call that is one act
+abbrev pub GateIs : Engine → Pool → ℕ → Type 0
+GateIs E p x = (a : Act) → x ≡ gate E (single a) p
 
-module _ (E : Engine) (p : Pool) (x : ℕ) (is : x ≡ gate E p) where
-  pub gate-sound : x ≡ 0 → sound E p ≡ true
-  unfolding sound
-  gate-sound z = go (lengths E p) (stored E p) (sym is ∙ z)
-    where
-      go : (a b : Bool) → _≡_ {A = ℕ} (cond a (cond b 0 1) 8) 0 → (a && b) ≡ true
-      go true true h = refl
-      go true false h = absurd (omega arith)
-      go false b h = absurd (omega arith)
+module _ (E : Engine) (p : Pool) (x : ℕ) (is : GateIs E p x) where
+  pub gate-opens : x ≡ 0 → sound E p ≡ true
+  gate-opens z = sound-gate E (single bad) p refl (sym (is bad) ∙ z)
 
-  -- a call that suits its buffers is refused by the gate's number, and changes nothing
-  pub gate-refuses : x ≢ 0 → (c : Call Words) → isFormat c ≡ false → suits c ≡ true → step E c p ≡ refusedWhole c p x
-  gate-refuses n c f s = by (step E c p) (way E c p f)
-    where
-      number : (y : ℕ) → gate E p ≡ y → refusedWhole c p y ≡ refusedWhole c p x
-      number y e = ap (refusedWhole c p) (sym e ∙ sym is)
-
-      by : (o : Outcome) → Way E c p o → o ≡ refusedWhole c p x
-      by o (eight a e) =
-          e ∙ number 8 (rw (sym (and-true (lengths E p)) ∙ ap (λ (b : Bool). lengths E p && b) (sym s) ∙ a))
-      by o (one a b e) =
-          e ∙ number 1 (rw (sym (and-true (lengths E p)) ∙ ap (λ (k : Bool). lengths E p && k) (sym s) ∙ a, b))
-      by o (runs a b e) =
-          absurd (n (is ∙ rw (sym (and-true (lengths E p)) ∙ ap (λ (k : Bool). lengths E p && k) (sym s) ∙ a, b)))
+  -- a call that suits its buffers is refused by the gate's number
+  pub gate-refuses : x ≢ 0 → (c : Call Words) → fills c ≡ false → suits c ≡ true → step E c p ≡ refusedBy E c p x
+  gate-refuses n c f s = step-stops E c p x (gate-same E c (single bad) p f s refl refl ∙ sym (is bad)) n
 
 -- ---- the record that a call names
 
@@ -84,11 +68,11 @@ module _ (p : Pool) (r : Row) where
 
 module _ (E : Engine) (p : Pool) (r : Row) (ok : sound E p ≡ true) where
   find-answer : step E (find r) p .answer ≡ answerTo E p (query r)
-  unfolding perform
+  unfolding actsDone
   find-answer = ap (λ (o : Outcome). o .answer) (step-sound E (find r) p refl refl ok)
 
-  pub find-slot : (i : ℕ) → namedIn (p .table) r ≡ Slot i → step E (find r) p .answer ≡ granted r
-  unfolding numberOf answerOf
+  pub find-slot : (i : ℕ) → namedIn (p .table) r ≡ Slot i → step E (find r) p .answer ≡ success r
+  unfolding numberOf answerDone
   find-slot i e = find-answer ∙ act-done E p (query r) (slot-number p r i e) .0
 
   pub find-refused : (n : ℕ) → namedIn (p .table) r ≡ Refused n → step E (find r) p .answer ≡ refusal n
@@ -117,11 +101,13 @@ span-holds ρ pos n =
 pub look-shows : (E : Engine) (p : Pool) (r : Row) (hold : Words)
     → step E (look r hold) p .shown
     ≡ cond (accepted (step E (find r) p .answer)) (arenaPart (r .address) (r .words)) placeholder
-unfolding step checked perform
+unfolding step gate behind perform actsDone
 look-shows E p r hold = go (lengths E p && true) (stored E p)
   where
     out : Bool → Bool → Call Words → Outcome
-    out a b c = cond a (cond b (perform E c p) (refusedWhole c p 1)) (refusedWhole c p 8)
+    out a b c =
+        let n : ℕ = cond a (cond b 0 1) 8 in
+        cond (eqb n 0) (perform E c p) (refusedBy E c p n)
 
     go : (a b : Bool) → out a b (look r hold) .shown
         ≡ cond (accepted (out a b (find r) .answer)) (arenaPart (r .address) (r .words)) placeholder
@@ -131,15 +117,14 @@ look-shows E p r hold = go (lengths E p && true) (stored E p)
 
 module _ (E : Engine) (laws : Laws E) (p : Pool) (r : Row) where
   found-record : step E (find r) p .answer .number ≡ 0 → (sound E p ≡ true) × (recordOf (r .ticket) (ledger p) ≡ some r)
-  unfolding sound perform numberOf
-  found-record z = go (step E (find r) p) (way E (find r) p refl) z
+  unfolding perform actsDone numberOf
+  found-record z = go (step E (find r) p) (way E (find r) p) z
     where
       go : (o : Outcome) → Way E (find r) p o → o .answer .number ≡ 0
           → (sound E p ≡ true) × (recordOf (r .ticket) (ledger p) ≡ some r)
-      go o (eight a e) z = let y = ap (λ (k : Outcome). k .answer .number) e in absurd (omega arith)
-      go o (one a b e) z = let y = ap (λ (k : Outcome). k .answer .number) e in absurd (omega arith)
-      go o (runs a b e) z = (
-        and-i (lengths E p) (stored E p) (sym (and-true (lengths E p)) ∙ a) b,
+      go o (stops n g y e) z = absurd (y (sym (ap (λ (k : Outcome). k .answer .number) e) ∙ z))
+      go o (runs g e) z = (
+        sound-gate E (find r) p refl g,
         named-zero (ledger p) r (sym (answer-number E p (query r)) ∙ ap (λ (k : Outcome). k .answer .number) (sym e)
             ∙ z),
       )

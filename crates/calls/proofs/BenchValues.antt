@@ -7,10 +7,10 @@ use lib.ListN.{replicate}
 use Rattle.words.specs.Lists.{Words}
 use Rattle.ledger.specs.Records.{row}
 use Rattle.calls.specs.Pool.{Pool, Head}
-use Rattle.calls.specs.Step.{Call, format, allocate, release, find, look, list, granted, refusal, arenaPart}
+use Rattle.calls.specs.Step.{Call, format, allocate, release, find, look, list, success, refusal, arenaPart}
 use Rattle.calls.specs.Step.{step}
 use Rattle.calls.specs.Engines.{treeEngine}
-use Rattle.calls.specs.Lent.{inArena, inTable, allOf, Lent, Event, whole, after}
+use Rattle.calls.specs.Lent.{inArena, inTable, allOf, Buffer, Event, onWhole, after}
 use Rattle.calls.specs.Computing.{treeMachine}
 
 abbrev pool : Words → Head → Words → Pool
@@ -34,7 +34,7 @@ abbrev final : Pool
 final = pool (0 ∷ 0 ∷ 0 ∷ []) (record { root = 1 ∷ []; next = 4294967295 }) (2 ∷ 0 ∷ 0 ∷ 0 ∷ [])
 
 -- the grant is at the lowest fit and reads zero, and the release undoes it
-grants : (step treeEngine (allocate 1) fresh .answer ≡ granted (row 1 0 1))
+grants : (step treeEngine (allocate 1) fresh .answer ≡ success (row 1 0 1))
     × (step treeEngine (allocate 1) fresh .pool ≡ held)
     × (step treeEngine (release (row 1 0 1)) held .pool .arena ≡ fresh .arena)
 unfolding treeMachine
@@ -53,12 +53,12 @@ listed = refl
 
 -- a refused format's head of zeros belongs to no pool
 head-kept : after treeEngine (pool [] (held .head) (held .arena))
-    (whole (pool [] (held .head) (held .arena)) format) .head ≡ held .head
+    (onWhole (pool [] (held .head) (held .arena)) format) .head ≡ held .head
 unfolding treeMachine
 head-kept = refl
 
 -- a format that is lent the pool's memory makes the pool's head, whatever head the caller had
-abbrev headless : Pool → Call Lent → Event
+abbrev headless : Pool → Call Buffer → Event
 headless p c = record {
   head = some (record { root = 7 ∷ []; next = 7 });
   shape = 0;
@@ -73,7 +73,7 @@ unfolding treeMachine
 head-made = refl
 
 -- find echoes its three, and look shows the block where it lies
-found : (step treeEngine (find (row 2 2 1)) high .answer ≡ granted (row 2 2 1))
+found : (step treeEngine (find (row 2 2 1)) high .answer ≡ success (row 2 2 1))
     × (step treeEngine (look (row 2 2 1) []) high .shown ≡ arenaPart 2 1)
 unfolding treeMachine
 found = (refl, refl)
@@ -85,7 +85,7 @@ unfolding treeMachine
 spare-words = refl
 
 -- after the last ticket there is none
-last-ticket : (step treeEngine (allocate 1) final .answer ≡ granted (row 4294967295 0 1))
+last-ticket : (step treeEngine (allocate 1) final .answer ≡ success (row 4294967295 0 1))
     × (step treeEngine (allocate 1) final .pool .head .next ≡ 0)
 unfolding treeMachine
 last-ticket = (refl, refl)

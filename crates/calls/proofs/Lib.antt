@@ -2,6 +2,7 @@
 pub mod BenchValues
 pub mod StoreLaws
 pub mod ActLaws
+pub mod GateLaws
 pub mod RowLaws
 pub mod GrantLaws
 pub mod HeldLaws
@@ -9,7 +10,7 @@ pub mod Demand1
 pub mod Demand2
 pub mod LentLaws
 pub mod CallLaws
-pub mod Standing
+pub mod StandingLaws
 pub mod Strays
 pub mod WholeCalls
 pub mod Demand3

@@ -50,6 +50,11 @@ same-pool-same p =
     )
 
 module _ (E : Engine) where
+  pub arena-store : (L : Ledger) (n : ℕ) (p : Pool)
+      → store E L n p .arena ≡ stamp (owned (ruleOf E p) L) (E .word (p .shape) (wordCount p) L) (p .arena)
+  unfolding store
+  arena-store L n p = refl
+
   -- a second ledger whose holders own no more than the first's: only the second counts
   pub store-twice : (L₁ L₂ : Ledger) (n₁ n₂ : ℕ) (p : Pool)
       → ((i : ℕ) → owned (ruleOf E p) L₂ i ≡ true → owned (ruleOf E p) L₁ i ≡ true)
@@ -78,11 +83,6 @@ module _ (E : Engine) where
   pub words-store : (L : Ledger) (n : ℕ) (p : Pool) → wordCount (store E L n p) ≡ wordCount p
   unfolding store
   words-store L n p = length-stamp (owned (ruleOf E p) L) (E .word (p .shape) (wordCount p) L) (p .arena)
-
-  pub arena-store : (L : Ledger) (n : ℕ) (p : Pool)
-      → store E L n p .arena ≡ stamp (owned (ruleOf E p) L) (E .word (p .shape) (wordCount p) L) (p .arena)
-  unfolding store
-  arena-store L n p = refl
 
   -- what holders own stays
   pub store-keeps : (L : Ledger) (n : ℕ) (p : Pool) (i : ℕ) → owned (ruleOf E p) L i ≡ true

@@ -7,8 +7,8 @@ use Rattle.words.specs.Lists.{Words}
 use Rattle.ledger.specs.Records.{row}
 use Rattle.calls.specs.declared.Answer.{Answer}
 use Rattle.calls.specs.Pool.{Pool, Engine}
-use Rattle.calls.specs.Step.{Call, format, find, look, list, done, granted, refusal, Slice, arenaPart, placeholder}
-use Rattle.calls.specs.Step.{step}
+use Rattle.calls.specs.Step.{Call, format, find, look, list, zeroAnswer, success, refusal, Slice, arenaPart}
+use Rattle.calls.specs.Step.{placeholder, step}
 use Rattle.worked_cases.specs.BenchSheet.{State, state}
 use Rattle.worked_cases.specs.Sequences.{segmentStart}
 
@@ -42,9 +42,9 @@ memory s W t i = record {
   index = replicate i 5;
 }
 
--- a format of such memory: done, or 8
+-- a format of such memory: 0 and zeros, or 8
 abbrev pub inside : ℕ → ℕ → ℕ → ℕ → Case Answer
-inside s W t i = case format (memory s W t i) done
+inside s W t i = case format (memory s W t i) zeroAnswer
 
 abbrev pub outside : ℕ → ℕ → ℕ → ℕ → Case Answer
 outside s W t i = case format (memory s W t i) (refusal 8)
@@ -89,7 +89,7 @@ damaged = treePool 1 (0 ∷ 0 ∷ 0 ∷ 1 ∷ 4 ∷ 3 ∷ [])
 -- find echoes its three; 6 for ticket 0 too, 7 for another address or other words; 1 for damage; 8
 abbrev pub treeFinds : List (Case Answer)
 treeFinds =
-    case (find (row 1 4 3)) held (granted (row 1 4 3))
+    case (find (row 1 4 3)) held (success (row 1 4 3))
     ∷ case (find (row 0 0 0)) held (refusal 6) ∷ case (find (row 2 4 3)) held (refusal 6)
     ∷ case (find (row 1 3 3)) held (refusal 7) ∷ case (find (row 1 4 4)) held (refusal 7)
     ∷ case (find (row 1 4 3)) damaged (refusal 1) ∷ case (find (row 1 4 3)) (memory 0 3 3 0) (refusal 8) ∷ []
@@ -113,10 +113,10 @@ segmentLooks =
 -- lists: no request; a word too many; a buffer one word short; and (1, n, 0, 1), which is 9 in a list that runs
 abbrev pub treeLists : List (Case Answer)
 treeLists =
-    case (list [] []) held done ∷ case (list (1 ∷ []) (replicate 4 0)) held (refusal 8)
+    case (list [] []) held zeroAnswer ∷ case (list (1 ∷ []) (replicate 4 0)) held (refusal 8)
     ∷ case (list (1 ∷ 2 ∷ 0 ∷ 0 ∷ 1 ∷ []) (replicate 8 0)) held (refusal 8)
     ∷ case (list (1 ∷ 2 ∷ 0 ∷ 0 ∷ []) (replicate 3 0)) held (refusal 8)
-    ∷ case (list (1 ∷ 2 ∷ 0 ∷ 0 ∷ []) (replicate 4 0)) held done ∷ []
+    ∷ case (list (1 ∷ 2 ∷ 0 ∷ 0 ∷ []) (replicate 4 0)) held zeroAnswer ∷ []
 
 abbrev pub spareWord : Call Words
 spareWord = list (1 ∷ 2 ∷ 0 ∷ 1 ∷ 3 ∷ 0 ∷ 0 ∷ 0 ∷ []) (replicate 9 4)
@@ -127,7 +127,7 @@ lastTicket = treePool 4294967295 (0 ∷ 0 ∷ 0 ∷ 1 ∷ 4 ∷ 3 ∷ 0 ∷ 0 �
 
 abbrev pub lastStates : List State
 lastStates =
-    state (granted (row 4294967295 0 1)) (2 ∷ []) 0 (0 ∷ 0 ∷ 1 ∷ 0 ∷ 5 ∷ 6 ∷ 7 ∷ 8 ∷ [])
+    state (success (row 4294967295 0 1)) (2 ∷ []) 0 (0 ∷ 0 ∷ 1 ∷ 0 ∷ 5 ∷ 6 ∷ 7 ∷ 8 ∷ [])
     (4294967295 ∷ 0 ∷ 1 ∷ 1 ∷ 4 ∷ 3 ∷ 0 ∷ 0 ∷ 0 ∷ []) []
     ∷ state (refusal 4) (2 ∷ []) 0 (0 ∷ 0 ∷ 1 ∷ 0 ∷ 5 ∷ 6 ∷ 7 ∷ 8 ∷ [])
     (4294967295 ∷ 0 ∷ 1 ∷ 1 ∷ 4 ∷ 3 ∷ 0 ∷ 0 ∷ 0 ∷ []) []
@@ -160,16 +160,16 @@ noControl = record {
 -- W 5, S 4: segments of 2 words, of which the last lies past the arena. A 2 takes words 0 to 2.
 abbrev pub fiveStates : List State
 fiveStates =
-    state done [] 1 (5 ∷ 0 ∷ 0 ∷ 0 ∷ 0 ∷ []) (0 ∷ 0 ∷ 0 ∷ []) (0 ∷ 5 ∷ 5 ∷ 0 ∷ 5 ∷ 0 ∷ 0 ∷ 0 ∷ 0 ∷ 5 ∷ 5 ∷ 5 ∷ [])
-    ∷ state (granted (row 1 1 2)) [] 2 (4294967293 ∷ 0 ∷ 0 ∷ 2 ∷ 0 ∷ []) (1 ∷ 1 ∷ 2 ∷ [])
+    state zeroAnswer [] 1 (5 ∷ 0 ∷ 0 ∷ 0 ∷ 0 ∷ []) (0 ∷ 0 ∷ 0 ∷ []) (0 ∷ 5 ∷ 5 ∷ 0 ∷ 5 ∷ 0 ∷ 0 ∷ 0 ∷ 0 ∷ 5 ∷ 5 ∷ 5 ∷ [])
+    ∷ state (success (row 1 1 2)) [] 2 (4294967293 ∷ 0 ∷ 0 ∷ 2 ∷ 0 ∷ []) (1 ∷ 1 ∷ 2 ∷ [])
     (0 ∷ 2 ∷ 2 ∷ 0 ∷ 1 ∷ 2 ∷ 0 ∷ 0 ∷ 0 ∷ 3 ∷ 5 ∷ 5 ∷ [])
     ∷ []
 
 -- S above W: W 3, S 4, segments of 1 word. A 2 takes the whole arena.
 abbrev pub threeStates : List State
 threeStates =
-    state done [] 1 (3 ∷ 0 ∷ 0 ∷ []) (0 ∷ 0 ∷ 0 ∷ []) (0 ∷ 3 ∷ 3 ∷ 0 ∷ 3 ∷ 0 ∷ 0 ∷ 0 ∷ 0 ∷ 3 ∷ 3 ∷ 3 ∷ [])
-    ∷ state (granted (row 1 1 2)) [] 2 (4294967293 ∷ 0 ∷ 0 ∷ []) (1 ∷ 1 ∷ 2 ∷ [])
+    state zeroAnswer [] 1 (3 ∷ 0 ∷ 0 ∷ []) (0 ∷ 0 ∷ 0 ∷ []) (0 ∷ 3 ∷ 3 ∷ 0 ∷ 3 ∷ 0 ∷ 0 ∷ 0 ∷ 0 ∷ 3 ∷ 3 ∷ 3 ∷ [])
+    ∷ state (success (row 1 1 2)) [] 2 (4294967293 ∷ 0 ∷ 0 ∷ []) (1 ∷ 1 ∷ 2 ∷ [])
     (0 ∷ 1 ∷ 1 ∷ 0 ∷ 1 ∷ 0 ∷ 0 ∷ 0 ∷ 0 ∷ 3 ∷ 3 ∷ 3 ∷ [])
     ∷ []
 
@@ -183,7 +183,7 @@ inPlaces s = state (s .answer) (s .root) (s .next) (s .arena) (s .table) (map (�
 
 abbrev pub twoStates : List State
 twoStates =
-    state done [] 1 (2 ∷ 0 ∷ []) (0 ∷ 0 ∷ 0 ∷ []) (0 ∷ 2 ∷ 2 ∷ 0 ∷ 2 ∷ 0 ∷ 2 ∷ 0 ∷ 0 ∷ 2 ∷ 2 ∷ [])
-    ∷ state (granted (row 1 1 1)) [] 2 (4294967294 ∷ 0 ∷ []) (1 ∷ 1 ∷ 1 ∷ [])
+    state zeroAnswer [] 1 (2 ∷ 0 ∷ []) (0 ∷ 0 ∷ 0 ∷ []) (0 ∷ 2 ∷ 2 ∷ 0 ∷ 2 ∷ 0 ∷ 2 ∷ 0 ∷ 0 ∷ 2 ∷ 2 ∷ [])
+    ∷ state (success (row 1 1 1)) [] 2 (4294967294 ∷ 0 ∷ []) (1 ∷ 1 ∷ 1 ∷ [])
     (0 ∷ 1 ∷ 1 ∷ 0 ∷ 1 ∷ 0 ∷ 1 ∷ 0 ∷ 0 ∷ 2 ∷ 2 ∷ [])
     ∷ []

@@ -1,5 +1,4 @@
 -- The laws over any engine, the three demands, and their instances.
-pub mod BenchValues
 pub mod StoreLaws
 pub mod ActLaws
 pub mod GateLaws

@@ -135,6 +135,17 @@ pub record-zero : (L : Ledger) → recordOf 0 L ≡ none
 record-zero [] = refl
 record-zero (r ∷ L) = record-zero L
 
+-- "an empty record is three zeros": ticket 0 with an address or words is none
+pub empty-row : (r : Row) → (isEmpty r ≡ true) ↔ (r ≡ emptyRow)
+empty-row r = (
+  (λ h.
+      let t = eqb-eq (r .ticket) 0 (search (and-l, and-r)) in
+      let a = eqb-eq (r .address) 0 (search (and-l, and-r)) in
+      let w = eqb-eq (r .words) 0 (search (and-l, and-r)) in
+      λ i. record { ticket = t i; address = a i; words = w i }),
+  (λ e. ap isEmpty e),
+)
+
 pub has-ticket : (t : ℕ) (r : Row) → (hasTicket t r ≡ true) ↔ ((t ≢ 0) × (r .ticket ≡ t))
 has-ticket t r = (
   (λ h. (

@@ -1,7 +1,7 @@
 -- The bench sheet of document 01: the calls of T1 to T14, and every answer, head, arena, table and index along the
 -- way. Between T13 and T14 stands the sheet's A 12, which is refused. Assumes nothing.
 use Prim.Native.Nat.{ℕ}
-use mathlib.Core.List.{List, [], _∷_, _++_}
+use mathlib.Core.List.{List, [], _∷_}
 use lib.ListN.{replicate}
 use Rattle.words.specs.Lists.{Words}
 use Rattle.ledger.specs.Records.{row}
@@ -110,10 +110,3 @@ segmentStates =
     (4294967292 ∷ 0 ∷ 0 ∷ 0 ∷ 4294967284 ∷ 0 ∷ 0 ∷ 0 ∷ 0 ∷ 0 ∷ 0 ∷ 0 ∷ 0 ∷ 0 ∷ 0 ∷ 0 ∷ [])
     (1 ∷ 1 ∷ 3 ∷ 2 ∷ 5 ∷ 11 ∷ 0 ∷ 0 ∷ 0 ∷ 0 ∷ 0 ∷ 0 ∷ []) (0 ∷ 1 ∷ 1 ∷ 0 ∷ 1 ∷ 1 ∷ 0 ∷ 0 ∷ 0 ∷ 4 ∷ 16 ∷ 16 ∷ []))
     ∷ []
-
--- The sheet's other lines, on the tree pool that T11 leaves: A 0 and A 16,385 are 2, A 16,384 is 5.
-abbrev pub otherCalls : List (Call Words)
-otherCalls = treeCalls ++ (allocate 0 ∷ allocate 16385 ∷ allocate 16384 ∷ [])
-
-abbrev pub otherAnswers : List Answer
-otherAnswers = refusal 2 ∷ refusal 2 ∷ refusal 5 ∷ []

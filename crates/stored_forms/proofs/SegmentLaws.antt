@@ -94,6 +94,12 @@ twice : (i d : ℕ) → i * 2 ^ suc d ≡ 2 * i * 2 ^ d
 twice i d = rw (pow-suc 2 d, mul-comm (2 ^ d) 2) (sym (mul-assoc i 2 (2 ^ d)) ∙ rw (mul-comm i 2))
 
 module _ (leaf : ℕ → ℕ) (S : ℕ) where
+  -- an inner word is the larger of its two sons
+  treeWord-step : (d i : ℕ) → i < S
+      → treeWord leaf S (suc d) i ≡ max (treeWord leaf S d (2 * i)) (treeWord leaf S d (2 * i + 1))
+  treeWord-step d i h =
+      ap (leafOr (leaf (i - S)) (max (treeWord leaf S d (2 * i)) (treeWord leaf S d (2 * i + 1)))) (of-gt S i h)
+
   treeWord-leaf : (d k : ℕ) → treeWord leaf S d (S + k) ≡ leaf k
   treeWord-leaf zero k = rw (add-sub-cancel-left S k)
   treeWord-leaf (suc d) k =
@@ -113,9 +119,7 @@ module _ (leaf : ℕ → ℕ) (S : ℕ) where
   treeWord-node : S ≤ 2 ^ depth → (i : ℕ) → 0 < i → i < S
       → treeWord leaf S depth i ≡ max (treeWord leaf S depth (2 * i)) (treeWord leaf S depth (2 * i + 1))
   treeWord-node few i l h =
-      let x = treeWord leaf S 7 (2 * i) in
-      let y = treeWord leaf S 7 (2 * i + 1) in
-      ap (leafOr (leaf (i - S)) (max x y)) (of-gt S i h)
+      treeWord-step 7 i h
       ∙ ap₂ max (treeWord-more 7 (2 * i) (omega arith)) (treeWord-more 7 (2 * i + 1) (omega arith))
 
 -- 01's lines, over control words c

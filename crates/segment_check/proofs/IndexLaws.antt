@@ -1,9 +1,9 @@
 -- The index by its parts: word 0, the inner words, and the segments. Assumes nothing.
 use Prim.Native.Nat.{ℕ, _+_, _-_, _*_, _<_, max}
 use native.Mathlib.Omega.{arith}
-use mathlib.Core.Bool.{Bool, true, _&&_}
+use mathlib.Core.Bool.{true, _&&_}
 use mathlib.Core.List.{List}
-use mathlib.Core.Path.{_≡_, sym}
+use mathlib.Core.Path.{_≡_, refl, sym, _∙_}
 use lib.Dec.{eqb}
 use lib.IntN.{ℤ}
 use lib.ListN.{length, getD}
@@ -11,13 +11,17 @@ use Rattle.words.specs.Counted.{every}
 use Rattle.words.specs.Lists.{Words}
 use Rattle.words.proofs.CountedLaws.{every-at, every-of}
 use Rattle.words.proofs.Tests.{and-l, and-r, and-i, eqb-eq, eqb-same}
-use Rattle.stored_forms.specs.Segments.{largest, firstBlock, segmentSize}
+use Rattle.stored_forms.specs.Segments.{segmentRule, segmentIndex, largest, firstBlock, segmentSize}
+use Rattle.ledger.specs.Records.{Ledger}
+use Rattle.ledger.specs.Units.{valid}
+use Rattle.segment_places.specs.Stores.{arenaOf}
+use Rattle.segment_places.proofs.ChangeLaws.{controls, index-view, stored-blocks}
 use Rattle.segment_index.specs.Index.{indexOf, Agree}
 use Rattle.segment_index.specs.Tree.{Heap}
 use Rattle.segment_index.proofs.IndexLaws.{index-is, index-zero, index-heap, index-agrees}
 use Rattle.segment_blocks.specs.Upkeep.{Ground}
 use Rattle.segment_blocks.proofs.UpkeepLaws.{sizes-some}
-use Rattle.segment_check.specs.Right.{Says, nodeRight, treeRight, segmentRight}
+use Rattle.segment_check.specs.Right.{Says, nodeRight, treeRight, segmentRight, Measured}
 
 -- a segment's test
 segment-from : (c : ℕ → ℤ) (W s : ℕ) (t : Words) (k : ℕ) → segmentRight c W s t k ≡ true → Agree c W s t k
@@ -49,9 +53,8 @@ module _ (v : List ℤ) (c : ℕ → ℤ) (s g : ℕ) (t : Words) (G : Ground v 
   some : 0 < s
   some = sizes-some W s g (G .sizes)
 
-  pub index-says : (x y : Bool) → x ≡ treeRight t s → y ≡ every (segmentRight c W s t) 0 s
-      → Says (x && y) (t ≡ indexOf c W s)
-  index-says x y p q = rw (p, q) (from, to)
+  index-says : Says (treeRight t s && every (segmentRight c W s t) 0 s) (t ≡ indexOf c W s)
+  index-says = (from, to)
     where
       from : (treeRight t s && every (segmentRight c W s t) 0 s) ≡ true → t ≡ indexOf c W s
       from h =
@@ -80,3 +83,19 @@ module _ (v : List ℤ) (c : ℕ → ℤ) (s g : ℕ) (t : Words) (G : Ground v 
         where
           agrees : t ≡ indexOf c W s → (k : ℕ) → k < s → Agree c W s t k
           agrees e k l = rw e (index-agrees c W s k l)
+
+-- where the arena is the stored form of a valid ledger, its blocks are the ledger's, and so is their index
+module _ (v : List ℤ) (t : Words) (s g : ℕ) (Z : Measured v t s g) (L : Ledger) (next : ℕ)
+    (good : valid segmentRule (length v) next L ≡ true) (arena : v ≡ arenaOf L v) where
+  abbrev c : ℕ → ℤ
+  c = controls L (length v)
+
+  pub stored-ground : Ground v c s g
+  stored-ground = record { sizes = Z .sizes; blocks = stored-blocks next L v good v v refl arena }
+
+  pub index-stored : Says (treeRight t s && every (segmentRight c (length v) s t) 0 s) (t ≡ segmentIndex s (length v) L)
+  index-stored =
+      let says = index-says v c s g t stored-ground (Z .long) in (
+        (λ h. says .0 h ∙ sym (index-view s (length v) L)),
+        (λ q. says .1 (q ∙ index-view s (length v) L)),
+      )

@@ -1,4 +1,8 @@
--- Laws of the check.
+-- The laws of the check.
+pub mod BitLaws
+pub mod LaidLaws
+pub mod KeptLaws
 pub mod ArenaLaws
 pub mod IndexLaws
-pub mod PoolLaws
+pub mod MatchLaws
+pub mod HeadLaws

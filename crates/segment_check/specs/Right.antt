@@ -1,22 +1,20 @@
 -- What the check of the segment pool compares: control words of records and of free runs, and the words of the index.
 -- Assumes nothing.
-use Prim.Native.Nat.{ℕ, _+_, _-_, _*_, _≤_, _<_, max}
-use mathlib.Core.Bool.{Bool, true, cond, not, _&&_, _||_}
+use Prim.Native.Nat.{ℕ, _+_, _-_, _*_, max}
+use mathlib.Core.Bool.{Bool, true, _&&_, _||_}
 use mathlib.Core.List.{List}
 use mathlib.Core.Path.{_≡_}
 use lib.Dec.{eqb, leb}
 use lib.IntN.{ℤ, pos, natAbs}
 use lib.ListN.{length, getD}
 use Rattle.words.specs.Counted.{every}
-use Rattle.words.specs.Lists.{Words, zeroAt}
+use Rattle.words.specs.Lists.{Words}
 use Rattle.words.specs.Signed.{zeroAtZ}
-use Rattle.ledger.specs.Records.{Ledger, isEmpty, recordsOf}
-use Rattle.ledger.specs.Units.{valid, free}
+use Rattle.ledger.specs.Records.{isEmpty}
 use Rattle.ledger.specs.declared.Row.{Row}
-use Rattle.stored_forms.specs.Segments.{segmentRule, segmentSize, largest, firstBlock, opens, freeFrom}
+use Rattle.stored_forms.specs.Segments.{segmentSize, largest, firstBlock}
 use Rattle.control_words.specs.Control.{freeSize}
 use Rattle.segment_blocks.specs.Upkeep.{Sizes}
-use Rattle.segment_places.specs.Stores.{arenaOf}
 
 -- a flag that says a fact, both ways
 abbrev pub Says : Bool → Type 0 → Type 0
@@ -31,36 +29,11 @@ heldRight v r =
     || (eqb (natAbs (getD v (r .address - 1) (pos 0))) (r .words + 1)
     && eqb (freeSize (getD v (r .address - 1) (pos 0))) 0)
 
--- word u, where the map says that it is free: the size of the run that it opens, or 0
-unfoldable pub freeRight : List ℤ → Words → ℕ → Bool
-freeRight v m u =
-    not (zeroAt m u)
-    || cond (opens (zeroAt m) u) (eqb (freeSize (getD v u (pos 0))) (freeFrom (zeroAt m) u (length v - u)))
-    (zeroAtZ v u)
-
 -- the words of a free run from lo up to hi
 abbrev pub runRight : List ℤ → ℕ → ℕ → Bool
 runRight v lo hi =
     leb hi lo
     || (eqb (freeSize (getD v lo (pos 0))) (hi - lo) && every (zeroAtZ v) (lo + 1) (hi - (lo + 1)))
-
--- the units from lo up to hi are marked as b says
-abbrev pub Alike : Words → Bool → ℕ → ℕ → Type 0
-Alike m b lo hi = (u : ℕ) → lo ≤ u → u < hi → zeroAt m u ≡ b
-
--- r is the first unit from `at` on, of w, that is not marked as b says
-pub record Skips (m : Words) (b : Bool) (at w r : ℕ) : Type 0 where
-  pub above : at ≤ r
-  pub below : r ≤ w
-  pub same : Alike m b at r
-  pub stop : r < w → zeroAt m r ≡ not b
-
--- the table holds a valid ledger, and exactly its free units read 0 in the map
-pub record Mapped (v : List ℤ) (m table : Words) : Type 0 where
-  pub next : ℕ
-  pub good : valid segmentRule (length v) next (recordsOf table) ≡ true
-  pub long : length v ≤ length m
-  pub marks : (u : ℕ) → zeroAt m u ≡ free segmentRule (recordsOf table) u
 
 -- ---- the index
 
@@ -84,7 +57,3 @@ segmentRight c W s t k =
 pub record Measured (v : List ℤ) (t : Words) (s g : ℕ) : Type 0 where
   pub sizes : Sizes (length v) s g
   pub long : length t ≡ 3 * s
-
--- the arena is the stored form of a valid ledger
-abbrev pub Laid : List ℤ → Ledger → ℕ → Type 0
-Laid v L next = (valid segmentRule (length v) next L ≡ true) × (v ≡ arenaOf L v)

@@ -1,141 +1,182 @@
-// The check of the segment pool's arena and index against the table: the control word of each record, the words of
-// each free run, and each word of the index. The map has a byte for each unit, 0 where it is free.
+// The check of the segment pool: blocks that lie side by side from the first word to the last, and an index that is
+// theirs. No unit is marked: the map has a bit for each word, set only where a record's block begins.
+// Slices are lent on as `&*slice`, which keeps pointer and length in registers (docs/DECISIONS.md, what crosses calls).
 use control_words::free_at;
+use control_words::is_held;
 use control_words::size_at;
-use ledger::Row;
-use record_table::is_empty;
+use ledger::Rule;
 use record_table::read_row;
-use segment_blocks::first_from;
-use segment_blocks::sweep;
 use segment_index::larger;
 use segment_index::lesser;
 use words::zero_part_signed;
 ghost use mathlib.Core.Path.{_≡_};
-ghost use mathlib.Core.Bool.{true, false};
+ghost use mathlib.Core.Bool.{true, _||_};
 ghost use Prim.Native.Nat.{ℕ, _+_, _-_, _*_, _≤_, _<_};
-ghost use lib.IntN.{ℤ};
-ghost use lib.ListN.{length};
-ghost use Rattle.words.specs.Lists.{all, zeroAt};
+ghost use lib.Dec.{eqb};
+ghost use lib.IntN.{pos};
+ghost use lib.ListN.{length, getD};
+ghost use Rattle.words.specs.Lists.{all, isZero};
 ghost use Rattle.words.specs.Counted.{every};
-ghost use Rattle.ledger.specs.Records.{Ledger, recordsOf, isEmpty};
-ghost use Rattle.ledger.specs.Units.{valid};
-ghost use Rattle.stored_forms.specs.Segments.{segmentRule, segmentIndex};
-ghost use Rattle.segment_index.specs.Index.{indexOf};
-ghost use Rattle.segment_blocks.specs.Upkeep.{Ground};
-ghost use Rattle.segment_places.specs.Stores.{arenaOf};
-ghost use Rattle.segment_check.specs.Right.{Says, heldRight, freeRight, runRight, Alike, Skips, Mapped};
-ghost use Rattle.segment_check.specs.Right.{nodeRight, treeRight, twoRight, segmentRight, Measured, Laid};
+ghost use Rattle.ledger.specs.Records.{slots};
+ghost use Rattle.control_words.specs.Control.{freeSize};
+ghost use Rattle.segment_check.specs.Right.{Says, Measured, nodeRight, treeRight};
+ghost use Rattle.tiling.specs.Tiles.{Noted};
+ghost use Rattle.segment_check.specs.BitMaps.{bitAt};
+ghost use Rattle.segment_check.specs.Laid.{Laid, HeldBlock, FreeBlock, Strip, Matched};
+ghost use Rattle.segment_check.specs.Laid.{Lays, LaysAll, Heads, Sets, Good, Joined, Headed, Stored};
 
-// ---- the arena
+// ---- the map, 64 words of the arena to an entry
 
-// A record's control word, which lies before its address.
-fn row_right(v: &[i32], r: Row) -> bool
-    requires { ⌜ (isEmpty r ≡ false → (1 ≤ r .address) × (r .address ≤ length (now v))) ⌝ }
-    ensures { λ b. ⌜ b ≡ heldRight (now (v .entry)) r ⌝ }
+// Whether bit k is set.
+fn has_bit(map: &[u64], k: usize) -> bool
+    requires { ⌜ k < 64 * length (now map) ⌝ }
+    ensures { λ r. ⌜ r ≡ bitAt (now (map .entry)) k ⌝ }
 {
-    if is_empty(r) {
-        return true;
-    }
-    let at = r.address as usize - 1;
-    (size_at(v, at) == r.words as usize + 1) & (free_at(v, at) == 0)
+    (map[k / 64] >> (k % 64)) % 2 == 1
 }
 
-fn rows_right(v: &[i32], table: &[u32]) -> bool
-    requires { ⌜ ((next : ℕ) × (valid segmentRule (length (now v)) next (recordsOf (now table)) ≡ true)) ⌝ }
-    ensures { λ b. ⌜ b ≡ all (heldRight (now (v .entry))) (recordsOf (now (table .entry))) ⌝ }
+// Sets bit k.
+fn put_bit(map: &mut [u64], k: usize)
+    requires { ⌜ k < 64 * length (now map) ⌝ }
+    ensures { λ r. ⌜ ((j : ℕ) → bitAt (now (map .exit)) j ≡ (eqb j k || bitAt (now (map .entry)) j)) ⌝ }
 {
-    let mut ok = true;
-    let mut i = 0;
-    while i < table.len() / 3 {
-        ok = ok & row_right(v, read_row(table, i));
-        i += 1;
-    }
-    ok
+    let i = k / 64;
+    let w = map[i];
+    map[i] = w | (1 << (k % 64));
 }
 
-// Whether the units from lo up to hi are all free, or all held.
-fn alike(used: &[u8], free: bool, lo: usize, hi: usize) -> bool
-    requires { ⌜ (lo ≤ hi) × (hi ≤ length (now used)) ⌝ }
-    ensures { λ r. ⌜ (r ≡ true → Alike (now (used .entry)) free lo hi) ⌝ }
-{
-    if free {
-        return words::zero_part_bytes(used, lo, hi);
-    }
-    words::set_part_bytes(used, lo, hi)
-}
+// ---- the blocks, from the first word on
 
-// A later unit, up to which all are free, or all held, as the one at `at` is: the end of the block whose control word
-// stands there, if the map says so too, else the next one. Nothing is asked of the control word.
-fn onward(v: &[i32], used: &[u8], free: bool, at: usize) -> usize
-    requires { ⌜ (at < length (now v)) × (length (now v) ≤ length (now used)) ⌝ }
-    requires { ⌜ zeroAt (now used) at ≡ free ⌝ }
-    ensures { λ r. ⌜ (at < r) × (r ≤ length (now (v .entry))) × Alike (now (used .entry)) free at r ⌝ }
+// The size of the held block that begins at a word; 0 if the map says that none does, or it ends outside.
+fn held_size(v: &[i32], map: &[u64], at: usize) -> usize
+    requires { ⌜ (at < length (now v)) × (length (now v) ≤ 64 * length (now map)) ⌝ }
+    ensures { λ n. ⌜ (0 < n → HeldBlock (now (v .entry)) (now (map .entry)) at n)
+        × ((k : ℕ) → HeldBlock (now (v .entry)) (now (map .entry)) at k → n ≡ k) ⌝ }
 {
     let n = size_at(v, at);
-    if n == 0 {
-        return at + 1;
-    }
     if v.len() - at < n {
-        return at + 1;
+        return 0;
     }
-    if !alike(used, free, at, at + n) {
-        return at + 1;
+    if has_bit(map, at) {
+        return n;
     }
-    at + n
+    0
 }
 
-// The first unit from `at` on that is not free where `free` is true, and not held where it is false.
-fn skip(v: &[i32], used: &[u8], free: bool, at: usize) -> usize
-    requires { ⌜ (at ≤ length (now v)) × (length (now v) ≤ length (now used)) ⌝ }
-    ensures { λ r. ⌜ Skips (now (used .entry)) free at (length (now (v .entry))) r ⌝ }
+// Whether the n words that a control word says are free are a free block of a sound pool: inside, and zero behind the
+// control word. `after` says whether the block before is free; two free ones don't touch.
+fn is_free_block(v: &[i32], at: usize, n: usize, after: bool) -> bool
+    requires { ⌜ (at < length (now v)) × (0 < n) × (n ≡ freeSize (getD (now v) at (pos 0))) ⌝ }
+    ensures { λ r. ⌜ Says r (FreeBlock (now (v .entry)) at after n) ⌝ }
 {
-    let mut i = at;
-    while i < v.len() {
-        if (used[i] == 0) != free {
-            return i;
+    if after | (v.len() - at < n) {
+        return false;
+    }
+    zero_part_signed(v, at + 1, at + n)
+}
+
+// Where blocks that are laid have led: the next one begins at `next`, past the arena's end if one is wrong. So many
+// words are free up to there, `after` says whether the last block is, and `most` is the largest weight.
+struct Stand {
+    next: usize,
+    free: usize,
+    after: bool,
+    most: u32,
+}
+
+// Where a wrong block leads in an arena of w words.
+fn nowhere(w: usize) -> Stand
+    requires { ⌜ w ≤ 16384 ⌝ }
+    ensures { λ r. ⌜ w < r .next ⌝ }
+{
+    Stand {
+        next: w + 1,
+        free: 0,
+        after: false,
+        most: 0,
+    }
+}
+
+// Lays the blocks that begin from `from` up to hi, behind others that have led to `from`. A held block weighs 1.
+fn lay(v: &[i32], map: &[u64], from: usize, hi: usize, free: usize, after: bool) -> Stand
+    requires { ⌜ (length (now v) ≤ 16384) × (length (now v) ≤ 64 * length (now map)) × (hi ≤ length (now v))
+        × (from ≤ length (now v)) × (free ≤ from) × Laid (now v) (now map) from free after ⌝ }
+    ensures { λ r. ⌜
+        (r .next ≤ length (now (v .entry))
+        → Strip (now (v .entry)) (now (map .entry)) from hi (r .next) (r .free) (r .after) (r .most))
+        × Lays (now (v .entry)) (now (map .entry)) from free after (r .next) (r .free) (r .after)
+        ⌝ }
+{
+    let mut at = from;
+    let mut sum = free;
+    let mut last = after;
+    let mut most: u32 = 0;
+    while at < hi {
+        let f = free_at(v, at);
+        if f == 0 {
+            let n = held_size(v, map, at);
+            if n == 0 {
+                return nowhere(v.len());
+            }
+            most = larger(most, 1);
+            last = false;
+            at += n;
+        } else {
+            if !is_free_block(v, at, f, last) {
+                return nowhere(v.len());
+            }
+            most = larger(most, f as u32);
+            sum += f;
+            last = true;
+            at += f;
         }
-        i = onward(v, used, free, i);
     }
-    i
+    Stand {
+        next: at,
+        free: sum,
+        after: last,
+        most,
+    }
 }
 
-// The words of a free run, none where it is empty.
-fn run_right(v: &[i32], lo: usize, hi: usize) -> bool
-    requires { ⌜ hi ≤ length (now v) ⌝ }
-    ensures { λ r. ⌜ r ≡ runRight (now (v .entry)) lo hi ⌝ }
+// The words of the free blocks together; more than there are, if blocks don't lie side by side up to the last word, or
+// two free ones do, or the index has another leaf or first block for a segment. One pass does both, since each block
+// that is passed costs a wait for its control word.
+fn lay_all(v: &[i32], map: &[u64], t: &[u32], s: usize, g: usize) -> usize
+    requires { ⌜ Measured (now v) (now t) s g × (length (now v) ≤ 64 * length (now map)) ⌝ }
+    ensures { λ r. ⌜
+        (r ≤ length (now (v .entry)) → Matched (now (v .entry)) (now (map .entry)) (now (t .entry)) s g r)
+        × LaysAll (now (v .entry)) (now (map .entry)) (now (t .entry)) s g r
+        ⌝ }
 {
-    if hi <= lo {
-        return true;
-    }
-    (free_at(v, lo) == hi - lo) & zero_part_signed(v, lo + 1, hi)
-}
-
-// Every free run, from held block to held block.
-fn runs_right(v: &[i32], used: &[u8]) -> bool
-    requires { ⌜ length (now v) ≤ length (now used) ⌝ }
-    ensures { λ r. ⌜ r ≡ every (freeRight (now (v .entry)) (now (used .entry))) 0 (length (now (v .entry))) ⌝ }
-{
+    let w = v.len();
     let mut at: usize = 0;
-    while at < v.len() {
-        let lo = skip(v, used, false, at);
-        let hi = skip(v, used, true, lo);
-        if !run_right(v, lo, hi) {
-            return false;
+    let mut free: usize = 0;
+    let mut after = false;
+    let mut k: usize = 0;
+    while k < s {
+        let hi = lesser((k + 1) * g, w);
+        let first = t[2 * s + k] as usize;
+        if at < hi {
+            let stand = lay(&*v, &*map, at, hi, free, after);
+            if (first != at) | (w < stand.next) | (t[s + k] != stand.most) {
+                return w + 1;
+            }
+            at = stand.next;
+            free = stand.free;
+            after = stand.after;
+            k += 1;
+        } else {
+            if (first != w) | (t[s + k] != 0) {
+                return w + 1;
+            }
+            k += 1;
         }
-        at = hi;
     }
-    true
+    free
 }
 
-// Whether the arena is the stored form of the table's ledger.
-pub fn arena_right(v: &[i32], used: &[u8], table: &[u32]) -> bool
-    requires { ⌜ Mapped (now v) (now used) (now table) ⌝ }
-    ensures { λ r. ⌜ Says r (now (v .entry) ≡ arenaOf (recordsOf (now (table .entry))) (now (v .entry))) ⌝ }
-{
-    rows_right(v, table) & runs_right(v, used)
-}
-
-// ---- the index
+// ---- the index above the segments
 
 fn node_right(t: &[u32], i: usize) -> bool
     requires { ⌜ (0 < i) × (2 * i + 1 < length (now t)) ⌝ }
@@ -158,80 +199,246 @@ fn nodes_right(t: &[u32], s: usize) -> bool
 }
 
 // The words above the segments': word 0, and each inner one.
-pub fn tree_right(t: &[u32], s: usize) -> bool
+fn tree_right(t: &[u32], s: usize) -> bool
     requires { ⌜ (0 < s) × (2 * s ≤ length (now t)) ⌝ }
     ensures { λ r. ⌜ r ≡ treeRight (now (t .entry)) s ⌝ }
 {
     (t[0] == 0) & nodes_right(t, s)
 }
 
-// The two words of segment k.
-fn segment_right(t: &[u32], s: usize, k: usize, most: u32, first: u32) -> bool
-    requires { ⌜ (k < s) × (length (now t) ≡ 3 * s) ⌝ }
-    ensures { λ r. ⌜ r ≡ twoRight (now (t .entry)) s k most first ⌝ }
-{
-    (most == t[s + k]) & (first == t[2 * s + k])
-}
+// ---- the records, from the first slot on
 
-// Every segment, in one pass over the blocks.
-fn segments_right(v: &[i32], t: &[u32], s: usize, g: usize) -> bool
-    requires { ⌜ ((c : ℕ → ℤ) × Ground (now v) c s g) ⌝ }
-    requires { ⌜ length (now t) ≡ 3 * s ⌝ }
-    ensures { λ r. ⌜
-        ((c : ℕ → ℤ) → Ground (now (v .entry)) c s g
-        → r ≡ every (segmentRight c (length (now (v .entry))) s (now (t .entry))) 0 s)
-        ⌝ }
+// The words of slot i's block, whose first word is set in the map. More than the arena's if the record may not follow
+// those before it, or its control word is another.
+fn map_row(
+    v: &[i32],
+    next: u32,
+    table: &[u32],
+    i: usize,
+    map: &mut [u64],
+    seen: &mut [u8],
+    m: usize,
+) -> usize
+    requires { ⌜ (length (now v) ≤ 16384) × (length (now v) ≤ 64 * length (now map)) × (i < slots (now table))
+        × (0 < m) × (length (now seen) ≡ m) × Noted m (now seen) (now table) i
+        × Heads (now v) (now table) (now map) i × Sets (now table) (now map) i ⌝ }
+    ensures { λ u. ⌜ (u ≤ length (now (v .entry))
+        → Joined (now (v .entry)) next (now (table .entry)) (now (map .exit)) (now (seen .exit)) m i u)
+        × (Good (now (v .entry)) next (now (table .entry)) i → u ≤ length (now (v .entry))) ⌝ }
 {
-    let w = v.len();
-    let mut ok = true;
-    let mut from: usize = 0;
-    let mut k: usize = 0;
-    while k < s {
-        let hi = lesser((k + 1) * g, w);
-        let swept = sweep(v, from, hi);
-        let most = swept.most;
-        ok = ok & segment_right(t, s, k, most, first_from(from, hi, w));
-        from = swept.next;
-        k += 1;
+    let words = v.len();
+    let rule = Rule { unit: 1, lead: 1 };
+    let r = read_row(table, i);
+    let u = tiling::enter_row(rule, words, next, table, i, r, &mut *seen, m);
+    if u == 0 {
+        return 0;
     }
-    ok
+    if words < u {
+        return u;
+    }
+    let at = r.address as usize - 1;
+    if !is_held(v, at, u) {
+        return words + 1;
+    }
+    put_bit(&mut *map, at);
+    u
 }
 
-// Whether the index is that of the arena's blocks.
-fn index_right(v: &[i32], t: &[u32], s: usize, g: usize) -> bool
-    requires { ⌜ ((c : ℕ → ℤ) × Ground (now v) c s g) ⌝ }
-    requires { ⌜ length (now t) ≡ 3 * s ⌝ }
-    ensures { λ r. ⌜
-        ((c : ℕ → ℤ) → Ground (now (v .entry)) c s g
-        → Says r (now (t .entry) ≡ indexOf c (length (now (v .entry))) s))
-        ⌝ }
+// The words of all blocks together, whose first words are set in a map that is all zero. More than the arena's if a
+// record is wrong.
+fn map_rows(
+    v: &[i32],
+    next: u32,
+    table: &[u32],
+    map: &mut [u64],
+    seen: &mut [u8],
+    m: usize,
+) -> usize
+    requires { ⌜ (length (now v) ≤ 16384) × (length (now v) ≤ 64 * length (now map)) × (0 < m)
+        × (length (now seen) ≡ m) × (all isZero (now map) ≡ true) × (slots (now table) ≤ 256) ⌝ }
+    ensures { λ u. ⌜ (u ≤ length (now (v .entry))
+        → Headed (now (v .entry)) next (now (table .entry)) (now (map .exit)) (now (seen .exit)) m
+        (slots (now (table .entry))) u)
+        × (((i : ℕ) → i < slots (now (table .entry)) → Good (now (v .entry)) next (now (table .entry)) i)
+        → Headed (now (v .entry)) next (now (table .entry)) (now (map .exit)) (now (seen .exit)) m
+        (slots (now (table .entry))) u) ⌝ }
 {
-    tree_right(t, s) & segments_right(v, t, s, g)
+    let words = v.len();
+    let mut held: usize = 0;
+    let mut i = 0;
+    while i < table.len() / 3 {
+        let u = map_row(&*v, next, &*table, i, &mut *map, &mut *seen, m);
+        if words < u {
+            return words + 1;
+        }
+        held += u;
+        i += 1;
+    }
+    held
 }
 
-// Whether the index is that of the ledger whose stored form the arena is.
-fn index_stored(v: &[i32], t: &[u32], s: usize, g: usize) -> bool
-    requires { ⌜ ((L : Ledger) × (next : ℕ) × Laid (now v) L next) ⌝ }
-    requires { ⌜ Measured (now v) (now t) s g ⌝ }
-    ensures { λ r. ⌜
-        ((L : Ledger) → (next : ℕ) → Laid (now (v .entry)) L next
-        → Says r (now (t .entry) ≡ segmentIndex s (length (now (v .entry))) L))
-        ⌝ }
-{
-    index_right(v, t, s, g)
-}
+// ---- the test
 
-// Whether arena and index are the stored form of the table's ledger.
-pub fn pool_right(v: &[i32], t: &[u32], used: &[u8], table: &[u32], s: usize, g: usize) -> bool
-    requires { ⌜ Mapped (now v) (now used) (now table) ⌝ }
-    requires { ⌜ Measured (now v) (now t) s g ⌝ }
-    ensures { λ r. ⌜
-        Says r ((now (v .entry) ≡ arenaOf (recordsOf (now (table .entry))) (now (v .entry)))
-        × (now (t .entry) ≡ segmentIndex s (length (now (v .entry))) (recordsOf (now (table .entry)))))
-        ⌝ }
+// The test by a map that comes in all zero and m residues of tickets.
+fn is_tiled_over(
+    next: u32,
+    arena: &[i32],
+    table: &[u32],
+    index: &[u32],
+    s: usize,
+    g: usize,
+    map: &mut [u64],
+    seen: &mut [u8],
+    m: usize,
+) -> bool
+    requires { ⌜ Measured (now arena) (now index) s g × (length (now arena) ≤ 64 * length (now map)) × (0 < m)
+        × (length (now seen) ≡ m) × (all isZero (now map) ≡ true) × (slots (now table) ≤ 256) ⌝ }
+    ensures { λ r. ⌜ Says r (Stored next (now (arena .entry)) (now (table .entry)) (now (index .entry)) s) ⌝ }
 {
-    if !arena_right(v, used, table) {
+    let words = arena.len();
+    let held = map_rows(&*arena, next, &*table, &mut *map, &mut *seen, m);
+    if words < held {
         return false;
     }
-    index_stored(v, t, s, g)
+    let free = lay_all(&*arena, &*map, &*index, s, g);
+    if words < free {
+        return false;
+    }
+    if free + held != words {
+        return false;
+    }
+    tree_right(&*index, s)
+}
+
+// The residues and the map are wiped whole, so that few slots get few, and a small pool a small one.
+fn is_tiled_few(
+    next: u32,
+    arena: &[i32],
+    table: &[u32],
+    index: &[u32],
+    s: usize,
+    g: usize,
+    map: &mut [u64],
+) -> bool
+    requires { ⌜ Measured (now arena) (now index) s g × (length (now arena) ≤ 64 * length (now map))
+        × (all isZero (now map) ≡ true) × (slots (now table) ≤ 256) ⌝ }
+    ensures { λ r. ⌜ Says r (Stored next (now (arena .entry)) (now (table .entry)) (now (index .entry)) s) ⌝ }
+{
+    let mut seen: [u8; 128] = [0; 128];
+    is_tiled_over(
+        next,
+        &*arena,
+        &*table,
+        &*index,
+        s,
+        g,
+        &mut *map,
+        &mut seen,
+        128,
+    )
+}
+
+fn is_tiled_many(
+    next: u32,
+    arena: &[i32],
+    table: &[u32],
+    index: &[u32],
+    s: usize,
+    g: usize,
+    map: &mut [u64],
+) -> bool
+    requires { ⌜ Measured (now arena) (now index) s g × (length (now arena) ≤ 64 * length (now map))
+        × (all isZero (now map) ≡ true) × (slots (now table) ≤ 256) ⌝ }
+    ensures { λ r. ⌜ Says r (Stored next (now (arena .entry)) (now (table .entry)) (now (index .entry)) s) ⌝ }
+{
+    let mut seen: [u8; 2048] = [0; 2048];
+    is_tiled_over(
+        next,
+        &*arena,
+        &*table,
+        &*index,
+        s,
+        g,
+        &mut *map,
+        &mut seen,
+        2048,
+    )
+}
+
+fn is_tiled_by(
+    next: u32,
+    arena: &[i32],
+    table: &[u32],
+    index: &[u32],
+    s: usize,
+    g: usize,
+    map: &mut [u64],
+) -> bool
+    requires { ⌜ Measured (now arena) (now index) s g × (length (now arena) ≤ 64 * length (now map))
+        × (all isZero (now map) ≡ true) × (slots (now table) ≤ 256) ⌝ }
+    ensures { λ r. ⌜ Says r (Stored next (now (arena .entry)) (now (table .entry)) (now (index .entry)) s) ⌝ }
+{
+    if table.len() / 3 <= 16 {
+        return is_tiled_few(next, &*arena, &*table, &*index, s, g, &mut *map);
+    }
+    is_tiled_many(next, &*arena, &*table, &*index, s, g, &mut *map)
+}
+
+fn is_tiled_small(
+    next: u32,
+    arena: &[i32],
+    table: &[u32],
+    index: &[u32],
+    s: usize,
+    g: usize,
+) -> bool
+    requires { ⌜ Measured (now arena) (now index) s g × (length (now arena) ≤ 128) × (slots (now table) ≤ 256) ⌝ }
+    ensures { λ r. ⌜ Says r (Stored next (now (arena .entry)) (now (table .entry)) (now (index .entry)) s) ⌝ }
+{
+    let mut map: [u64; 2] = [0; 2];
+    is_tiled_by(next, &*arena, &*table, &*index, s, g, &mut map)
+}
+
+fn is_tiled_middle(
+    next: u32,
+    arena: &[i32],
+    table: &[u32],
+    index: &[u32],
+    s: usize,
+    g: usize,
+) -> bool
+    requires { ⌜ Measured (now arena) (now index) s g × (length (now arena) ≤ 2048) × (slots (now table) ≤ 256) ⌝ }
+    ensures { λ r. ⌜ Says r (Stored next (now (arena .entry)) (now (table .entry)) (now (index .entry)) s) ⌝ }
+{
+    let mut map: [u64; 32] = [0; 32];
+    is_tiled_by(next, &*arena, &*table, &*index, s, g, &mut map)
+}
+
+fn is_tiled_large(
+    next: u32,
+    arena: &[i32],
+    table: &[u32],
+    index: &[u32],
+    s: usize,
+    g: usize,
+) -> bool
+    requires { ⌜ Measured (now arena) (now index) s g × (slots (now table) ≤ 256) ⌝ }
+    ensures { λ r. ⌜ Says r (Stored next (now (arena .entry)) (now (table .entry)) (now (index .entry)) s) ⌝ }
+{
+    let mut map: [u64; 256] = [0; 256];
+    is_tiled_by(next, &*arena, &*table, &*index, s, g, &mut map)
+}
+
+// Whether the table holds a valid ledger, and arena and index are its stored form.
+pub fn is_tiled(next: u32, arena: &[i32], table: &[u32], index: &[u32], s: usize, g: usize) -> bool
+    requires { ⌜ Measured (now arena) (now index) s g × (slots (now table) ≤ 256) ⌝ }
+    ensures { λ r. ⌜ Says r (Stored next (now (arena .entry)) (now (table .entry)) (now (index .entry)) s) ⌝ }
+{
+    if arena.len() <= 128 {
+        return is_tiled_small(next, &*arena, &*table, &*index, s, g);
+    }
+    if arena.len() <= 2048 {
+        return is_tiled_middle(next, &*arena, &*table, &*index, s, g);
+    }
+    is_tiled_large(next, &*arena, &*table, &*index, s, g)
 }

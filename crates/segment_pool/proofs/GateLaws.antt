@@ -1,9 +1,9 @@
--- The gate: the lent lengths, and when the map, the arena and the index together are a stored pool. Assumes nothing.
+-- The gate: the lent lengths, and when table, arena and index together are a stored pool. Assumes nothing.
 use Prim.Native.Nat.{ℕ, _+_, _*_, _%_, _≤_, _<_, _^_}
 use native.Mathlib.Decide.{ℕ-discrete, decLe}
 use native.Mathlib.Omega.{arith}
 use mathlib.Core.Path.{_≡_, refl, sym, ap, _∙_, subst}
-use mathlib.Core.Bool.{Bool, true, false, _&&_}
+use mathlib.Core.Bool.{Bool, true, false, _&&_, true≢false}
 use mathlib.Core.List.{List, []}
 use lib.Dec.{eqb, leb}
 use lib.IntN.{ℤ, pos}
@@ -13,7 +13,7 @@ use mir.Syntax.{w32}
 use mir.Val.{ofZ}
 use Rattle.words.specs.Lists.{Words}
 use Rattle.words.specs.Places.{stamp}
-use Rattle.words.proofs.Tests.{bool-iff, and-l, and-r, eqb-eq, le-of}
+use Rattle.words.proofs.Tests.{bool-iff, false-of, and-l, and-r, eqb-eq, le-of}
 use Rattle.ledger.specs.Records.{Ledger, slots, recordsOf}
 use Rattle.ledger.specs.Units.{valid, owned}
 use Rattle.ledger.proofs.RecordLaws.{table-records}
@@ -21,11 +21,11 @@ use Rattle.stored_forms.specs.Segments.{segmentRule, segmentRange, segmentWord,
 use Rattle.stored_forms.specs.Segments.{isPower, depth}
 use Rattle.segment_places.specs.Stores.{arenaOf}
 use Rattle.segment_places.proofs.BitLaws.{arena-words, words-arena}
-use Rattle.segment_check.specs.Right.{Says, Mapped, Measured}
+use Rattle.segment_check.specs.Right.{Says, Measured}
+use Rattle.segment_check.specs.Laid.{Stored}
 use Rattle.calls.specs.Pool.{Pool, store, lengths, samePool, stored}
 use Rattle.calls.specs.Engines.{segmentEngine}
 use Rattle.calls.proofs.StoreLaws.{same-pool-eq, same-pool-same}
-use Rattle.record_table.specs.Checks.{Marks}
 use Rattle.segment_pool.specs.Promises.{asWords, segmentPool, Ranged}
 
 -- ---- the lent lengths
@@ -91,14 +91,14 @@ ranged-end v i below end j = go (decLe i j)
 -- ---- the pool
 
 -- b is what the check of the table says
-pub not-stored : (S next : ℕ) (v : List ℤ) (t x : Words) (b : Bool)
+not-stored : (S next : ℕ) (v : List ℤ) (t x : Words) (b : Bool)
     → b ≡ valid segmentRule (length v) next (recordsOf t) → b ≡ false
     → false ≡ stored segmentEngine (segmentPool S next v t x)
 unfolding stored segmentEngine
 not-stored S next v t x b e off = let bad = sym e ∙ off in sym (rw (length-map v, bad))
 
 -- right lengths and a valid table
-pub record Valid (S next : ℕ) (v : List ℤ) (t x : Words) : Type 0 where
+record Valid (S next : ℕ) (v : List ℤ) (t x : Words) : Type 0 where
   pub fit : InRange S v t x
   pub good : valid segmentRule (length v) next (recordsOf t) ≡ true
 
@@ -154,22 +154,18 @@ module _ {S next : ℕ} {v : List ℤ} {t x : Words} (k : Valid S next v t x) wh
       (λ e. stored-same ∙ ap (samePool p) (sym (right-store (from e))) ∙ same-pool-same p)
       (λ e. to (same-pool-eq p q (sym stored-same ∙ e)))
 
-  pub stored-is : Ranged v → (r : Bool) → Says r Right → r ≡ stored segmentEngine (segmentPool S next v t x)
+  stored-is : Ranged v → (r : Bool) → Says r Right → r ≡ stored segmentEngine (segmentPool S next v t x)
   stored-is fits r says = stored-by r (says .0) (λ e. says .1 (store-right fits e))
 
-  pub right-stored : Right → true ≡ stored segmentEngine (segmentPool S next v t x)
-  right-stored h = stored-by true (λ e. h) (λ e. refl)
-
--- and free units that are those of the map
-pub record Checked (S next : ℕ) (v : List ℤ) (t x used : Words) : Type 0 where
-  pub known : Valid S next v t x
-  pub marks : Marks segmentRule used (recordsOf t)
-
-pub check-passes : {S next : ℕ} {v : List ℤ} {t x used : Words} (b : Bool) → InRange S v t x
-    → b ≡ valid segmentRule (length v) next (recordsOf t) → (b ≡ true → Marks segmentRule used (recordsOf t))
-    → b ≡ true → Checked S next v t x used
-check-passes b fit e marks ok = record { known = record { fit = fit; good = sym e ∙ ok }; marks = marks ok }
-
-pub mapped : {S next : ℕ} {v : List ℤ} {t x used : Words} → Checked S next v t x used → length v ≤ length used
-    → Mapped v used t
-mapped {next = next} k l = record { next = next; good = k .known .good; long = l; marks = k .marks }
+-- what the check says of the lent memory is what `stored` says of the pool
+pub stored-says : {S : ℕ} (next : ℕ) {v : List ℤ} {t x : Words} → InRange S v t x → Ranged v → (r : Bool)
+    → Says r (Stored next v t x S) → r ≡ stored segmentEngine (segmentPool S next v t x)
+stored-says {S} next {v} {t} {x} fit fits r says = go (valid segmentRule (length v) next (recordsOf t)) refl
+  where
+    go : (b : Bool) → b ≡ valid segmentRule (length v) next (recordsOf t)
+        → r ≡ stored segmentEngine (segmentPool S next v t x)
+    go false e =
+        false-of r (λ h. true≢false (sym (says .0 h .0) ∙ sym e)) ∙ not-stored S next v t x false e refl
+    go true e =
+        stored-is (record { fit = fit; good = sym e }) fits r
+        ((λ h. (says .0 h .1, says .0 h .2)), (λ (arena, index). says .1 (sym e, arena, index)))

@@ -13,7 +13,6 @@ ghost use mathlib.Core.Bool.{true};
 ghost use mathlib.Core.List.{[], _∷_};
 ghost use Prim.Native.Nat.{_+_, _*_, _/_, _%_, _<_, _≤_};
 ghost use lib.ListN.{length};
-ghost use Rattle.words.specs.Lists.{all, isZero};
 ghost use Rattle.calls.specs.Pool.{lengths, stored, sound};
 ghost use Rattle.calls.specs.Step.{format, allocate, release, find, look, list, step};
 ghost use Rattle.calls.specs.Step.{ask, give, answerTo, poolAfter};
@@ -62,52 +61,15 @@ fn ranged(arena: &[i32])
     }
 }
 
-// Whether head and lent memory are the stored form of a ledger, by a map that comes in all zero.
-fn is_stored_over(
-    s: u32,
-    next: u32,
-    arena: &[i32],
-    table: &[u32],
-    index: &[u32],
-    used: &mut [u8],
-) -> bool
-    requires { ⌜ lengths segmentEngine (segmentPool s next (now arena) (now table) (now index)) ≡ true ⌝ }
-    requires { ⌜ (length (now arena) ≤ length (now used)) × (all isZero (now used) ≡ true) ⌝ }
-    ensures { λ r. ⌜ r
-        ≡ stored segmentEngine (segmentPool s next (now (arena .entry)) (now (table .entry)) (now (index .entry))) ⌝ }
-{
-    let words = arena.len();
-    let rule = Rule { unit: 1, lead: 1 };
-    if !record_table::table_check(rule, words, next, &*table, &mut *used) {
-        return false;
-    }
-    ranged(arena);
-    let g = segment_index::segment_size(words, control_words::depth_of(s));
-    segment_check::pool_right(&*arena, &*index, &*used, &*table, s as usize, g)
-}
-
-// The exact check, with every unit marked. It is what refuses a pool.
-fn is_stored_marked(s: u32, next: u32, arena: &[i32], table: &[u32], index: &[u32]) -> bool
-    requires { ⌜ lengths segmentEngine (segmentPool s next (now arena) (now table) (now index)) ≡ true ⌝ }
-    ensures { λ r. ⌜ r
-        ≡ stored segmentEngine (segmentPool s next (now (arena .entry)) (now (table .entry)) (now (index .entry))) ⌝ }
-{
-    let mut used: [u8; 16384] = [0; 16384];
-    is_stored_over(s, next, &*arena, &*table, &*index, &mut used)
-}
-
-// Whether head and lent memory are the stored form of a ledger. Where blocks lie side by side and the index is theirs,
-// that is found quickly; only where not is every unit marked.
+// Whether head and lent memory are the stored form of a ledger.
 fn is_stored(s: u32, next: u32, arena: &[i32], table: &[u32], index: &[u32]) -> bool
     requires { ⌜ lengths segmentEngine (segmentPool s next (now arena) (now table) (now index)) ≡ true ⌝ }
     ensures { λ r. ⌜ r
         ≡ stored segmentEngine (segmentPool s next (now (arena .entry)) (now (table .entry)) (now (index .entry))) ⌝ }
 {
+    ranged(arena);
     let g = segment_index::segment_size(arena.len(), control_words::depth_of(s));
-    if segment_tiles::is_tiled(next, &*arena, &*table, &*index, s as usize, g) {
-        return true;
-    }
-    is_stored_marked(s, next, &*arena, &*table, &*index)
+    segment_check::is_tiled(next, &*arena, &*table, &*index, s as usize, g)
 }
 
 // The number of the tests that stand before every call: 8, 1, or 0 for a sound pool.

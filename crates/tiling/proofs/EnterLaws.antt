@@ -1,6 +1,7 @@
 -- Laws of records that are entered slot after slot, and of the marks that are noted at the residues of their tickets.
 -- Assumes nothing.
-use Prim.Native.Nat.{ℕ, _+_, _<_}
+use Prim.Native.Nat.{ℕ, _+_, _≤_, _<_}
+use native.Mathlib.Nat.{div-le-self}
 use native.Mathlib.Omega.{arith}
 use native.Mathlib.Decide.{ℕ-discrete}
 use native.Mathlib.Numerals.{add-one}
@@ -11,12 +12,13 @@ use lib.ListN.{length, getD, set}
 use lib.Seq.{getD-set-same, getD-set-other}
 use Rattle.words.specs.Lists.{Words, isZero}
 use Rattle.words.specs.Counted.{every, sumTo}
-use Rattle.words.proofs.Tests.{and-l, and-r, and-i, not-true, eqb-eq, eqb-ne, eqb-same}
+use Rattle.words.proofs.Tests.{and-l, and-r, and-i, bool-iff, not-true, eqb-eq, eqb-ne, eqb-same}
 use Rattle.words.proofs.CountedLaws.{every-at, every-of}
 use Rattle.ledger.specs.declared.Row.{Row}
 use Rattle.ledger.specs.declared.Rule.{Rule}
 use Rattle.ledger.specs.Records.{recordAt, isEmpty}
-use Rattle.ledger.specs.Units.{span}
+use Rattle.ledger.specs.Units.{span, past}
+use Rattle.ledger.proofs.UnitLaws.{fits-facts}
 use Rattle.record_table.specs.Checks.{rowOk, differ, residueOf}
 use Rattle.record_table.proofs.PairLaws.{every-last}
 use Rattle.tiling.specs.Tiles.{unitsOf, newAt, otherThan, markOf, several, notes, Noted, Joins, Entered}
@@ -45,6 +47,28 @@ other-new t i e =
     (λ j a b. let other = every-at (otherThan t (recordAt t i .ticket)) 0 i e j a b in
     ap (λ y. isZero (recordAt t j .ticket) || y) other ∙ or-true (isZero (recordAt t j .ticket)))
 
+pub new-other : (t : Words) (i : ℕ) → isZero (recordAt t i .ticket) ≡ false → newAt t i ≡ true
+    → every (otherThan t (recordAt t i .ticket)) 0 i ≡ true
+new-other t i live e =
+    every-of (otherThan t (recordAt t i .ticket)) 0 i
+    (λ j a b. go j (isZero (recordAt t j .ticket)) refl
+    (every-at (λ j. differ (recordAt t j) (recordAt t i)) 0 i e j a b))
+  where
+    x : ℕ
+    x = recordAt t i .ticket
+
+    go : (j : ℕ) (z : Bool) → isZero (recordAt t j .ticket) ≡ z → (z || otherThan t x j) ≡ true → otherThan t x j ≡ true
+    go j false q h = h
+    go j true q h =
+        ap not (eqb-ne (recordAt t j .ticket) x
+        (λ y. true≢false (sym q ∙ ap isZero y ∙ live)))
+
+-- a flag that compares a ticket with the earlier ones says whether it is new
+pub other-is-new : (t : Words) (i : ℕ) → isZero (recordAt t i .ticket) ≡ false
+    → every (otherThan t (recordAt t i .ticket)) 0 i ≡ newAt t i
+other-is-new t i live =
+    bool-iff (every (otherThan t (recordAt t i .ticket)) 0 i) (newAt t i) (other-new t i) (new-other t i live)
+
 -- ---- an empty slot
 
 zero-ticket : (r : Row) → isEmpty r ≡ true → isZero (r .ticket) ≡ true
@@ -72,6 +96,15 @@ live-joins ρ W next t i u r is live ok new units = (
   new,
   units ∙ sym (ap (λ (b : Bool). cond b 0 (span ρ (r .words))) live) ∙ ap (unitsOf ρ) is,
 )
+
+-- a record that fits has a ticket, and no more units than the arena has words
+pub fit-row : (ρ : Rule) → 0 < ρ .unit → (W next : ℕ) (r : Row) → isEmpty r ≡ false → rowOk ρ W next r ≡ true
+    → (isZero (r .ticket) ≡ false) × (span ρ (r .words) ≤ W)
+unfolding past
+fit-row ρ pos W next r live ok =
+    let f = fits-facts ρ pos W next r (rw live at ok) in
+    let units = f .units in
+    (eqb-ne (r .ticket) 0 (f .ticket), omega (arith, div-le-self W (ρ .unit)))
 
 -- ---- what is noted of tickets
 

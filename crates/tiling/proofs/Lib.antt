@@ -1,3 +1,4 @@
 -- The laws of what specs/ defines.
 pub mod TileLaws
 pub mod EnterLaws
+pub mod LeadLaws

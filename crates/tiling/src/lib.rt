@@ -2,11 +2,13 @@
 use ledger::Row;
 use ledger::Rule;
 ghost use mathlib.Core.Path.{_≡_};
-ghost use mathlib.Core.Bool.{true};
+ghost use mathlib.Core.Bool.{true, false};
 ghost use Prim.Native.Nat.{_+_, _≤_, _<_};
 ghost use lib.ListN.{length};
+ghost use Rattle.words.specs.Lists.{isZero};
 ghost use Rattle.words.specs.Counted.{every};
 ghost use Rattle.ledger.specs.Records.{recordAt, slots};
+ghost use Rattle.record_table.specs.Checks.{rowOk};
 ghost use Rattle.tiling.specs.Tiles.{newAt, otherThan, markOf, Noted, Joins};
 
 // None of the first i tickets is this one. The loop has no way out before its end, so that several are compared at a
@@ -34,9 +36,9 @@ fn mark_of(ticket: u32) -> u8
 // Whether the ticket of slot i is none of the earlier ones, which are noted; it is noted as well. Only where an earlier
 // one has its residue and may have its mark are tickets compared.
 fn is_new(seen: &mut [u8], m: usize, table: &[u32], i: usize, ticket: u32) -> bool
-    requires { ⌜ (i < slots (now table)) × (ticket ≡ recordAt (now table) i .ticket) ⌝ }
+    requires { ⌜ (i < slots (now table)) × (ticket ≡ recordAt (now table) i .ticket) × (isZero ticket ≡ false) ⌝ }
     requires { ⌜ (0 < m) × (length (now seen) ≡ m) × Noted m (now seen) (now table) i ⌝ }
-    ensures { λ b. ⌜ (b ≡ true → newAt (now (table .entry)) i ≡ true) ⌝ }
+    ensures { λ b. ⌜ b ≡ newAt (now (table .entry)) i ⌝ }
     ensures { λ _. ⌜ Noted m (now (seen .exit)) (now (table .entry)) (i + 1) ⌝ }
 {
     let at = record_table::residue(ticket, m);
@@ -69,6 +71,8 @@ pub fn enter_row(
     requires { ⌜ (0 < m) × (length (now seen) ≡ m) × Noted m (now seen) (now table) i ⌝ }
     ensures { λ u. ⌜ (u ≤ words → Joins rule words next (now (table .entry)) i u
         × Noted m (now (seen .exit)) (now (table .entry)) (i + 1)) ⌝ }
+    ensures { λ u. ⌜ (rowOk rule words next (recordAt (now (table .entry)) i) ≡ true
+        → newAt (now (table .entry)) i ≡ true → u ≤ words) ⌝ }
 {
     if record_table::is_empty(r) {
         return 0;

@@ -6,3 +6,4 @@ pub mod ReadLaws
 pub mod LimitLaws
 pub mod WalkLaws
 pub mod StoredLaws
+pub mod ByteLaws

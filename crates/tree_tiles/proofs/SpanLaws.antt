@@ -1,14 +1,17 @@
 -- The spans of a map: noted in a byte or in an entry, and read again. Assumes nothing.
-use Prim.Native.Nat.{ℕ, _+_, _*_, _/_, _%_, _≤_, _<_}
+use Prim.Native.Nat.{ℕ, suc, _+_, _-_, _*_, _/_, _%_, _≤_, _<_}
 use native.Mathlib.Decide.{ℕ-discrete}
 use native.Mathlib.Omega.{arith}
-use mathlib.Core.Path.{_≡_, refl, ap, _∙_}
-use mathlib.Core.Bool.{Bool, true, false}
+use mathlib.Core.Path.{_≡_, refl, sym, ap, _∙_}
+use mathlib.Core.Logic.{_≢_}
+use lib.Dec.{eqb}
+use Rattle.words.proofs.Tests.{eqb-ne, eqb-same}
+use mathlib.Core.Bool.{Bool, true, false, cond}
 use lib.ListN.{length, getD, set, length-set}
 use lib.Seq.{getD-set-same, getD-set-other}
 use Rattle.words.specs.Lists.{Words, all, isZero}
 use Rattle.words.proofs.ListLaws.{zeros-at}
-use Rattle.tree_tiles.specs.Maps.{pairAt, isEntries, unitsAt, Knows, Covers, Adds}
+use Rattle.tree_tiles.specs.Maps.{pairAt, isEntries, entryFrom, unitsAt, Knows, Covers, Adds}
 
 -- ---- no span
 
@@ -110,3 +113,32 @@ pub entry-known : (map : Words) (i k n : ℕ) → isEntries map ≡ true → i %
 entry-known map i k n entries whole first units =
     let place : 4 * (i / 4) ≡ i = omega arith in
     (i / 4, rw (entries, place) first, rw (entries, place) units)
+
+-- ---- the search of an entry, one place at a time
+
+module _ (map : Words) (k i : ℕ) (whole : i % 4 ≡ 0) where
+  place : 4 * (i / 4) ≡ i
+  place = omega arith
+
+  step : i < 384 → entryFrom map k (i / 4) (96 - i / 4)
+      ≡ cond (eqb (pairAt map (i + 2)) 0) 0
+      (cond (eqb (pairAt map i) k) (pairAt map (i + 2)) (entryFrom map k ((i + 4) / 4) (96 - (i + 4) / 4)))
+  step h =
+      let left : 96 - i / 4 ≡ suc (96 - (i + 4) / 4) = omega arith in
+      let up : suc (i / 4) ≡ (i + 4) / 4 = omega arith in
+      rw (left, place, up)
+
+  pub entry-none : i < 384 → pairAt map (i + 2) ≡ 0 → entryFrom map k (i / 4) (96 - i / 4) ≡ 0
+  entry-none h e = step h ∙ rw e
+
+  pub entry-here : i < 384 → (n : ℕ) → n ≡ pairAt map (i + 2) → n ≢ 0 → pairAt map i ≡ k
+      → entryFrom map k (i / 4) (96 - i / 4) ≡ n
+  entry-here h n is some e =
+      step h ∙ rw (sym is, eqb-ne n 0 some, e, eqb-same k)
+
+  pub entry-on : i < 384 → (n : ℕ) → n ≡ pairAt map (i + 2) → n ≢ 0 → (pairAt map i ≡ k → ⊥)
+      → entryFrom map k ((i + 4) / 4) (96 - (i + 4) / 4) ≡ entryFrom map k (i / 4) (96 - i / 4)
+  entry-on h n is some e = sym (step h ∙ rw (sym is, eqb-ne n 0 some, eqb-ne (pairAt map i) k e))
+
+  pub entry-past : 384 ≤ i + 3 → entryFrom map k (i / 4) (96 - i / 4) ≡ 0
+  entry-past h = let z : 96 - i / 4 ≡ 0 = omega arith in rw z

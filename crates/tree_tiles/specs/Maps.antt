@@ -1,6 +1,6 @@
 -- The map of a table's records: spans of units that are held, each in its place; and what the whole test says.
 -- 01, "Stored form of the tree pool". Assumes nothing.
-use Prim.Native.Nat.{ℕ, _+_, _*_, _≤_, _<_}
+use Prim.Native.Nat.{ℕ, zero, suc, _+_, _-_, _*_, _/_, _≤_, _<_}
 use mathlib.Core.Path.{_≡_}
 use mathlib.Core.Bool.{Bool, true, false, cond}
 use lib.Dec.{eqb}
@@ -12,6 +12,7 @@ use Rattle.ledger.specs.Units.{valid, free}
 use Rattle.stored_forms.specs.Tree.{link, formOne, formRule, freeTree}
 use Rattle.stored_forms.specs.Blocks.{Holds}
 use Rattle.tiling.specs.Tiles.{Entered}
+use Rattle.tiling.specs.Leads.{Leads}
 
 -- a unit of the tree pool is one cell of two words
 abbrev pub cellRule : Rule
@@ -33,6 +34,17 @@ firstAt map p = cond (isEntries map) (pairAt map (4 * p)) p
 abbrev pub unitsAt : Words → ℕ → ℕ
 unitsAt map p = cond (isEntries map) (pairAt map (4 * p + 2)) (getD map p 0)
 
+-- the units of the first entry for unit k among the n places from p on, up to an empty one; 0 if there is none
+abbrev pub entryFrom : Words → ℕ → ℕ → ℕ → ℕ
+entryFrom map k p zero = 0
+entryFrom map k p (suc n) =
+    cond (eqb (pairAt map (4 * p + 2)) 0) 0
+    (cond (eqb (pairAt map (4 * p)) k) (pairAt map (4 * p + 2)) (entryFrom map k (suc p) n))
+
+-- how many units from unit k on the map knows to be held, 0 if of none
+abbrev pub spanOf : Words → ℕ → ℕ
+spanOf map k = cond (isEntries map) (entryFrom map k (k / 128) (96 - k / 128)) (getD map k 0)
+
 -- at some place stands the span of n units from unit k on
 abbrev pub Knows : Words → ℕ → ℕ → Type 0
 Knows map k n = (p : ℕ) × (firstAt map p ≡ k) × (unitsAt map p ≡ n)
@@ -52,6 +64,11 @@ Roomy map N = isEntries map ≡ false → N ≤ length map
 -- what the second map covers and the first does not lies among the n units from unit lo on
 abbrev pub Adds : Words → Words → ℕ → ℕ → Type 0
 Adds map map′ lo n = (u : ℕ) → Covers map′ u → (lo ≤ u → u < lo + n → ⊥) → Covers map u
+
+-- In a map with a byte for each unit, bytes lead through the n units from unit lo on, and every other is as it was.
+pub record Spanned (map map′ : Words) (lo n : ℕ) : Type 0 where
+  pub led : Leads (λ u. getD map′ u 0) lo (lo + n)
+  pub kept : (u : ℕ) → (lo ≤ u → u < lo + n → ⊥) → getD map′ u 0 ≡ getD map u 0
 
 -- all slots are entered, with so many units together, and the map covers only units that are held
 pub record Mapped (W next : ℕ) (t : Words) (held : ℕ) (map : Words) : Type 0 where

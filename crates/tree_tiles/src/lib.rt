@@ -9,12 +9,13 @@ use ledger::Rule;
 ghost use mathlib.Core.Path.{_≡_};
 ghost use mathlib.Core.Bool.{true, false};
 ghost use mathlib.Core.Logic.{_≢_};
-ghost use Prim.Native.Nat.{_+_, _*_, _/_, _<_, _≤_};
+ghost use Prim.Native.Nat.{_+_, _-_, _*_, _/_, _<_, _≤_};
 ghost use lib.ListN.{length};
 ghost use Rattle.words.specs.Lists.{all, isZero};
 ghost use Rattle.ledger.specs.Records.{slots};
 ghost use Rattle.ledger.specs.Units.{first};
-ghost use Rattle.tree_tiles.specs.Maps.{pairAt, isEntries, Knows, Paved, Roomy, Adds, Mapped, Shown};
+ghost use Rattle.tiling.specs.Leads.{Leads};
+ghost use Rattle.tree_tiles.specs.Maps.{pairAt, isEntries, entryFrom, spanOf, Knows, Paved, Roomy, Adds, Spanned, Mapped, Shown};
 ghost use Rattle.tree_tiles.specs.Lay.{Ready, Placed, Found};
 
 // ---- the map, which knows of spans: units that one record holds, in a row from a unit on
@@ -35,7 +36,8 @@ fn pair_at(map: &[u8], i: usize) -> usize
 // begin, and ends at an empty one.
 fn entry_for(map: &[u8], k: usize) -> usize
     requires { ⌜ isEntries (now map) ≡ true ⌝ }
-    ensures { λ n. ⌜ (n < 65536) × (0 < n → Knows (now (map .entry)) k n) ⌝ }
+    ensures { λ n. ⌜ (n < 65536) × (0 < n → Knows (now (map .entry)) k n)
+        × (n ≡ entryFrom (now (map .entry)) k (k / 128) (96 - k / 128)) ⌝ }
 {
     let mut i = 4 * (k / 128);
     while i + 3 < map.len() {
@@ -72,7 +74,7 @@ fn note_entry(map: &mut [u8], lo: usize, n: usize)
 // How many units from unit k on the map knows to be held, 0 if of none.
 fn span_at(map: &[u8], k: usize) -> usize
     requires { ⌜ Roomy (now map) (k + 1) ⌝ }
-    ensures { λ n. ⌜ (n < 65536) × (0 < n → Knows (now (map .entry)) k n) ⌝ }
+    ensures { λ n. ⌜ (n < 65536) × (0 < n → Knows (now (map .entry)) k n) × (n ≡ spanOf (now (map .entry)) k) ⌝ }
 {
     if map.len() == 384 {
         return entry_for(&*map, k);
@@ -83,7 +85,8 @@ fn span_at(map: &[u8], k: usize) -> usize
 // Whether records lead from unit lo to unit hi, without a unit left over.
 fn is_paved(map: &[u8], lo: usize, hi: usize) -> bool
     requires { ⌜ (hi < 65536) × Roomy (now map) hi ⌝ }
-    ensures { λ b. ⌜ (b ≡ true → (lo ≤ hi) × Paved (now (map .entry)) lo hi) ⌝ }
+    ensures { λ b. ⌜ (b ≡ true → (lo ≤ hi) × Paved (now (map .entry)) lo hi)
+        × (b ≡ true → Leads (spanOf (now (map .entry))) lo hi) × (Leads (spanOf (now (map .entry))) lo hi → b ≡ true) ⌝ }
 {
     let mut k = lo;
     while k < hi {
@@ -100,7 +103,8 @@ fn is_paved(map: &[u8], lo: usize, hi: usize) -> bool
 // record stands in it several times.
 fn note_span(map: &mut [u8], lo: usize, n: usize)
     requires { ⌜ (0 < n) × (lo + n ≤ length (now map)) × (isEntries (now map) ≡ false) ⌝ }
-    ensures { λ _. ⌜ Adds (now (map .entry)) (now (map .exit)) lo n ⌝ }
+    ensures { λ _. ⌜ Adds (now (map .entry)) (now (map .exit)) lo n
+        × Spanned (now (map .entry)) (now (map .exit)) lo n ⌝ }
 {
     let mut at = lo;
     let mut left = n;

@@ -3,8 +3,9 @@ use native.Mathlib.Omega.{arith}
 use mathlib.Core.Path.{refl, sym, ap, _∙_}
 use denote.Ref.{now}
 use Rattle.words.specs.Counted.{every}
+use Rattle.words.specs.Lists.{isZero}
 use Rattle.tiling.specs.Tiles.{otherThan}
-use Rattle.tiling.proofs.EnterLaws.{other-new, first-there, unlike-there, noted-there}
+use Rattle.tiling.proofs.EnterLaws.{other-is-new, first-there, unlike-there, noted-there}
 use borrow.Author.Needs.{needs}
 use Rattle.tiling.proofs.is_new.Statement.{statement}
 use Rattle.tiling.proofs.is_new.Tie as tie
@@ -34,7 +35,7 @@ returns c =
     let (is, low) = r .residue .ensures in
     let (new, next) = first-there (a .m) (now (a .seen)) (now (a .table)) (a .i) noted (a .ticket) (r .residue .result)
     (mark .mark-of .result) _ (s .pre .0 .1) is (omega arith) (mark .mark-of .ensures) refl (c .if1 .taken) in
-    (λ e. new, next)
+    (sym new, next)
 
 slice-write-seen-2 : tie.Need-slice-write-seen-2
 slice-write-seen-2 c = search needs
@@ -52,7 +53,7 @@ returns-2 c =
     let (is, low) = r .residue .ensures in
     let (new, next) = unlike-there (a .m) (now (a .seen)) (now (a .table)) (a .i) noted (a .ticket) (r .residue .result)
     (mark .mark-of .result) _ (s .pre .0 .1) is (omega arith) (mark .mark-of .ensures) refl (c .if2 .taken) in
-    (λ e. new, next)
+    (sym new, next)
 
 unlike-earlier-requires : tie.Need-unlike-earlier-requires
 unlike-earlier-requires c κs = search needs
@@ -65,10 +66,11 @@ returns-3 c =
     let s = r .before .before .before in
     let a = s .args in
     let t = now (a .table) in
+    let own = s .pre .0 .1 in
     let (some, long, noted) = s .pre .1 in
     let (is, low) = r .residue .ensures in (
-      λ e. other-new t (a .i)
-          (ap (λ x. every (otherThan t x) 0 (a .i)) (sym (s .pre .0 .1)) ∙ sym (c .unlike-earlier .ensures) ∙ e),
+      c .unlike-earlier .ensures ∙ ap (λ x. every (otherThan t x) 0 (a .i)) own
+          ∙ other-is-new t (a .i) (ap isZero (sym own) ∙ s .pre .0 .2),
       noted-there (a .m) (now (a .seen)) t (a .i) noted (a .ticket) (r .residue .result) (mark .mark-of .result) _
           (s .pre .0 .1) is (omega arith) (mark .mark-of .ensures) refl (test .if2 .left),
     )

@@ -78,7 +78,7 @@ returns-3 c e =
     let r = w .before .before .before .before .before .before .before .before in
     let found = w .walk .ensures (c .before .before .if2 .left) in
     tiles-say (c .is-paved .result) (r .map-rows .ensures (w .before .before .before .if1 .left)) found
-    (c .is-paved .ensures) e
+    (c .is-paved .ensures .0) e
 
 pub is-tiled-over-spec : {M : Type 1} → statement M
 is-tiled-over-spec =

@@ -64,7 +64,7 @@ note-row-requires c κs =
     let size = l .inv .0 in
     let most = s .pre .0 in
     let few = c .before .if1 .left in
-    let joins = u .enter-row .ensures few .0 in (
+    let joins = u .enter-row .ensures .0 few .0 in (
       omega arith,
       λ e.
           let r = recordAt (now (s .args .table)) (l .i) in
@@ -106,7 +106,7 @@ loop-again c =
     let s = t .before .before .before .before .before in
     let most = s .pre .0 in
     let size = l .inv .0 in
-    let (joins, residues) = u .enter-row .ensures few in (
+    let (joins, residues) = u .enter-row .ensures .0 few in (
       n .note-row .kept .0 ∙ l .inv .0,
       u .enter-row .kept .1 .1 .1 .1 .1 .1 .0 ∙ l .inv .1,
       map-next (u .enter-row .result) (n .note-row .last .0) (u .enter-row .last .1 .1 .1 .1 .1 .1 .0) (l .inv .2)

@@ -53,7 +53,7 @@ apart c = ⊎-elim (λ w. omega arith) (λ w. omega arith) (c .if4 .came)
 returns-5 : tie.Need-returns-5
 returns-5 c e =
     let d = c .before .before in
-    placed _ _ (apart d) (omega arith) (omega arith) (omega arith) (c .before .is-paved .ensures)
+    placed _ _ (apart d) (omega arith) (omega arith) (omega arith) (c .before .is-paved .ensures .0)
     (c .zero-part .ensures) e
 
 pub node-ok-spec : {M : Type 1} → statement M

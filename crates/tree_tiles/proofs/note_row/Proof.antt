@@ -52,7 +52,7 @@ returns-3 c =
     let f = n .before .before .before in
     let a = f .before .before .before .args in
     subst (λ at. Adds (now (a .map)) (n .note-span .last .0) at (a .n)) (f .first-unit .ensures)
-    (n .note-span .ensures)
+    (n .note-span .ensures .0)
 
 pub note-row-spec : {M : Type 1} → statement M
 note-row-spec =

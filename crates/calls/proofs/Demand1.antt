@@ -3,7 +3,7 @@ use Prim.Native.Nat.{ℕ, zero, _%_, _≤_}
 use native.Mathlib.Omega.{arith}
 use mathlib.Core.Path.{_≡_, refl, sym, ap, _∙_, subst}
 use mathlib.Core.Logic.{_≢_, _↔_, inl}
-use mathlib.Core.Bool.{Bool, true, false, cond, not, _&&_, _||_, true≢false, false≢true, and-true}
+use mathlib.Core.Bool.{Bool, true, false, cond, not, _&&_, _||_, true≢false, false≢true}
 use mathlib.Core.Option.{Option, none, some}
 use lib.Dec.{eqb, ltb}
 use lib.ListN.{length}
@@ -24,8 +24,7 @@ use Rattle.calls.proofs.RowLaws.{size-test, record-test, ticket-test, r
 use Rattle.calls.proofs.RowLaws.{same-record}
 use Rattle.calls.proofs.ActLaws.{named-none, named-some, named-right, named-zero, act-refused, answer-number}
 use Rattle.calls.proofs.ActLaws.{counted-append}
-use Rattle.calls.proofs.GateLaws.{Way, stops, runs, way, both, neither, gate-number, sound-gate, step-sound}
-use Rattle.calls.proofs.GateLaws.{perform-acts}
+use Rattle.calls.proofs.GateLaws.{Way, stops, runs, way, both, neither, gate-number, step-sound}
 use Rattle.calls.proofs.CallLaws.{reads-kept}
 
 -- a test that fails, and what it says

@@ -3,7 +3,7 @@ use Prim.Native.Nat.{ℕ, _/_}
 use native.Mathlib.Omega.{arith}
 use mathlib.Core.Path.{_≡_, refl, sym, ap, _∙_, subst}
 use mathlib.Core.Logic.{_≢_}
-use mathlib.Core.Bool.{Bool, true, false, _||_, false≢true}
+use mathlib.Core.Bool.{true, false, _||_, false≢true}
 use mathlib.Core.List.{List, [], _∷_}
 use mathlib.Core.Option.{Option, none, some}
 use lib.Dec.{eqb, ltb}
@@ -19,9 +19,9 @@ use Rattle.ledger.proofs.UnitLaws.{free-enter, free-settle, valid-settle}
 use Rattle.ledger.proofs.RunLaws.{runs-are}
 use Rattle.calls.specs.Pool.{store, Pool, ledger, wordCount, Engine, Laws, firstTicket, nextAfter, ruleOf}
 use Rattle.calls.specs.Pool.{lengths, sound}
-use Rattle.calls.specs.Step.{Call, format, success, zeroAnswer, refusal, accepted, Act, ask, give, query, plans}
-use Rattle.calls.specs.Step.{kindOf, planned, Outcome, fitOf, numberOf, newRow, grant, carry, answerDone, answerTo}
-use Rattle.calls.specs.Step.{poolAfter, poolAfterAll, actsOf, fills, blank, formatDone, refusedBy, actsDone, perform}
+use Rattle.calls.specs.Step.{Call, format, success, zeroAnswer, refusal, accepted, Act, ask, give, query}
+use Rattle.calls.specs.Step.{planned, Outcome, fitOf, numberOf, newRow, grant, carry, answerDone, answerTo}
+use Rattle.calls.specs.Step.{poolAfter, poolAfterAll, actsOf, fills, blank, formatDone, actsDone, perform}
 use Rattle.calls.specs.Step.{step}
 use Rattle.calls.specs.Demand1.{BadSize, NoRecord, NoTicket, NoRoom}
 use Rattle.calls.specs.Demand2.{LowestFit, Granted, Released, Names, Spares, Untouched, Throughout, Demand2}

@@ -13,7 +13,7 @@ use Rattle.ledger.proofs.RecordLaws.{settle-same, length-table-settle}
 use Rattle.calls.specs.Pool.{Pool, ledger, wordCount, Engine, Laws, store, lengths, sound}
 use Rattle.calls.specs.Step.{Call, format, single, look, list, zeroAnswer, accepted, Outcome, named, answersOf}
 use Rattle.calls.specs.Step.{answerWords, actsDone, step}
-use Rattle.calls.specs.Lent.{Buffer, see, Event, mapCall, brought, isWhole, ownTable, headReturns, outcome, after}
+use Rattle.calls.specs.Lent.{Buffer, see, Event, mapCall, brought, isWhole, headReturns, outcome, after}
 use Rattle.calls.specs.Lent.{laterEnd, laterOutcomes}
 use Rattle.calls.specs.Demand3.{Brings, Standing, isReplay, standAll, RightAll, afterActs, brings, elsewhere}
 use Rattle.calls.specs.Demand3.{RightList, follows, Answered, endOf, atStart, Sequence, Demand3}

@@ -2,14 +2,14 @@
 use Prim.Native.Nat.{ℕ}
 use native.Mathlib.Omega.{arith}
 use native.Mathlib.Decide.{ℕ-discrete}
-use mathlib.Core.Path.{_≡_, refl, sym, ap, _∙_}
+use mathlib.Core.Path.{_≡_, refl, sym, _∙_}
 use mathlib.Core.Logic.{_≢_, _↔_}
 use mathlib.Core.Bool.{Bool, true, false, cond, _&&_, true≢false, false≢true}
 use Rattle.words.specs.Lists.{Words}
 use Rattle.words.proofs.Tests.{and-l, and-r, and-i, eqb-ne}
 use Rattle.calls.specs.Pool.{Pool, Engine, lengths, stored, sound}
-use Rattle.calls.specs.Step.{Call, format, single, look, list, Outcome, suits, fills, behind, gate, refusedBy}
-use Rattle.calls.specs.Step.{actsDone, perform, step}
+use Rattle.calls.specs.Step.{Call, format, single, look, list, bad, Outcome, suits, fills, behind, gate, GateIs}
+use Rattle.calls.specs.Step.{refusedBy, actsDone, perform, step}
 
 -- refused by the gate's number, or performed
 pub data Way (E : Engine) (c : Call Words) (p : Pool) (o : Outcome) : Type 0 where
@@ -109,8 +109,28 @@ module _ (E : Engine) (c : Call Words) (p : Pool) where
   unfolding step
   step-sound f s ok = rw (gate-sound s ok) (perform-acts E c p f)
 
--- one gate for all calls that fill nothing and suit their buffers
-pub gate-same : (E : Engine) (c d : Call Words) (p : Pool) → fills c ≡ false → suits c ≡ true → fills d ≡ false
-    → suits d ≡ true → gate E c p ≡ gate E d p
-unfolding gate
-gate-same E c d p f s g t = rw (behind-is E c p, behind-is E d p, f, s, g, t)
+-- ---- one gate for all calls that fill nothing and suit their buffers
+
+module _ (E : Engine) (p : Pool) where
+  -- by the tests that lead to it
+  pub is-eight : lengths E p ≡ false → GateIs E p 8
+  unfolding gate
+  is-eight l a = rw l
+
+  pub is-one : lengths E p ≡ true → stored E p ≡ false → GateIs E p 1
+  unfolding gate behind
+  is-one l s a = rw (l, s)
+
+  pub is-zero : lengths E p ≡ true → stored E p ≡ true → GateIs E p 0
+  unfolding gate behind
+  is-zero l s a = rw (l, s)
+
+  module _ (x : ℕ) (is : GateIs E p x) where
+    pub gate-opens : x ≡ 0 → sound E p ≡ true
+    gate-opens z = sound-gate E (single bad) p refl (sym (is bad) ∙ z)
+
+    -- such a call is refused by the gate's number
+    pub gate-refuses : x ≢ 0 → (c : Call Words) → fills c ≡ false → suits c ≡ true → step E c p ≡ refusedBy E c p x
+    unfolding gate
+    gate-refuses n c f s =
+        step-stops E c p x (rw (behind-is E c p, f, s) (sym (rw (behind-is E (single bad) p) at (is bad)))) n

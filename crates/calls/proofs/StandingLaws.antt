@@ -7,7 +7,6 @@ use mathlib.Core.Option.{Option, none, some}
 use lib.Dec.{eqb}
 use Rattle.words.specs.Lists.{isSome}
 use Rattle.words.proofs.Tests.{eqb-eq, eqb-same}
-use Rattle.ledger.specs.declared.Row.{Row}
 use Rattle.ledger.specs.Records.{Ledger, Plan, vacate, Member, member, planFor}
 use Rattle.calls.specs.declared.Answer.{Answer}
 use Rattle.calls.specs.Step.{accepted, Act, Kind, plans, reads, others, kindOf, Counted}

@@ -3,8 +3,7 @@
 use Prim.Native.Nat.{ℕ}
 use native.Mathlib.Omega.{arith}
 use mathlib.Core.Path.{_≡_, refl, sym, ap, ap₂, _∙_, subst}
-use mathlib.Core.Logic.{_≢_}
-use mathlib.Core.Bool.{Bool, true, false, not, _||_, false≢true, true≢false}
+use mathlib.Core.Bool.{Bool, true, false, not, _||_, false≢true}
 use mathlib.Core.List.{List, [], _∷_}
 use lib.Dec.{eqb}
 use Rattle.words.specs.Lists.{Words}
@@ -12,7 +11,7 @@ use Rattle.words.proofs.Tests.{and-l, and-r, not-true, eqb-ne}
 use Rattle.ledger.specs.declared.Row.{Row}
 use Rattle.ledger.specs.Records.{Ledger, Plan}
 use Rattle.calls.specs.Pool.{Pool, ledger, Engine}
-use Rattle.calls.specs.Step.{Call, format, single, look, list, refusal, accepted, Act, query, Kind, plans, reads}
+use Rattle.calls.specs.Step.{Call, format, single, look, list, refusal, accepted, Act, Kind, plans, reads}
 use Rattle.calls.specs.Step.{others, kindOf, Outcome, named, answerTo, poolAfter, countedOf, poolAfterAll, actsOf}
 use Rattle.calls.specs.Step.{buffersOf, countedWhole, fills, refusedBy, actsDone, perform, step}
 use Rattle.calls.specs.Demand3.{Brings, Standing, isReplay, standsAs, stands, Right, afterAct, standAll, RightAll}

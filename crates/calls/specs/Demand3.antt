@@ -7,7 +7,7 @@ use mathlib.Core.List.{List, [], _∷_, _++_}
 use mathlib.Core.Option.{Option, none, some}
 use lib.Dec.{eqb}
 use lib.ListN.{length, getD, drop}
-use Rattle.words.specs.Lists.{Words, all, isSome}
+use Rattle.words.specs.Lists.{all, isSome}
 use Rattle.ledger.specs.declared.Row.{Row}
 use Rattle.ledger.specs.Records.{Ledger, recordOf, Plan, vacate, Member, member, planFor, settle}
 use Rattle.ledger.specs.Units.{owned}

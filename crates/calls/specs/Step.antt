@@ -1,6 +1,7 @@
 -- Calls, answers, numbers in their order, and one total step over an engine. 01, "Calls and numbers". Assumes nothing.
 use Prim.Native.Nat.{ℕ, _*_, _/_, _%_}
-use mathlib.Core.Bool.{Bool, true, false, cond, not, _&&_, _||_}
+use mathlib.Core.Path.{_≡_}
+use mathlib.Core.Bool.{Bool, true, false, cond, _&&_, _||_}
 use mathlib.Core.List.{List, [], _∷_, _++_, map}
 use mathlib.Core.Option.{Option, none, some}
 use lib.Dec.{eqb, leb, ltb}
@@ -268,6 +269,10 @@ module _ (E : Engine) where
 
   unfoldable pub gate : Call Words → Pool → ℕ
   gate c p = cond (lengths E p && suits c) (behind c p) 8
+
+  -- x is the gate's number for every call that is one act, and for every other that fills nothing and suits its buffers
+  abbrev pub GateIs : Pool → ℕ → Type 0
+  GateIs p x = (a : Act) → x ≡ gate (single a) p
 
   -- "A refused call .. leaves head, arena, table, index and answer buffer unchanged"; format "writes nothing and hands
   -- back a head of zeros".

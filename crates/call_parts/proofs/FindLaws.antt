@@ -1,5 +1,4 @@
--- The tests that stand before every call, 8 and then 1, and the calls that name a record, for any engine. Assumes
--- nothing.
+-- The calls that name a record, for any engine: find, look, and a refused release. Assumes nothing.
 use Prim.Native.Nat.{ℕ, _+_, _*_, _-_, _≤_, _<_}
 use native.Mathlib.Nat.{lt-mul-div-succ}
 use native.Mathlib.Omega.{arith}
@@ -13,15 +12,15 @@ use Rattle.ledger.specs.declared.Row.{Row}
 use Rattle.ledger.specs.declared.Rule.{Rule}
 use Rattle.ledger.specs.Records.{recordAt, recordsOf, sameBlock, recordOf}
 use Rattle.calls.specs.Pool.{Pool, ledger, wordCount, Engine, Laws, ruleOf, lengths, stored, sound}
-use Rattle.calls.specs.Step.{Call, single, find, look, success, refusal, accepted, Act, give, query, bad, Outcome}
-use Rattle.calls.specs.Step.{arenaPart, placeholder, named, numberOf, answerDone, answerTo, suits, fills, behind, gate}
+use Rattle.calls.specs.Step.{Call, find, look, success, refusal, accepted, give, query, Outcome}
+use Rattle.calls.specs.Step.{arenaPart, placeholder, named, numberOf, answerDone, answerTo, behind, gate}
 use Rattle.calls.specs.Step.{refusedBy, actsDone, perform, step}
 use Rattle.calls.proofs.StoreLaws.{sound-valid}
 use Rattle.ledger.specs.Units.{span, first, past, addressAt}
 use Rattle.ledger.proofs.UnitLaws.{valid-record}
 use mathlib.Core.Option.{some}
 use Rattle.calls.proofs.ActLaws.{named-zero, act-done, act-refused, answer-number}
-use Rattle.calls.proofs.GateLaws.{Way, stops, runs, way, step-stops, sound-gate, gate-same, step-sound}
+use Rattle.calls.proofs.GateLaws.{Way, stops, runs, way, sound-gate, step-sound}
 use Rattle.record_table.specs.declared.Found.{Found}
 use Rattle.record_table.specs.declared.Found.the-variants.{At, Nothing}
 use Rattle.record_table.specs.Slots.{ticketSlot}
@@ -29,20 +28,6 @@ use Rattle.call_parts.specs.declared.Named.the-variants.{Slot, Refused}
 use Rattle.call_parts.specs.Parts.{namedAt, namedIn, numberIn}
 use Rattle.call_parts.proofs.NamedLaws.{named-number}
 use Rattle.call_parts.proofs.AskLaws.{RefusedBy, refused-by}
-
--- ---- the gate
-
--- the gate's number for every call that is one act
-abbrev pub GateIs : Engine → Pool → ℕ → Type 0
-GateIs E p x = (a : Act) → x ≡ gate E (single a) p
-
-module _ (E : Engine) (p : Pool) (x : ℕ) (is : GateIs E p x) where
-  pub gate-opens : x ≡ 0 → sound E p ≡ true
-  gate-opens z = sound-gate E (single bad) p refl (sym (is bad) ∙ z)
-
-  -- a call that suits its buffers is refused by the gate's number
-  pub gate-refuses : x ≢ 0 → (c : Call Words) → fills c ≡ false → suits c ≡ true → step E c p ≡ refusedBy E c p x
-  gate-refuses n c f s = step-stops E c p x (gate-same E c (single bad) p f s refl refl ∙ sym (is bad)) n
 
 -- ---- the record that a call names
 

@@ -15,9 +15,10 @@ ghost use Rattle.ledger.specs.Records.{slots, recordsOf};
 ghost use Rattle.ledger.specs.Runs.{run};
 ghost use Rattle.ledger.specs.Runs.{liveCount};
 ghost use Rattle.calls.specs.Pool.{lengths, stored};
+ghost use Rattle.calls.specs.Step.{GateIs};
 ghost use Rattle.calls.specs.Engines.{treeEngine};
 ghost use Rattle.tree_check.specs.Walk.{Says, heldAt, closed, ahead, Ready, Fine, wrong, Walked, Shows};
-ghost use Rattle.tree_check.specs.Gate.{treePool, RightLengths, gateOf};
+ghost use Rattle.tree_check.specs.Gate.{treePool, RightLengths};
 
 // ---- the map of units, in which free units read 0
 
@@ -231,7 +232,7 @@ pub fn is_stored(root: u32, next: u32, arena: &[u32], table: &[u32]) -> bool
 
 // The number of the tests that stand before every call: 8, 1, or 0 for a sound pool.
 pub fn gate_number(root: u32, next: u32, arena: &[u32], table: &[u32]) -> u32
-    ensures { λ r. ⌜ r ≡ gateOf treeEngine (treePool root next (now (arena .entry)) (now (table .entry))) ⌝ }
+    ensures { λ r. ⌜ GateIs treeEngine (treePool root next (now (arena .entry)) (now (table .entry))) r ⌝ }
 {
     if !right_lengths(&*arena, &*table) {
         return 8;

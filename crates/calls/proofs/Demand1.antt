@@ -7,6 +7,7 @@ use mathlib.Core.Bool.{Bool, true, false, cond, not, _&&_, _||_, true≢false, f
 use mathlib.Core.Option.{Option, none, some}
 use lib.Dec.{eqb, ltb}
 use lib.ListN.{length}
+use Rattle.words.specs.Flags.{Says}
 use Rattle.words.specs.Lists.{Words}
 use Rattle.words.proofs.Tests.{and-l, and-r, and-i, eqb-eq, eqb-ne, eqb-false, false-of, le-of, of-le, absurd-some}
 use Rattle.ledger.specs.declared.Row.{Row}
@@ -28,14 +29,14 @@ use Rattle.calls.proofs.GateLaws.{Way, stops, runs, way, both, neither,
 use Rattle.calls.proofs.CallLaws.{reads-kept}
 
 -- a test that fails, and what it says
-off : {P : Type 0} → (false ≡ true) ↔ P → P → ⊥
+off : {P : Type 0} → Says false P → P → ⊥
 off t h = false≢true (t .1 h)
 
 -- ---- the numbers of one act
 
 -- the tests of rows 2 to 5, in their order, each with what it says
 ask-rows : (E : Engine) (p : Pool) (n : ℕ) (a b c : Bool) (o : Option ℕ)
-    → (a ≡ true) ↔ BadSize E p n → (b ≡ true) ↔ NoRecord p → (c ≡ true) ↔ NoTicket p → (o ≡ none) ↔ NoRoom E p n
+    → Says a (BadSize E p n) → Says b (NoRecord p) → Says c (NoTicket p) → (o ≡ none) ↔ NoRoom E p n
     → AskNumbers E p n (cond a 2 (cond b 3 (cond c 4 (elim o [ none ↦ 5 | some k ↦ 0 ]))))
 ask-rows E p n true b c o s r t f =
     let wrong = s .0 refl in
@@ -343,7 +344,7 @@ request-forms =
         (eqb-eq k 1 (search (and-l, and-r)), eqb-eq y 0 (search (and-l, and-r)), eqb-eq z 0 (search (and-l, and-r))))
 
 list-lengths : (rs bs : Words)
-    → (listSuits rs bs ≡ true) ↔ ((length rs % 4 ≡ 0) × (length rs ≤ 4096) × (length rs ≤ length bs))
+    → Says (listSuits rs bs) ((length rs % 4 ≡ 0) × (length rs ≤ 4096) × (length rs ≤ length bs))
 list-lengths rs bs = (
   (λ h. (
     eqb-eq (length rs % 4) 0 (search (and-l, and-r)),

@@ -4,12 +4,12 @@ use Prim.Native.Nat.{ℕ, _+_, _*_, _%_, _^_, _≤_, _<_}
 use native.Mathlib.Nat.{div-one}
 use native.Mathlib.Omega.{arith}
 use mathlib.Core.Path.{_≡_, refl, sym, ap, _∙_}
-use mathlib.Core.Logic.{_↔_}
 use mathlib.Core.Bool.{true, false, true≢false}
 use mathlib.Core.List.{List, _∷_, _++_}
 use lib.ListN.{length, getD}
 use mir.Syntax.{w32}
 use mir.Val.{ofZ}
+use Rattle.words.specs.Flags.{Says}
 use Rattle.words.specs.Lists.{Words}
 use Rattle.words.proofs.Tests.{and-l, and-r, eqb-eq, eqb-same, le-of, of-le, false-of}
 use Rattle.words.proofs.ListLaws.{length-listFrom}
@@ -59,8 +59,8 @@ segment-laws =
 
 -- Tree pool: "32-bit unsigned words, even count from 2 to 16,384. Table: 32-bit words, three to a record, 1 to 256
 -- records". It has no index.
-pub tree-lengths : (p : Pool) → (lengths treeEngine p ≡ true)
-    ↔ ((2 ≤ wordCount p) × (wordCount p ≤ 16384) × (wordCount p % 2 ≡ 0)
+pub tree-lengths : (p : Pool) → Says (lengths treeEngine p)
+    ((2 ≤ wordCount p) × (wordCount p ≤ 16384) × (wordCount p % 2 ≡ 0)
     × (length (p .table) % 3 ≡ 0) × (3 ≤ length (p .table)) × (length (p .table) ≤ 768) × (length (p .index) ≡ 0))
 unfolding lengths treeEngine formOne treeRange
 tree-lengths p =
@@ -86,8 +86,8 @@ tree-lengths p =
 
 -- Segment pool: W "of them, 2 to 16,384", the table as above, S "a power of two, 1 to 256", and "Index: 3S unsigned
 -- words".
-pub segment-lengths : (p : Pool) → (lengths segmentEngine p ≡ true)
-    ↔ ((2 ≤ wordCount p) × (wordCount p ≤ 16384) × ((d : ℕ) × (d ≤ 8) × (p .shape ≡ 2 ^ d))
+pub segment-lengths : (p : Pool) → Says (lengths segmentEngine p)
+    ((2 ≤ wordCount p) × (wordCount p ≤ 16384) × ((d : ℕ) × (d ≤ 8) × (p .shape ≡ 2 ^ d))
     × (length (p .table) % 3 ≡ 0) × (3 ≤ length (p .table)) × (length (p .table) ≤ 768)
     × (length (p .index) ≡ 3 * p .shape))
 unfolding lengths segmentEngine segmentRange

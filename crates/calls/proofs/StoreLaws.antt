@@ -3,11 +3,11 @@
 use Prim.Native.Nat.{ℕ, _%_}
 use native.Mathlib.Omega.{arith}
 use mathlib.Core.Path.{_≡_, refl, sym, ap, _∙_, subst}
-use mathlib.Core.Logic.{_↔_}
 use mathlib.Core.Bool.{true, _&&_}
 use mathlib.Core.List.{List, [], _∷_}
 use lib.Dec.{eqb, leb}
 use lib.ListN.{length, getD, length-replicate}
+use Rattle.words.specs.Flags.{Says}
 use Rattle.words.specs.Places.{stamp}
 use Rattle.words.proofs.Tests.{and-l, and-r, and-i, eqb-eq, eqb-same}
 use Rattle.words.proofs.ListLaws.{sameWords-eq, sameWords-same}
@@ -197,7 +197,7 @@ module _ (E : Engine) where
       (owned-more p m ms))
 
 -- Row 1, as 01 says it: a pool is sound exactly if its lengths are right and it is the stored form of some ledger.
-pub sound-form : (E : Engine) → Laws E → (p : Pool) → (sound E p ≡ true) ↔ StoredForm E p
+pub sound-form : (E : Engine) → Laws E → (p : Pool) → Says (sound E p) (StoredForm E p)
 sound-form E laws p = (
   (λ ok. record {
     of = ledger p;

@@ -9,6 +9,7 @@ use mathlib.Core.Logic.{_≢_, _↔_, _⊎_}
 use mathlib.Core.Bool.{true, false, _&&_}
 use mathlib.Core.List.{List, _++_}
 use lib.ListN.{length}
+use Rattle.words.specs.Flags.{Says}
 use Rattle.words.specs.Lists.{Words}
 use Rattle.ledger.specs.declared.Row.{Row}
 use Rattle.ledger.specs.Records.{row, slots, recordAt, isEmpty}
@@ -129,4 +130,4 @@ pub record Demand1 (E : Engine) : Type 0 where
   -- buffer at least as long
   pub requestForms : RequestForms
   pub listLengths : (rs bs : Words)
-      → (listSuits rs bs ≡ true) ↔ ((length rs % 4 ≡ 0) × (length rs ≤ 4096) × (length rs ≤ length bs))
+      → Says (listSuits rs bs) ((length rs % 4 ≡ 0) × (length rs ≤ 4096) × (length rs ≤ length bs))

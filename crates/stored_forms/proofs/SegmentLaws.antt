@@ -18,6 +18,7 @@ use lib.Signed.{mag}
 use mir.Syntax.{w32}
 use mir.Val.{Fits, SFits, toZ}
 use mir.Facts.{fits-ofZ, toZ-ofZ}
+use Rattle.words.specs.Flags.{Says}
 use Rattle.words.specs.Lists.{firstThat}
 use Rattle.words.proofs.Tests.{and-l, and-r, and-i, not-true, eqb-eq, eqb-same, eqb-ne, of-le, of-lt, of-gt, of-ge}
 use Rattle.words.proofs.CountedLaws.{lowest-nothing, lowest-is}
@@ -55,7 +56,7 @@ power-to S (suc d) e h q = go (ℕ-discrete e (suc d)) (λ l. power-to S d e l q
     go (no z) ih = rw (ih (omega arith)) (or-true (eqb S (2 ^ suc d)))
 
 -- the test of S says that it is one of 2 ^ 0 to 2 ^ 8
-pub power-is : (S d : ℕ) → (isPower S d ≡ true) ↔ ((e : ℕ) × (e ≤ d) × (S ≡ 2 ^ e))
+pub power-is : (S d : ℕ) → Says (isPower S d) ((e : ℕ) × (e ≤ d) × (S ≡ 2 ^ e))
 power-is S d = (power-from S d, λ (e, h, q). power-to S d e h q)
 
 pub power-range : (S d : ℕ) → isPower S d ≡ true → (1 ≤ S) × (S ≤ 2 ^ d)

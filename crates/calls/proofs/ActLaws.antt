@@ -14,7 +14,7 @@ use Rattle.ledger.specs.Records.{Ledger, recordOf, sameBlock, full, Plan, vacat
 use Rattle.ledger.proofs.RecordLaws.{record-ticket}
 use Rattle.calls.specs.declared.Answer.{Answer}
 use Rattle.calls.specs.Pool.{Pool, ledger, Engine}
-use Rattle.calls.specs.Step.{success, refusal, accepted, Act, ask, give, query, bad, planned, Kind, plans, reads}
+use Rattle.calls.specs.Step.{success, refusal, accepted, Act, ask, give, query, bad, Kind, plans, reads}
 use Rattle.calls.specs.Step.{others, kindOf, named, fitOf, numberOf, newRow, grant, carry, answerDone, poolDone}
 use Rattle.calls.specs.Step.{answerTo, poolAfter, countedOf, poolAfterAll}
 
@@ -51,6 +51,10 @@ named-zero L r z = go (recordOf (r .ticket) L) refl
     go (some s) e = last s e (sameBlock s r) refl (sym (named-some L r s e) ∙ z)
 
 -- ---- one act
+
+-- the act that carries out a plan on the record r
+abbrev pub planned : Plan → Row → Act
+planned vacate r = give r
 
 -- what a request that gets the number 0 says: every test of its rows fails
 pub record Asked (E : Engine) (p : Pool) (n k : ℕ) : Type 0 where

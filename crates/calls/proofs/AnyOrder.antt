@@ -18,12 +18,12 @@ use Rattle.calls.specs.Step.{Call, release, accepted, give, answerTo, Co
 use Rattle.calls.specs.Step.{actsDone, step, named}
 use Rattle.calls.specs.Lent.{Part, inArena, inTable, inIndex, Buffer, own, areOwn, isAllOf, Event, onWhole}
 use Rattle.calls.specs.Lent.{isWhole, outcome, after}
-use Rattle.calls.specs.Demand3.{Brings, Standing, remove, isDue, stands, standAll, afterActs, brings, elsewhere}
+use Rattle.calls.specs.Demand3.{Brings, Progress, remove, isDue, stands, standAll, afterActs, brings, elsewhere}
 use Rattle.calls.specs.Demand3.{follows, atStart, Sequence}
 use Rattle.calls.proofs.StoreLaws.{settled, settled-none}
 use Rattle.calls.proofs.GateLaws.{step-sound}
 use Rattle.calls.proofs.LentLaws.{whole-brings, whole-table, outcome-is}
-use Rattle.calls.proofs.StandingLaws.{plan-other, plan-removed, Inv, given}
+use Rattle.calls.proofs.ProgressLaws.{plan-other, plan-removed, Inv, given}
 use Rattle.calls.proofs.WholeCalls.{all-own, due-after, due-act, whole-sound}
 use Rattle.calls.proofs.Demand3.{settled-fits, start-inv, Moved, event}
 
@@ -75,7 +75,7 @@ module _ (E : Engine) (laws : Laws E) (p : Pool) (ok : sound E p ≡ true) (ms :
         all-own-part inIndex (q .index) (length (p .index)) (sym (f .index)),
       )
 
-  module _ (r : Row) (rs : List Row) (s : Standing) (q : Pool) (e : q ≡ settled E p (s .done)) (v : Inv ms s)
+  module _ (r : Row) (rs : List Row) (s : Progress) (q : Pool) (e : q ≡ settled E p (s .done)) (v : Inv ms s)
       (d : (t : ℕ) → planFor t (s .due) ≡ planFor t (members (r ∷ rs))) (right : named (ledger p) r ≡ 0)
       (single : planFor (r .ticket) (members rs) ≡ none) where
     here : Event
@@ -110,7 +110,7 @@ module _ (E : Engine) (laws : Laws E) (p : Pool) (ok : sound E p ≡ true) (ms :
     unfolding stands
     stand = ap₂ (λ (b : Brings) (cs : List Counted). standAll (ledger p) b s cs) own-all counts ∙ rw due
 
-    later : Standing
+    later : Progress
     later = afterActs (ledger p) (brings q here) s (outcome E q here .counted)
 
     left : (t : ℕ) → planFor t (later .due) ≡ planFor t (members rs)
@@ -118,7 +118,7 @@ module _ (E : Engine) (laws : Laws E) (p : Pool) (ok : sound E p ≡ true) (ms :
     left t =
         ap (planFor t)
         (ap₂ (λ (b : Brings) (cs : List Counted). afterActs (ledger p) b s cs .due) own-all counts
-        ∙ ap (λ (z : Standing). z .due) (due-after (ledger p) s vacate r due (give r) refl answer taken))
+        ∙ ap (λ (z : Progress). z .due) (due-after (ledger p) s vacate r due (give r) refl answer taken))
         ∙ go (eqb (r .ticket) t) refl
       where
         go : (b : Bool) → eqb (r .ticket) t ≡ b → planFor t (remove (r .ticket) (s .due)) ≡ planFor t (members rs)
@@ -135,7 +135,7 @@ module _ (E : Engine) (laws : Laws E) (p : Pool) (ok : sound E p ≡ true) (ms :
     moved : Moved E laws p ok ms s q here
     moved = event E laws p ok ms s q here e v stand quietly
 
-  from : (rs : List Row) (s : Standing) (q : Pool) → q ≡ settled E p (s .done) → Inv ms s
+  from : (rs : List Row) (s : Progress) (q : Pool) → q ≡ settled E p (s .done) → Inv ms s
       → ((t : ℕ) → planFor t (s .due) ≡ planFor t (members rs)) → Different (ledger p) rs
       → follows E (ledger p) s q (releases p rs) ≡ true
   unfolding here later

@@ -11,10 +11,10 @@ use Rattle.ledger.specs.declared.Row.{Row}
 use Rattle.ledger.specs.Records.{Plan, vacate}
 use Rattle.calls.specs.Pool.{Pool, ledger, Engine}
 use Rattle.calls.specs.Step.{Call, format, single, look, list, refusal, accepted, Act, ask, give, query, bad, Kind}
-use Rattle.calls.specs.Step.{plans, reads, others, kindOf, planned, Counted, named, numberOf, poolDone, answerTo}
+use Rattle.calls.specs.Step.{plans, reads, others, kindOf, Counted, named, numberOf, poolDone, answerTo}
 use Rattle.calls.specs.Step.{poolAfter, countedOf, poolAfterAll, actsOf, buffersOf, suits, fills, ownAnswer}
-use Rattle.calls.specs.Step.{buffersAfter, wholly, countedWhole, refusedBy}
-use Rattle.calls.proofs.ActLaws.{act-refused, act-accepted, kind-plans}
+use Rattle.calls.specs.Step.{buffersAfter, asOne, countedWhole, refusedBy}
+use Rattle.calls.proofs.ActLaws.{planned, act-refused, act-accepted, kind-plans}
 
 module _ (E : Engine) where
   -- a refused act leaves the pool as it was
@@ -75,7 +75,7 @@ own-buffers (look r hold) cs f = refl
 own-buffers (list rs bs) cs f = absurd (true≢false f)
 
 -- only a list call can fail to suit its buffers, and then it counts as one call
-pub unsuited-whole : (c : Call Words) (n : ℕ) → suits c ≡ false → countedWhole c n ≡ wholly (refusal n)
+pub unsuited-whole : (c : Call Words) (n : ℕ) → suits c ≡ false → countedWhole c n ≡ asOne (refusal n)
 unsuited-whole format n h = absurd (true≢false h)
 unsuited-whole (single a) n h = absurd (true≢false h)
 unsuited-whole (look r hold) n h = absurd (true≢false h)

@@ -20,7 +20,7 @@ use Rattle.ledger.proofs.RunLaws.{runs-are}
 use Rattle.calls.specs.Pool.{store, Pool, ledger, wordCount, Engine, Laws, firstTicket, nextAfter, ruleOf}
 use Rattle.calls.specs.Pool.{lengths, sound}
 use Rattle.calls.specs.Step.{Call, format, success, zeroAnswer, refusal, accepted, Act, ask, give, query}
-use Rattle.calls.specs.Step.{planned, Outcome, fitOf, numberOf, newRow, grant, carry, answerDone, answerTo}
+use Rattle.calls.specs.Step.{Outcome, fitOf, numberOf, newRow, grant, carry, answerDone, answerTo}
 use Rattle.calls.specs.Step.{poolAfter, poolAfterAll, actsOf, fills, blank, formatDone, actsDone, perform}
 use Rattle.calls.specs.Step.{step}
 use Rattle.calls.specs.Demand1.{BadSize, NoRecord, NoTicket, NoRoom}
@@ -29,7 +29,7 @@ use Rattle.calls.proofs.StoreLaws.{ledger-store, next-store, words-stor
 use Rattle.calls.proofs.StoreLaws.{blank-sound}
 use Rattle.calls.proofs.RowLaws.{size-test, record-test, ticket-test, fit-found, found-fit, room-test}
 use Rattle.calls.proofs.ActLaws.{named-right, named-zero, Asked, act-done, act-refused, ask-done, plan-done}
-use Rattle.calls.proofs.ActLaws.{act-accepted, act-by}
+use Rattle.calls.proofs.ActLaws.{planned, act-accepted, act-by}
 use Rattle.calls.proofs.GateLaws.{Way, stops, runs, way, gate-number, perform-acts}
 use Rattle.calls.proofs.CallLaws.{reads-kept, refused-pool}
 use Rattle.calls.proofs.GrantLaws.{entered, over, zeroed, length-zeroed, grant-store, grant-valid, grant-sound}

@@ -15,14 +15,14 @@ use Rattle.calls.specs.Step.{Call, format, single, look, list, zeroAnswe
 use Rattle.calls.specs.Step.{answerWords, actsDone, step}
 use Rattle.calls.specs.Lent.{Buffer, see, Event, mapCall, brought, isWhole, headReturns, outcome, after}
 use Rattle.calls.specs.Lent.{laterEnd, laterOutcomes}
-use Rattle.calls.specs.Demand3.{Brings, Standing, isReplay, standAll, RightAll, afterActs, brings, elsewhere}
+use Rattle.calls.specs.Demand3.{Brings, Progress, isReplay, standAll, RightAll, afterActs, brings, elsewhere}
 use Rattle.calls.specs.Demand3.{RightList, follows, Answered, endOf, atStart, Sequence, Demand3}
 use Rattle.calls.proofs.StoreLaws.{ledger-store, shape-store, words-store, store-keeps, settled-sound}
 use Rattle.calls.proofs.StoreLaws.{settled-none, sound-lengths, settled}
 use Rattle.calls.proofs.GateLaws.{step-sound}
 use Rattle.calls.proofs.LentLaws.{whole-brings, whole-table, own-table, quiet-after, Fits, whole-after}
 use Rattle.calls.proofs.LentLaws.{outcome-is, returned-head, fills-seen}
-use Rattle.calls.proofs.StandingLaws.{orElse, Inv}
+use Rattle.calls.proofs.ProgressLaws.{orElse, Inv}
 use Rattle.calls.proofs.Strays.{stray-step}
 use Rattle.calls.proofs.WholeCalls.{all-own, replay-six, WholeCall, whole-sound, whole-step}
 
@@ -33,7 +33,7 @@ or-first false b h k = absurd (false≢true (sym h ∙ k))
 module _ (E : Engine) (laws : Laws E) (p : Pool) (ok : sound E p ≡ true) (ms : List Member) where
   -- ---- one event
 
-  pub record Moved (s : Standing) (q : Pool) (e : Event) : Type 0 where
+  pub record Moved (s : Progress) (q : Pool) (e : Event) : Type 0 where
     pub pool : after E q e ≡ settled E p (afterActs (ledger p) (brings q e) s (outcome E q e .counted) .done)
     pub inv : Inv ms (afterActs (ledger p) (brings q e) s (outcome E q e .counted))
     pub right : RightAll (ledger p) (brings q e) s (outcome E q e .counted)
@@ -71,7 +71,7 @@ module _ (E : Engine) (laws : Laws E) (p : Pool) (ok : sound E p ≡ true) (ms :
     shape = ap (λ (z : Pool). z .shape) d ∙ same-shape y ∙ sym (ap (λ (z : Pool). z .shape) e ∙ same-shape x);
   }
 
-  stray-event : (s : Standing) (q : Pool) (e : Event) → q ≡ settled E p (s .done) → Inv ms s → isWhole q e ≡ false
+  stray-event : (s : Progress) (q : Pool) (e : Event) → q ≡ settled E p (s .done) → Inv ms s → isWhole q e ≡ false
       → standAll (ledger p) (brings q e) s (outcome E q e .counted) ≡ true
       → (not (accepted (outcome E q e .answer)) || elsewhere (e .call)) ≡ true → Moved s q e
   unfolding outcome isReplay
@@ -93,8 +93,8 @@ module _ (E : Engine) (laws : Laws E) (p : Pool) (ok : sound E p ≡ true) (ms :
               (sym (fills-seen (see q) (e .call)) ∙ f);
           buffers = λ a. k .buffers (not-true (accepted (outcome E q e .answer))
               (or-first (not (accepted (outcome E q e .answer))) (elsewhere (e .call)) a b));
-        }) ∙ d ∙ ap (λ (z : Standing). settled E p (z .done)) (sym (k .standing));
-        inv = subst (λ (z : Standing). Inv ms z) (sym (k .standing)) v;
+        }) ∙ d ∙ ap (λ (z : Progress). settled E p (z .done)) (sym (k .progress));
+        inv = subst (λ (z : Progress). Inv ms z) (sym (k .progress)) v;
         right = k .right;
         listed = λ a. absurd (false≢true (sym w ∙ a));
       }
@@ -113,7 +113,7 @@ module _ (E : Engine) (laws : Laws E) (p : Pool) (ok : sound E p ≡ true) (ms :
       × (z .buffers ≡ (answerWords (answersOf (z .counted)) ++ drop (length (see q rs)) (see q bs)) ∷ []))
       (sym k) (refl, refl)
 
-  whole-event : (s : Standing) (q : Pool) (e : Event) → q ≡ settled E p (s .done) → Inv ms s → isWhole q e ≡ true
+  whole-event : (s : Progress) (q : Pool) (e : Event) → q ≡ settled E p (s .done) → Inv ms s → isWhole q e ≡ true
       → standAll (ledger p) (brings q e) s (outcome E q e .counted) ≡ true
       → (not (accepted (outcome E q e .answer)) || elsewhere (e .call)) ≡ true → Moved s q e
   whole-event s q e d v w h b = record {
@@ -161,9 +161,9 @@ module _ (E : Engine) (laws : Laws E) (p : Pool) (ok : sound E p ≡ true) (ms :
             head = λ y. absurd (false≢true (sym a ∙ and-l (accepted (o .answer)) (headReturns q e) y));
             buffers = λ _. k .buffers;
           })
-          ∙ d ∙ ap (λ (z : Standing). settled E p (z .done)) (sym still)
+          ∙ d ∙ ap (λ (z : Progress). settled E p (z .done)) (sym still)
 
-  pub event : (s : Standing) (q : Pool) (e : Event) → q ≡ settled E p (s .done) → Inv ms s
+  pub event : (s : Progress) (q : Pool) (e : Event) → q ≡ settled E p (s .done) → Inv ms s
       → standAll (ledger p) (brings q e) s (outcome E q e .counted) ≡ true
       → (not (accepted (outcome E q e .answer)) || elsewhere (e .call)) ≡ true → Moved s q e
   event s q e d v h b = go (isWhole q e) refl
@@ -174,7 +174,7 @@ module _ (E : Engine) (laws : Laws E) (p : Pool) (ok : sound E p ≡ true) (ms :
 
   -- ---- a whole sequence
 
-  at-end : (s : Standing) → Inv ms s → _≡_ {A = Bool} (elim (s .due) [ [] ↦ true | m ∷ more ↦ false ]) true
+  at-end : (s : Progress) → Inv ms s → _≡_ {A = Bool} (elim (s .due) [ [] ↦ true | m ∷ more ↦ false ]) true
       → settled E p (s .done) ≡ settled E p ms
   unfolding settled
   at-end s v h =
@@ -186,7 +186,7 @@ module _ (E : Engine) (laws : Laws E) (p : Pool) (ok : sound E p ≡ true) (ms :
       none-due [] h = refl
       none-due (m ∷ more) h = absurd (false≢true h)
 
-  events : (es : List Event) (s : Standing) (q : Pool) → q ≡ settled E p (s .done) → Inv ms s
+  events : (es : List Event) (s : Progress) (q : Pool) → q ≡ settled E p (s .done) → Inv ms s
       → follows E (ledger p) s q es ≡ true → Answered E (ledger p) s q es × (endOf E q es ≡ settled E p ms)
   events [] s q d v h = (tt, d ∙ at-end s v h)
   events (e ∷ es) s q d v h =

@@ -13,9 +13,9 @@ use Rattle.words.proofs.Tests.{and-l, and-r, eqb-eq}
 use Rattle.words.proofs.ListLaws.{sameWords-eq}
 use Rattle.calls.specs.Pool.{Head, Pool, withHead, Engine}
 use Rattle.calls.specs.Step.{Call, format, single, look, list, accepted, Outcome, buffersOf, fills, step}
-use Rattle.calls.specs.Lent.{Part, inArena, inTable, inIndex, Place, own, other, Buffer, partOf, withPart, seeAt}
+use Rattle.calls.specs.Lent.{Part, inArena, inTable, inIndex, Spot, own, other, Buffer, partOf, withPart, seeAt}
 use Rattle.calls.specs.Lent.{see, leaveAt, leave, leaveAll, isOther, samePart, isOwn, areOwn, isAllOf, Event}
-use Rattle.calls.specs.Lent.{mapCall, headOf, brought, sameHead, isWhole, ownTable, headReturns, writtenBy}
+use Rattle.calls.specs.Lent.{mapCall, headBrought, brought, sameHead, isWhole, ownTable, headReturns, writtenBy}
 use Rattle.calls.specs.Lent.{outcome, after}
 
 -- ---- one buffer
@@ -35,20 +35,20 @@ with-twice inArena x y p = refl
 with-twice inTable x y p = refl
 with-twice inIndex x y p = refl
 
-place-back : (p : Pool) (l : Place) → leaveAt l (seeAt p l) p ≡ p
-place-back p (other v) = refl
-place-back p (own q i) = ap (λ (z : Words). withPart q z p) (set-getD (partOf q p) i 0) ∙ same-words q p
+spot-back : (p : Pool) (l : Spot) → leaveAt l (seeAt p l) p ≡ p
+spot-back p (other v) = refl
+spot-back p (own q i) = ap (λ (z : Words). withPart q z p) (set-getD (partOf q p) i 0) ∙ same-words q p
 
 -- the first words of a buffer left as they were seen
 leave-first : (n : ℕ) (l : Buffer) (p : Pool) → leave (take n l) (see p l) p ≡ p
 leave-first zero l p = refl
 leave-first (suc n) [] p = refl
 leave-first (suc n) (l ∷ ls) p =
-    ap (λ (z : Pool). leave (take n ls) (see p ls) z) (place-back p l) ∙ leave-first n ls p
+    ap (λ (z : Pool). leave (take n ls) (see p ls) z) (spot-back p l) ∙ leave-first n ls p
 
 pub leave-seen : (l : Buffer) (p : Pool) → leave l (see p l) p ≡ p
 leave-seen [] p = refl
-leave-seen (l ∷ ls) p = ap (λ (z : Pool). leave ls (see p ls) z) (place-back p l) ∙ leave-seen ls p
+leave-seen (l ∷ ls) p = ap (λ (z : Pool). leave ls (see p ls) z) (spot-back p l) ∙ leave-seen ls p
 
 leave-other : (l : Buffer) (x : Words) (p : Pool) → all isOther l ≡ true → leave l x p ≡ p
 leave-other [] x p h = refl
@@ -69,9 +69,9 @@ same-part inIndex inArena h = absurd (false≢true h)
 same-part inIndex inTable h = absurd (false≢true h)
 same-part inIndex inIndex h = refl
 
-own-place : (q : Part) (i : ℕ) (l : Place) → isOwn q i l ≡ true → l ≡ own q i
-own-place q i (other v) h = absurd (false≢true h)
-own-place q i (own r j) h =
+own-spot : (q : Part) (i : ℕ) (l : Spot) → isOwn q i l ≡ true → l ≡ own q i
+own-spot q i (other v) h = absurd (false≢true h)
+own-spot q i (own r j) h =
     let a = same-part q r (and-l (samePart q r) (eqb i j) h) in
     let b = eqb-eq i j (and-r (samePart q r) (eqb i j) h) in
     λ k. own (sym a k) (sym b k)
@@ -83,7 +83,7 @@ module _ (q : Part) where
       let k : i ≡ length (partOf q p) = omega arith in
       sym (ap (λ j. drop j (partOf q p)) k ∙ drop-length (partOf q p))
   see-from i (l ∷ ls) p h e =
-      let at : l ≡ own q i = own-place q i l (and-l (isOwn q i l) (areOwn q (suc i) ls) h) in
+      let at : l ≡ own q i = own-spot q i l (and-l (isOwn q i l) (areOwn q (suc i) ls) h) in
       let more = see-from (suc i) ls p (and-r (isOwn q i l) (areOwn q (suc i) ls) h) (omega arith) in
       let below : i < length (partOf q p) = omega arith in
       ap₂ (λ (v : ℕ) (x : Words). v ∷ x) (ap (seeAt p) at) more ∙ sym (drop-cons (partOf q p) i 0 below)
@@ -98,12 +98,12 @@ module _ (q : Part) where
   leave-from i (l ∷ ls) [] p h e s = absurd (omega arith)
   leave-from i (l ∷ ls) (v ∷ x) p h e s =
       let w = partOf q p in
-      let at : l ≡ own q i = own-place q i l (and-l (isOwn q i l) (areOwn q (suc i) ls) h) in
+      let at : l ≡ own q i = own-spot q i l (and-l (isOwn q i l) (areOwn q (suc i) ls) h) in
       let next = withPart q (set w i v) p in
       let words : partOf q next ≡ set w i v = part-with q (set w i v) p in
       let count : length (partOf q next) ≡ length w = ap length words ∙ length-set w i v in
       let below : i < length w = omega arith in
-      ap (λ (z : Place). leave ls x (leaveAt z v p)) at
+      ap (λ (z : Spot). leave ls x (leaveAt z v p)) at
       ∙ leave-from (suc i) ls x next (and-r (isOwn q i l) (areOwn q (suc i) ls) h) (omega arith) (omega arith)
       ∙ with-twice q (set w i v) (take (suc i) (partOf q next) ++ x) p
       ∙ ap (λ (y : Words). withPart q y p)
@@ -128,8 +128,8 @@ module _ (q : Part) where
 pub whole-brings : (q : Pool) (e : Event) → isWhole q e ≡ true → brought q e ≡ q
 unfolding isWhole
 whole-brings q e h =
-    let root = sameWords-eq (headOf q (e .head) .root) (q .head .root) (search (and-l, and-r)) in
-    let next = eqb-eq (headOf q (e .head) .next) (q .head .next) (search (and-l, and-r)) in
+    let root = sameWords-eq (headBrought q (e .head) .root) (q .head .root) (search (and-l, and-r)) in
+    let next = eqb-eq (headBrought q (e .head) .next) (q .head .next) (search (and-l, and-r)) in
     let shape = eqb-eq (e .shape) (q .shape) (search (and-l, and-r)) in
     let arena = see-all inArena q (e .arena) (search (and-l, and-r)) in
     let table = see-all inTable q (e .table) (search (and-l, and-r)) in
@@ -166,17 +166,17 @@ fills-returns E q e t f a = rw (t, f, a)
 pub whole-returns : (q : Pool) (e : Event) → isWhole q e ≡ true → headReturns q e ≡ true
 unfolding isWhole headReturns
 whole-returns q e h =
-    let same : sameHead (headOf q (e .head)) (q .head) ≡ true = search (and-l, and-r) in
+    let same : sameHead (headBrought q (e .head)) (q .head) ≡ true = search (and-l, and-r) in
     rw (whole-table q e h, same) (or-true (fills (e .call)))
 
 pub returned-head : (q : Pool) (e : Event) → headReturns q e ≡ true → fills (e .call) ≡ false
-    → headOf q (e .head) ≡ q .head
+    → headBrought q (e .head) ≡ q .head
 unfolding headReturns
 returned-head q e h f =
-    let taken : sameHead (headOf q (e .head)) (q .head) ≡ true =
-    rw f at (and-r (ownTable q e) (fills (e .call) || sameHead (headOf q (e .head)) (q .head)) h) in
-    let root = sameWords-eq (headOf q (e .head) .root) (q .head .root) (search and-l) in
-    let next = eqb-eq (headOf q (e .head) .next) (q .head .next) (search (and-l, and-r)) in
+    let taken : sameHead (headBrought q (e .head)) (q .head) ≡ true =
+    rw f at (and-r (ownTable q e) (fills (e .call) || sameHead (headBrought q (e .head)) (q .head)) h) in
+    let root = sameWords-eq (headBrought q (e .head) .root) (q .head .root) (search and-l) in
+    let next = eqb-eq (headBrought q (e .head) .next) (q .head .next) (search (and-l, and-r)) in
     λ i. record { root = root i; next = next i }
 
 pub fills-seen : (f : Buffer → Words) (c : Call Buffer) → fills (mapCall f c) ≡ fills c

@@ -9,7 +9,7 @@ pub mod Demand1
 pub mod Demand2
 pub mod LentLaws
 pub mod CallLaws
-pub mod StandingLaws
+pub mod ProgressLaws
 pub mod Strays
 pub mod WholeCalls
 pub mod Demand3

@@ -14,21 +14,21 @@ use Rattle.calls.specs.Pool.{Pool, ledger, Engine}
 use Rattle.calls.specs.Step.{Call, format, single, look, list, refusal, accepted, Act, Kind, plans, reads}
 use Rattle.calls.specs.Step.{others, kindOf, Outcome, named, answerTo, poolAfter, countedOf, poolAfterAll, actsOf}
 use Rattle.calls.specs.Step.{buffersOf, countedWhole, fills, refusedBy, actsDone, perform, step}
-use Rattle.calls.specs.Demand3.{Brings, Standing, isReplay, standsAs, stands, Right, afterAct, standAll, RightAll}
+use Rattle.calls.specs.Demand3.{Brings, Progress, isReplay, standsAs, stands, Right, afterAct, standAll, RightAll}
 use Rattle.calls.specs.Demand3.{afterActs}
 use Rattle.calls.proofs.GateLaws.{Way, stops, runs, way, perform-acts}
-use Rattle.calls.proofs.StandingLaws.{given, not-due, stays, right-stray}
+use Rattle.calls.proofs.ProgressLaws.{given, not-due, stays, right-stray}
 use Rattle.calls.proofs.CallLaws.{act-kept, plan-refused, own-buffers}
 
 -- ---- their acts
 
-record Strayed (E : Engine) (start : Ledger) (b : Brings) (s : Standing) (m : Pool) (more : List Act) : Type 0 where
+record Strayed (E : Engine) (start : Ledger) (b : Brings) (s : Progress) (m : Pool) (more : List Act) : Type 0 where
   kept : poolAfterAll E m more ≡ m
   right : RightAll start b s (countedOf E m more)
-  standing : afterActs start b s (countedOf E m more) ≡ s
+  progress : afterActs start b s (countedOf E m more) ≡ s
 
 -- `unknown`: the memory brought has no record that a replay names
-module _ (E : Engine) (start : Ledger) (b : Brings) (s : Standing) (w : b .whole ≡ false) (m : Pool)
+module _ (E : Engine) (start : Ledger) (b : Brings) (s : Progress) (w : b .whole ≡ false) (m : Pool)
     (unknown : (r : Row) → isReplay start b s r ≡ true → named (ledger m) r ≡ 6) where
   stray-refused : (a : Act) → stands start b s (given a (answerTo E m a)) ≡ true → accepted (answerTo E m a) ≡ false
   unfolding stands
@@ -45,7 +45,7 @@ module _ (E : Engine) (start : Ledger) (b : Brings) (s : Standing) (w : b .whole
       go others e h = not-true (accepted (answerTo E m a)) h
 
   stray-acts : (more : List Act) → standAll start b s (countedOf E m more) ≡ true → Strayed E start b s m more
-  stray-acts [] h = record { kept = refl; right = tt; standing = refl }
+  stray-acts [] h = record { kept = refl; right = tt; progress = refl }
   stray-acts (a ∷ more) h =
       let x = answerTo E m a in
       let c = given a x in
@@ -56,22 +56,22 @@ module _ (E : Engine) (start : Ledger) (b : Brings) (s : Standing) (w : b .whole
       let g : standAll start b (afterAct start b s c) (countedOf E (poolAfter E m a) more) ≡ true = and-r
       (stands start b s c) (standAll start b (afterAct start b s c) (countedOf E (poolAfter E m a) more)) h in
       let ih = stray-acts more (subst (λ (z : Pool). standAll start b s (countedOf E z more) ≡ true) k
-      (subst (λ (z : Standing). standAll start b z (countedOf E (poolAfter E m a) more) ≡ true) d g)) in
+      (subst (λ (z : Progress). standAll start b z (countedOf E (poolAfter E m a) more) ≡ true) d g)) in
       record {
         kept = ap (λ (z : Pool). poolAfterAll E z more) k ∙ ih .kept;
         right = (
           right-stray start b s a x w f,
-          subst (λ (z : Standing). RightAll start b z (countedOf E (poolAfter E m a) more)) (sym d)
+          subst (λ (z : Progress). RightAll start b z (countedOf E (poolAfter E m a) more)) (sym d)
               (subst (λ (z : Pool). RightAll start b s (countedOf E z more)) (sym k) (ih .right)),
         );
-        standing = ap₂ (λ (z : Standing) (y : Pool). afterActs start b z (countedOf E y more)) d k ∙ ih .standing;
+        progress = ap₂ (λ (z : Progress) (y : Pool). afterActs start b z (countedOf E y more)) d k ∙ ih .progress;
       }
 
 -- ---- the calls
 
 -- all that it counts as is refused, and it changes nothing; if it is accepted all the same, as a list is, it fills
 -- nothing and hands back the head that it was brought
-pub record StrayCall (E : Engine) (start : Ledger) (b : Brings) (s : Standing) (c : Call Words) (m : Pool)
+pub record StrayCall (E : Engine) (start : Ledger) (b : Brings) (s : Progress) (c : Call Words) (m : Pool)
     (o : Outcome) : Type 0 where
   pub arena : o .pool .arena ≡ m .arena
   pub table : o .pool .table ≡ m .table
@@ -79,10 +79,10 @@ pub record StrayCall (E : Engine) (start : Ledger) (b : Brings) (s : Standing) (
   pub head : accepted (o .answer) ≡ true → (fills c ≡ false) × (o .pool .head ≡ m .head)
   pub buffers : accepted (o .answer) ≡ false → o .buffers ≡ buffersOf c
   pub right : RightAll start b s (o .counted)
-  pub standing : afterActs start b s (o .counted) ≡ s
+  pub progress : afterActs start b s (o .counted) ≡ s
 
 -- a call that fills memory anew is accepted where it is performed, so it stands in no sequence
-pub no-filling : (E : Engine) (start : Ledger) (b : Brings) (s : Standing) (c : Call Words) (m : Pool)
+pub no-filling : (E : Engine) (start : Ledger) (b : Brings) (s : Progress) (c : Call Words) (m : Pool)
     → fills c ≡ true → standAll start b s (perform E c m .counted) ≡ true → ⊥
 unfolding perform stands
 no-filling E start b s format m f h = false≢true h
@@ -90,7 +90,7 @@ no-filling E start b s (single a) m f h = false≢true f
 no-filling E start b s (look r hold) m f h = false≢true f
 no-filling E start b s (list rs bs) m f h = false≢true f
 
-module _ (E : Engine) (start : Ledger) (b : Brings) (s : Standing) (w : b .whole ≡ false) (m : Pool)
+module _ (E : Engine) (start : Ledger) (b : Brings) (s : Progress) (w : b .whole ≡ false) (m : Pool)
     (unknown : (r : Row) → isReplay start b s r ≡ true → named (ledger m) r ≡ 6) where
   stray-stopped : (c : Call Words) (n : ℕ) → eqb n 0 ≡ false → StrayCall E start b s c m (refusedBy E c m n)
   unfolding afterAct
@@ -101,7 +101,7 @@ module _ (E : Engine) (start : Ledger) (b : Brings) (s : Standing) (w : b .whole
     head = λ h. absurd (false≢true (sym z ∙ h));
     buffers = λ _. refl;
     right = (right c, tt);
-    standing = still c;
+    progress = still c;
   }
     where
       right : (c : Call Words) → Right start b s (countedWhole c n)
@@ -128,7 +128,7 @@ module _ (E : Engine) (start : Ledger) (b : Brings) (s : Standing) (w : b .whole
         head = λ _. (f, ap (λ (z : Pool). z .head) (a .kept));
         buffers = own-buffers c (countedOf E m (actsOf c));
         right = a .right;
-        standing = a .standing;
+        progress = a .progress;
       }
 
   pub stray-step : (c : Call Words) → standAll start b s (step E c m .counted) ≡ true

@@ -15,14 +15,14 @@ use Rattle.calls.specs.declared.Answer.{Answer}
 use Rattle.calls.specs.Pool.{Pool, ledger, Engine, Laws, sound}
 use Rattle.calls.specs.Step.{Call, format, single, look, list, success, refusal, accepted, Act, query, Kind, plans}
 use Rattle.calls.specs.Step.{reads, others, kindOf, Counted, Outcome, named, carry, answerTo, poolAfter, countedOf}
-use Rattle.calls.specs.Step.{poolAfterAll, actsOf, buffersOf, suits, fills, ownAnswer, wholly, refusedBy, actsDone}
+use Rattle.calls.specs.Step.{poolAfterAll, actsOf, buffersOf, suits, fills, ownAnswer, asOne, refusedBy, actsDone}
 use Rattle.calls.specs.Step.{perform, step}
-use Rattle.calls.specs.Demand3.{Brings, Standing, remove, isPlan, live, isDue, isReplay, standsAs, stands, RightAs}
+use Rattle.calls.specs.Demand3.{Brings, Progress, remove, isPlan, live, isDue, isReplay, standsAs, stands, RightAs}
 use Rattle.calls.specs.Demand3.{Right, afterAs, afterAct, standAll, RightAll, afterActs}
 use Rattle.calls.proofs.StoreLaws.{ledger-store, settled-sound, settled, settled-more}
 use Rattle.calls.proofs.ActLaws.{named-none, named-zero, plan-done, kind-plans}
 use Rattle.calls.proofs.GateLaws.{Way, stops, runs, way, gate-sound, perform-acts}
-use Rattle.calls.proofs.StandingLaws.{Inv, inv-carried, is-plan, given, stays, NotDue}
+use Rattle.calls.proofs.ProgressLaws.{Inv, inv-carried, is-plan, given, stays, NotDue}
 use Rattle.calls.proofs.CallLaws.{act-kept, reads-kept, plan-refused, own-refused, own-buffers, unsuited-whole}
 use Rattle.calls.proofs.Strays.{no-filling}
 
@@ -32,7 +32,7 @@ abbrev pub all-own : Brings
 all-own = record { whole = true; table = true }
 
 -- what a release of the set says
-module _ (start : Ledger) (s : Standing) (x : Plan) (r : Row) (d : isDue start all-own s x r ≡ true) where
+module _ (start : Ledger) (s : Progress) (x : Plan) (r : Row) (d : isDue start all-own s x r ≡ true) where
   due-plan : planFor (r .ticket) (s .due) ≡ some x
   unfolding isDue
   due-plan = is-plan x (planFor (r .ticket) (s .due)) (search and-l)
@@ -55,18 +55,18 @@ module _ (start : Ledger) (s : Standing) (x : Plan) (r : Row) (d : isDue start a
 
 module _ (E : Engine) (laws : Laws E) (p : Pool) (ok : sound E p ≡ true) (ms : List Member) where
   -- what one act, and several, do to a sequence that has come to the pool q
-  pub record Acted (s : Standing) (q : Pool) (a : Act) : Type 0 where
+  pub record Acted (s : Progress) (q : Pool) (a : Act) : Type 0 where
     pub pool : poolAfter E q a ≡ settled E p (afterAct (ledger p) all-own s (given a (answerTo E q a)) .done)
     pub inv : Inv ms (afterAct (ledger p) all-own s (given a (answerTo E q a)))
     pub right : Right (ledger p) all-own s (given a (answerTo E q a))
     pub still : accepted (answerTo E q a) ≡ false → afterAct (ledger p) all-own s (given a (answerTo E q a)) ≡ s
 
-  pub record ActedAll (s : Standing) (q : Pool) (more : List Act) : Type 0 where
+  pub record ActedAll (s : Progress) (q : Pool) (more : List Act) : Type 0 where
     pub pool : poolAfterAll E q more ≡ settled E p (afterActs (ledger p) all-own s (countedOf E q more) .done)
     pub inv : Inv ms (afterActs (ledger p) all-own s (countedOf E q more))
     pub right : RightAll (ledger p) all-own s (countedOf E q more)
 
-  module _ (s : Standing) (q : Pool) (e : q ≡ settled E p (s .done)) (v : Inv ms s) where
+  module _ (s : Progress) (q : Pool) (e : q ≡ settled E p (s .done)) (v : Inv ms s) where
     records : ledger q ≡ settle (s .done) (ledger p)
     unfolding settled
     records = ap (λ (z : Pool). ledger z) e ∙ ledger-store E (settle (s .done) (ledger p)) (p .head .next) p
@@ -97,8 +97,8 @@ module _ (E : Engine) (laws : Laws E) (p : Pool) (ok : sound E p ≡ true) (ms :
     refused-act a d f r =
         let same = stays (ledger p) all-own s a (answerTo E q a) d f in
         record {
-          pool = act-kept E q a f ∙ e ∙ ap (λ (z : Standing). settled E p (z .done)) (sym same);
-          inv = subst (λ (z : Standing). Inv ms z) (sym same) v;
+          pool = act-kept E q a f ∙ e ∙ ap (λ (z : Progress). settled E p (z .done)) (sym same);
+          inv = subst (λ (z : Progress). Inv ms z) (sym same) v;
           right = r;
           still = λ _. same;
         }
@@ -111,8 +111,8 @@ module _ (E : Engine) (laws : Laws E) (p : Pool) (ok : sound E p ≡ true) (ms :
       record {
         pool = did .1 ∙ ap (λ (z : Pool). carry E z (r .ticket) x) e
             ∙ settled-more E p (member (r .ticket) x) (s .done)
-            ∙ ap (λ (z : Standing). settled E p (z .done)) (sym moved);
-        inv = subst (λ (z : Standing). Inv ms z) (sym moved) (inv-carried ms s (r .ticket) x v plan);
+            ∙ ap (λ (z : Progress). settled E p (z .done)) (sym moved);
+        inv = subst (λ (z : Progress). Inv ms z) (sym moved) (inv-carried ms s (r .ticket) x v plan);
         right = subst (λ (z : Kind). RightAs (ledger p) all-own s z (answerTo E q a)) (sym k) (record {
           accepts = λ _. did .0;
           refuses = λ h. absurd (true≢false (sym h ∙ fresh));
@@ -163,8 +163,8 @@ module _ (E : Engine) (laws : Laws E) (p : Pool) (ok : sound E p ≡ true) (ms :
         let same : afterAct (ledger p) all-own s (given a (answerTo E q a)) ≡ s =
         ap (λ (z : Kind). afterAs (ledger p) all-own s z (answerTo E q a)) k in
         record {
-          pool = reads-kept E q a k ∙ e ∙ ap (λ (z : Standing). settled E p (z .done)) (sym same);
-          inv = subst (λ (z : Standing). Inv ms z) (sym same) v;
+          pool = reads-kept E q a k ∙ e ∙ ap (λ (z : Progress). settled E p (z .done)) (sym same);
+          inv = subst (λ (z : Progress). Inv ms z) (sym same) v;
           right = subst (λ (z : Kind). RightAs (ledger p) all-own s z (answerTo E q a)) (sym k) tt;
           still = λ _. same;
         }
@@ -191,7 +191,7 @@ module _ (E : Engine) (laws : Laws E) (p : Pool) (ok : sound E p ≡ true) (ms :
             (not-true (accepted (answerTo E q a)) h)
             (subst (λ (z : Kind). RightAs (ledger p) all-own s z (answerTo E q a)) (sym k) tt)
 
-  acts-at : (more : List Act) (s : Standing) (q : Pool) → q ≡ settled E p (s .done) → Inv ms s
+  acts-at : (more : List Act) (s : Progress) (q : Pool) → q ≡ settled E p (s .done) → Inv ms s
       → standAll (ledger p) all-own s (countedOf E q more) ≡ true → ActedAll s q more
   acts-at [] s q e v h = record { pool = e; inv = v; right = tt }
   acts-at (a ∷ more) s q e v h =
@@ -207,22 +207,22 @@ module _ (E : Engine) (laws : Laws E) (p : Pool) (ok : sound E p ≡ true) (ms :
 -- ---- the calls
 
 -- every word that a call was lent is left as it was
-pub record Left (q : Pool) (c : Call Words) (o : Outcome) : Type 0 where
+pub record Unmoved (q : Pool) (c : Call Words) (o : Outcome) : Type 0 where
   pub arena : o .pool .arena ≡ q .arena
   pub table : o .pool .table ≡ q .table
   pub index : o .pool .index ≡ q .index
   pub buffers : o .buffers ≡ buffersOf c
 
 module _ (E : Engine) (laws : Laws E) (p : Pool) (ok : sound E p ≡ true) (ms : List Member) where
-  pub record WholeCall (s : Standing) (q : Pool) (c : Call Words) (o : Outcome) : Type 0 where
+  pub record WholeCall (s : Progress) (q : Pool) (c : Call Words) (o : Outcome) : Type 0 where
     pub pool : accepted (o .answer) ≡ true
         → o .pool ≡ settled E p (afterActs (ledger p) all-own s (o .counted) .done)
     pub inv : Inv ms (afterActs (ledger p) all-own s (o .counted))
     pub right : RightAll (ledger p) all-own s (o .counted)
     -- refused, it leaves every word, and the sequence where it stands
-    pub kept : accepted (o .answer) ≡ false → Left q c o × (afterActs (ledger p) all-own s (o .counted) ≡ s)
+    pub kept : accepted (o .answer) ≡ false → Unmoved q c o × (afterActs (ledger p) all-own s (o .counted) ≡ s)
 
-  module _ (s : Standing) (q : Pool) (e : q ≡ settled E p (s .done)) (v : Inv ms s) where
+  module _ (s : Progress) (q : Pool) (e : q ≡ settled E p (s .done)) (v : Inv ms s) where
     pub whole-sound : sound E q ≡ true
     unfolding settled
     whole-sound = ap (λ (z : Pool). sound E z) e ∙ settled-sound E laws p ok (s .done)
@@ -231,7 +231,7 @@ module _ (E : Engine) (laws : Laws E) (p : Pool) (ok : sound E p ≡ true) (ms :
     whole-stopped : (c : Call Words) (n : ℕ) → eqb n 0 ≡ false → suits c ≡ false → WholeCall s q c (refusedBy E c q n)
     unfolding afterAct
     whole-stopped c n z u =
-        let k : refusedBy E c q n .counted ≡ wholly (refusal n) ∷ [] =
+        let k : refusedBy E c q n .counted ≡ asOne (refusal n) ∷ [] =
         ap (λ (x : Counted). x ∷ []) (unsuited-whole c n u) in
         record {
           pool = λ h. absurd (false≢true (sym z ∙ h));
@@ -250,7 +250,7 @@ module _ (E : Engine) (laws : Laws E) (p : Pool) (ok : sound E p ≡ true) (ms :
         let a = acts-at E laws p ok ms (actsOf c) s q e v h in
         record { pool = λ _. a .pool; inv = a .inv; right = a .right; kept = λ f. (left f, still c n h f) }
       where
-        left : accepted (ownAnswer c (countedOf E q (actsOf c))) ≡ false → Left q c (actsDone E c q)
+        left : accepted (ownAnswer c (countedOf E q (actsOf c))) ≡ false → Unmoved q c (actsDone E c q)
         left f =
             let k = own-refused E c q n f in
             record {

@@ -28,7 +28,7 @@ pub record Brings : Type 0 where
 
 -- Where a sequence stands: the members of the set that are still due, and the plans that were carried out, each by a
 -- release that was accepted.
-pub record Standing : Type 0 where
+pub record Progress : Type 0 where
   pub due : List Member
   pub done : List Member
 
@@ -47,35 +47,35 @@ unfoldable pub live : Ledger → List Member → ℕ → Bool
 live start did t = isSome (recordOf t start) && not (isPlan vacate (planFor t did))
 
 -- a release of the set: brings the pool whole, and names ticket, address and words as the ledger at the start has them
-unfoldable pub isDue : Ledger → Brings → Standing → Plan → Row → Bool
+unfoldable pub isDue : Ledger → Brings → Progress → Plan → Row → Bool
 isDue start b s q r = b .whole && isPlan q (planFor (r .ticket) (s .due)) && eqb (named start r) 0
 
 -- a replay: a release whose ticket is not live there. It may bring any head, S, arena and index with the pool's own
 -- table.
-unfoldable pub isReplay : Ledger → Brings → Standing → Row → Bool
+unfoldable pub isReplay : Ledger → Brings → Progress → Row → Bool
 isReplay start b s r = b .table && not (live start (s .done) (r .ticket))
 
 -- What is assumed of an act and its answer, by its kind: nothing of a release of the set, of a replay, and of a find
 -- or look that brings the pool whole; every other act is refused.
-abbrev pub standsAs : Ledger → Brings → Standing → Kind → Answer → Bool
+abbrev pub standsAs : Ledger → Brings → Progress → Kind → Answer → Bool
 standsAs start b s (plans q r) x = isDue start b s q r || isReplay start b s r || not (accepted x)
 standsAs start b s reads x = b .whole || not (accepted x)
 standsAs start b s others x = not (accepted x)
 
 -- What is claimed: a release of the set is accepted, with its three echoed; a replay is refused, by 6 where it brings
 -- the pool whole.
-pub record RightPlan (start : Ledger) (b : Brings) (s : Standing) (q : Plan) (r : Row) (x : Answer) : Type 0 where
+pub record RightPlan (start : Ledger) (b : Brings) (s : Progress) (q : Plan) (r : Row) (x : Answer) : Type 0 where
   pub accepts : isDue start b s q r ≡ true → x ≡ success r
   pub refuses : isReplay start b s r ≡ true → accepted x ≡ false
   pub six : isReplay start b s r ≡ true → b .whole ≡ true → x ≡ refusal 6
 
-abbrev pub RightAs : Ledger → Brings → Standing → Kind → Answer → Type 0
+abbrev pub RightAs : Ledger → Brings → Progress → Kind → Answer → Type 0
 RightAs start b s (plans q r) x = RightPlan start b s q r x
 RightAs start b s reads x = Unit {0}
 RightAs start b s others x = Unit {0}
 
 -- where the sequence stands after an act
-abbrev pub afterAs : Ledger → Brings → Standing → Kind → Answer → Standing
+abbrev pub afterAs : Ledger → Brings → Progress → Kind → Answer → Progress
 afterAs start b s (plans q r) x = record {
   due = cond (isDue start b s q r) (remove (r .ticket) (s .due)) (s .due);
   done = cond (accepted x) (member (r .ticket) q ∷ s .done) (s .done);
@@ -88,25 +88,25 @@ abbrev pub asKind : Option Act → Kind
 asKind none = others
 asKind (some a) = kindOf a
 
-unfoldable pub stands : Ledger → Brings → Standing → Counted → Bool
+unfoldable pub stands : Ledger → Brings → Progress → Counted → Bool
 stands start b s c = standsAs start b s (asKind (c .act)) (c .answer)
 
-abbrev pub Right : Ledger → Brings → Standing → Counted → Type 0
+abbrev pub Right : Ledger → Brings → Progress → Counted → Type 0
 Right start b s c = RightAs start b s (asKind (c .act)) (c .answer)
 
-unfoldable pub afterAct : Ledger → Brings → Standing → Counted → Standing
+unfoldable pub afterAct : Ledger → Brings → Progress → Counted → Progress
 afterAct start b s c = afterAs start b s (asKind (c .act)) (c .answer)
 
 -- the acts of one call, one after another
-abbrev pub standAll : Ledger → Brings → Standing → List Counted → Bool
+abbrev pub standAll : Ledger → Brings → Progress → List Counted → Bool
 standAll start b s [] = true
 standAll start b s (c ∷ cs) = stands start b s c && standAll start b (afterAct start b s c) cs
 
-abbrev pub RightAll : Ledger → Brings → Standing → List Counted → Type 0
+abbrev pub RightAll : Ledger → Brings → Progress → List Counted → Type 0
 RightAll start b s [] = Unit {0}
 RightAll start b s (c ∷ cs) = Right start b s c × RightAll start b (afterAct start b s c) cs
 
-abbrev pub afterActs : Ledger → Brings → Standing → List Counted → Standing
+abbrev pub afterActs : Ledger → Brings → Progress → List Counted → Progress
 afterActs start b s [] = s
 afterActs start b s (c ∷ cs) = afterActs start b (afterAct start b s c) cs
 
@@ -132,7 +132,7 @@ RightList q (look r hold) o = Unit {0}
 
 module _ (E : Engine) (start : Ledger) where
   -- From the pool q on: every act of every call stands as it should, and at the end nothing is due.
-  abbrev pub follows : Standing → Pool → List Event → Bool
+  abbrev pub follows : Progress → Pool → List Event → Bool
   follows s q [] = elim (s .due) [ [] ↦ true | m ∷ ms ↦ false ]
   follows s q (e ∷ es) =
       let o = outcome E q e in
@@ -140,7 +140,7 @@ module _ (E : Engine) (start : Ledger) where
       && (not (accepted (o .answer)) || elsewhere (e .call))
       && follows (afterActs start (brings q e) s (o .counted)) (after E q e) es
 
-  abbrev pub Answered : Standing → Pool → List Event → Type 0
+  abbrev pub Answered : Progress → Pool → List Event → Type 0
   Answered s q [] = Unit {0}
   Answered s q (e ∷ es) =
       let o = outcome E q e in
@@ -153,7 +153,7 @@ module _ (E : Engine) where
   endOf q [] = q
   endOf q (e ∷ es) = endOf (after E q e) es
 
-  abbrev pub atStart : List Member → Standing
+  abbrev pub atStart : List Member → Progress
   atStart ms = record { due = ms; done = [] }
 
   -- a sequence of calls on the pool p that carries out the plans of the set

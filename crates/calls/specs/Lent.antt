@@ -18,13 +18,13 @@ pub data Part : Type 0 where
   inArena inTable inIndex : Part
 
 -- Where a word of a lent buffer lies: word i of a part of the pool, or other memory, where it holds v.
-pub data Place : Type 0 where
-  own : Part → ℕ → Place
-  other : ℕ → Place
+pub data Spot : Type 0 where
+  own : Part → ℕ → Spot
+  other : ℕ → Spot
 
 -- a lent buffer, word by word
 abbrev pub Buffer : Type 0
-Buffer = List Place
+Buffer = List Spot
 
 abbrev pub partOf : Part → Pool → Words
 partOf inArena p = p .arena
@@ -37,7 +37,7 @@ withPart inTable x p = record { head = p .head; shape = p .shape; arena = p .are
 withPart inIndex x p = record { head = p .head; shape = p .shape; arena = p .arena; table = p .table; index = x }
 
 -- the words that a call sees in a lent buffer
-abbrev pub seeAt : Pool → Place → ℕ
+abbrev pub seeAt : Pool → Spot → ℕ
 seeAt p (own q i) = getD (partOf q p) i 0
 seeAt p (other v) = v
 
@@ -45,7 +45,7 @@ abbrev pub see : Pool → Buffer → Words
 see p l = map (seeAt p) l
 
 -- the pool after the words x were written to a lent buffer, from its first word on
-abbrev pub leaveAt : Place → ℕ → Pool → Pool
+abbrev pub leaveAt : Spot → ℕ → Pool → Pool
 leaveAt (own q i) v p = withPart q (set (partOf q p) i v) p
 leaveAt (other _) v p = p
 
@@ -59,7 +59,7 @@ leaveAll [] xs p = p
 leaveAll (l ∷ ls) [] p = p
 leaveAll (l ∷ ls) (x ∷ xs) p = leaveAll ls xs (leave l x p)
 
-abbrev pub isOther : Place → Bool
+abbrev pub isOther : Spot → Bool
 isOther (own q i) = false
 isOther (other v) = true
 
@@ -74,7 +74,7 @@ samePart inIndex inArena = false
 samePart inIndex inTable = false
 samePart inIndex inIndex = true
 
-abbrev pub isOwn : Part → ℕ → Place → Bool
+abbrev pub isOwn : Part → ℕ → Spot → Bool
 isOwn q i (own r j) = samePart q r && eqb i j
 isOwn q i (other v) = false
 
@@ -104,14 +104,14 @@ mapCall f (single a) = single a
 mapCall f (look r hold) = look r (f hold)
 mapCall f (list rs bs) = list (f rs) (f bs)
 
-abbrev pub headOf : Pool → Option Head → Head
-headOf p none = p .head
-headOf p (some h) = h
+abbrev pub headBrought : Pool → Option Head → Head
+headBrought p none = p .head
+headBrought p (some h) = h
 
 -- the memory that the call gets
 abbrev pub brought : Pool → Event → Pool
 brought p e = record {
-  head = headOf p (e .head);
+  head = headBrought p (e .head);
   shape = e .shape;
   arena = see p (e .arena);
   table = see p (e .table);
@@ -124,7 +124,7 @@ sameHead h k = sameWords (h .root) (k .root) && eqb (h .next) (k .next)
 
 unfoldable pub isWhole : Pool → Event → Bool
 isWhole p e =
-    sameHead (headOf p (e .head)) (p .head) && eqb (e .shape) (p .shape)
+    sameHead (headBrought p (e .head)) (p .head) && eqb (e .shape) (p .shape)
     && isAllOf inArena (p .arena) (e .arena) && isAllOf inTable (p .table) (e .table)
     && isAllOf inIndex (p .index) (e .index)
 
@@ -135,7 +135,7 @@ ownTable p e = isAllOf inTable (p .table) (e .table)
 -- the head handed back belongs to the pool whose table the call got, where it got that pool's head too or, a format,
 -- takes none (`refused-keeps` and `fills-returns` in proofs/LentLaws)
 unfoldable pub headReturns : Pool → Event → Bool
-headReturns p e = ownTable p e && (fills (e .call) || sameHead (headOf p (e .head)) (p .head))
+headReturns p e = ownTable p e && (fills (e .call) || sameHead (headBrought p (e .head)) (p .head))
 
 -- the call c on the pool whole
 abbrev pub allOf : Part → Pool → Buffer

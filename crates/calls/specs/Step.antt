@@ -40,10 +40,6 @@ kindOf (give r) = plans vacate r
 kindOf (query r) = reads
 kindOf bad = others
 
--- the act that carries out a plan on the record r
-abbrev pub planned : Plan → Row → Act
-planned vacate r = give r
-
 -- ---- calls and answers
 
 -- The calls, with all arguments but the pool. `B` is what a lent buffer is: its words, or where they lie.
@@ -247,15 +243,15 @@ buffersAfter (look r hold) cs = []
 buffersAfter (list rs bs) cs = (answerWords (answersOf cs) ++ drop (length rs) bs) ∷ []
 
 -- a call that counts as a whole: format, and a list call that is refused
-abbrev pub wholly : Answer → Counted
-wholly x = record { act = none; answer = x }
+abbrev pub asOne : Answer → Counted
+asOne x = record { act = none; answer = x }
 
 -- what a call that the gate refuses by n counts as: its act, or as a whole
 abbrev pub countedWhole : Call Words → ℕ → Counted
-countedWhole format n = wholly (refusal n)
+countedWhole format n = asOne (refusal n)
 countedWhole (single a) n = record { act = some a; answer = refusal n }
 countedWhole (look r hold) n = record { act = some (query r); answer = refusal n }
-countedWhole (list rs bs) n = wholly (refusal n)
+countedWhole (list rs bs) n = asOne (refusal n)
 
 -- ---- the step
 
@@ -301,7 +297,7 @@ module _ (E : Engine) where
   abbrev pub formatDone : Pool → Outcome
   formatDone p = record {
     answer = zeroAnswer;
-    counted = wholly zeroAnswer ∷ [];
+    counted = asOne zeroAnswer ∷ [];
     shown = nothing;
     pool = store E (blank p) firstTicket p;
     buffers = [];

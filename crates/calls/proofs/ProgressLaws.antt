@@ -10,7 +10,7 @@ use Rattle.words.proofs.Tests.{eqb-eq, eqb-same}
 use Rattle.ledger.specs.Records.{Ledger, Plan, vacate, Member, member, planFor}
 use Rattle.calls.specs.declared.Answer.{Answer}
 use Rattle.calls.specs.Step.{accepted, Act, Kind, plans, reads, others, kindOf, Counted}
-use Rattle.calls.specs.Demand3.{Brings, Standing, remove, isPlan, isDue, RightAs, Right, afterAs, afterAct}
+use Rattle.calls.specs.Demand3.{Brings, Progress, remove, isPlan, isDue, RightAs, Right, afterAs, afterAct}
 
 -- ---- plans and tickets
 
@@ -41,17 +41,14 @@ pub is-plan : (q : Plan) (o : Option Plan) → isPlan q o ≡ true → o ≡ som
 is-plan q none h = absurd (false≢true h)
 is-plan vacate (some vacate) h = refl
 
-pub plan-is : (q : Plan) → isPlan q (some q) ≡ true
-plan-is vacate = refl
-
 -- Where a sequence stands: `ms` is the set.
-pub record Inv (ms : List Member) (s : Standing) : Type 0 where
+pub record Inv (ms : List Member) (s : Progress) : Type 0 where
   -- a member is due or done
   pub covers : (t : ℕ) → orElse (planFor t (s .due)) (planFor t (s .done)) ≡ planFor t ms
   pub fresh : (t : ℕ) → isSome (planFor t (s .due)) ≡ true → planFor t (s .done) ≡ none
 
 -- a due member's plan is carried out
-pub inv-carried : (ms : List Member) (s : Standing) (t : ℕ) (q : Plan) → Inv ms s → planFor t (s .due) ≡ some q
+pub inv-carried : (ms : List Member) (s : Progress) (t : ℕ) (q : Plan) → Inv ms s → planFor t (s .due) ≡ some q
     → Inv ms (record { due = remove t (s .due); done = member t q ∷ s .done })
 inv-carried ms s t q v h = record { covers = λ k. cover k (eqb t k) refl; fresh = λ k d. anew k (eqb t k) refl d }
   where
@@ -77,7 +74,7 @@ inv-carried ms s t q v h = record { covers = λ k. cover k (eqb t k) refl; fresh
 abbrev pub given : Act → Answer → Counted
 given a x = record { act = some a; answer = x }
 
-module _ (start : Ledger) (b : Brings) (s : Standing) where
+module _ (start : Ledger) (b : Brings) (s : Progress) where
   -- an act of this kind is no release of the set
   abbrev pub NotDue : Kind → Type 0
   NotDue (plans q r) = isDue start b s q r ≡ false

@@ -15,7 +15,7 @@ use Rattle.ledger.specs.Units.{span, first, past, covers, valid}
 use Rattle.ledger.proofs.UnitLaws.{Fitted, fits-facts, covers-in}
 use Rattle.record_table.specs.Checks.{rowOk}
 use Rattle.tiling.specs.Tiles.{unitsOf, Noted, Joins, Entered}
-use Rattle.tiling.proofs.TileLaws.{held-by, no-share, valid-exact}
+use Rattle.tiling.proofs.TileLaws.{sum-part, held-by, no-share, valid-entered, valid-exact}
 use Rattle.tiling.proofs.EnterLaws.{enter-start, enter-next, noted-start}
 use Rattle.tree_check.specs.Maps.{cellRule, isEntries, Covers, Adds, Mapped}
 use Rattle.tree_check.specs.Maps.{Leads, Bare, Grows, most, Led}
@@ -30,7 +30,7 @@ Known t map i = (u : ℕ) → Covers map u → (j : ℕ) × (j < i) × (covers c
 pub record Mapping (W next : ℕ) (t : Words) (m : ℕ) (map seen : Words) (held i : ℕ) : Type 0 where
   pub upto : i ≤ slots t
   pub entered : Entered cellRule W next t i held
-  pub low : held ≤ 16384 * i
+  pub few : held ≤ W
   pub residues : Noted m seen t i
   pub known : Known t map i
   pub enough : slots t ≤ most map
@@ -147,17 +147,24 @@ module _ (W next : ℕ) (t map map′ : Words) (i n : ℕ) (in-table : i < slots
             (led-new (ap (λ k. isLive (recordAt t k)) (sym e) ∙ live))
         go (no e) = led-old j (omega arith) live (led j (omega arith) live)
 
--- the records of a valid table have few units together
+-- the first records of a valid table have few units together
 pub rows-few : (W next : ℕ) (t : Words) → valid cellRule W next (recordsOf t) ≡ true
-    → {held : ℕ} → Entered cellRule W next t (slots t) held → held ≤ W
-rows-few W next t good {held} e = omega (arith, valid-exact cellRule (omega arith) W next t good held e)
+    → {i held : ℕ} → i ≤ slots t → Entered cellRule W next t i held → held ≤ W
+rows-few W next t good {i} h e =
+    let units : ℕ → ℕ = λ j. unitsOf cellRule (recordAt t j) in
+    omega (
+      arith,
+      e .sum,
+      sum-part units i (slots t) h,
+      valid-exact cellRule (omega arith) W next t good _ (valid-entered cellRule (omega arith) W next t good),
+    )
 
 module _ {W next : ℕ} {t : Words} {m : ℕ} where
   pub map-start : (map seen : Words) → all isZero map ≡ true → slots t ≤ most map → Mapping W next t m map seen 0 0
   map-start map seen e enough = record {
     upto = omega arith;
     entered = enter-start cellRule W next t;
-    low = omega arith;
+    few = omega arith;
     residues = noted-start m seen t;
     known = λ u (p, a, b). absurd (omega (arith, no-units map e p));
     enough = enough;
@@ -166,15 +173,14 @@ module _ {W next : ℕ} {t : Words} {m : ℕ} where
   }
 
   pub map-next : {map seen : Words} {held i : ℕ} (n : ℕ) (map′ seen′ : Words) → Mapping W next t m map seen held i
-      → i < slots t → n ≤ W → W ≤ 16384 → Joins cellRule W next t i n → Noted m seen′ t (i + 1)
+      → i < slots t → held + n ≤ W → W ≤ 16384 → Joins cellRule W next t i n → Noted m seen′ t (i + 1)
       → length map′ ≡ length map → Grows map map′ (first cellRule (recordAt t i)) n
       → Mapping W next t m map′ seen′ (held + n) (i + 1)
   map-next {map} {held = held} {i} n map′ seen′ c l few most joins residues long grows =
-      let low = c .low in
       record {
         upto = omega arith;
         entered = enter-next cellRule W next t i held n (c .entered) joins;
-        low = omega arith;
+        few = few;
         residues = residues;
         known = known-next W next t map map′ i n joins (grows .adds) (c .known);
         enough = subst (λ k. slots t ≤ cond (eqb k 384) 32 256) (sym long) (c .enough);

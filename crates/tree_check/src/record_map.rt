@@ -130,7 +130,7 @@ fn note_row(map: &mut [u8], rule: Rule, r: Row, n: usize)
 }
 
 // Enters all slots, and the records in a map that is all zero. Their cells together, or more than the arena's words if
-// a slot may not be entered.
+// a slot may not be entered, or they have more cells together than that: so no more is noted than the arena has room for.
 pub fn map_rows(
     next: u32,
     table: &[u32],
@@ -151,7 +151,7 @@ pub fn map_rows(
     while i < table.len() / 3 {
         let r = record_table::read_row(table, i);
         let n = tiling::enter_row(rule, words, next, table, i, r, &mut *seen, m);
-        if words < n {
+        if words - held < n {
             return words + 1;
         }
         note_row(&mut *map, rule, r, n);

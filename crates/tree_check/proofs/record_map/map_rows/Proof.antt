@@ -9,6 +9,7 @@ use Rattle.ledger.specs.Records.{slots, recordAt}
 use Rattle.ledger.specs.declared.Row.{Row}
 use Rattle.ledger.specs.Units.{first}
 use Rattle.tiling.proofs.TileLaws.{valid-row, valid-new}
+use Rattle.tiling.proofs.EnterLaws.{enter-next}
 use Rattle.tree_check.specs.Maps.{cellRule, Grows}
 use Rattle.tree_check.proofs.MapLaws.{Mapping, map-start, map-next, map-end, units-inside, rows-few}
 use Rattle.tree_check.proofs.record_map.map_rows.Statement.{statement}
@@ -40,6 +41,9 @@ enter-row-requires c κs =
       (s .pre .1 .0 .1, size ∙ s .pre .1 .0 .2, l .inv .2 .residues),
     )
 
+sub-if1 : tie.Need-sub-if1 Inv-loop μ-loop
+sub-if1 c = omega (arith, c .before .before .before .before .before .before .loop .inv .2 .few)
+
 add-result : tie.Need-add-result Inv-loop μ-loop
 add-result c =
     let l = c .before .before .before .before .before .before .before in
@@ -63,9 +67,14 @@ returns c =
       λ e. absurd (omega arith),
       λ good.
           let in-table : l .i < slots (now (a .table)) = omega (arith, t .loop-test .taken) in
-          let few = u .enter-row .ensures .1
+          let few = l .inv .2 .few in
+          let own = u .enter-row .ensures .1
           (valid-row cellRule (omega arith) (a .words) (a .next) (now (a .table)) good (l .i) in-table)
           (valid-new cellRule (omega arith) (a .words) (a .next) (now (a .table)) good (l .i) in-table) in
+          let joins = u .enter-row .ensures .0 own .0 in
+          let both = rows-few (a .words) (a .next) (now (a .table)) good (omega arith)
+          (enter-next cellRule (a .words) (a .next) (now (a .table)) (l .i) (l .held) (u .enter-row .result)
+          (l .inv .2 .entered) joins) in
           absurd (omega arith),
     )
 
@@ -78,7 +87,7 @@ note-row-requires c κs =
     let size = l .inv .0 in
     let most = s .pre .0 in
     let few = c .before .if1 .left in
-    let joins = u .enter-row .ensures .0 few .0 in (
+    let joins = u .enter-row .ensures .0 (omega arith) .0 in (
       omega arith,
       λ e.
           let r = recordAt (now (s .args .table)) (l .i) in
@@ -93,8 +102,7 @@ add-held c =
     let l = i .before .before .before .before .before .before .before in
     let s = l .before .before .before .before in
     let few = i .if1 .left in
-    let low = l .loop .inv .2 .low in
-    let upto = l .loop .inv .2 .upto in
+    let low = l .loop .inv .2 .few in
     let most = s .pre .0 in
     omega arith
 
@@ -120,11 +128,12 @@ loop-again c =
     let s = t .before .before .before .before .before in
     let most = s .pre .0 in
     let size = l .inv .0 in
-    let (joins, residues) = u .enter-row .ensures .0 few in (
+    let low = l .inv .2 .few in
+    let (joins, residues) = u .enter-row .ensures .0 (omega arith) in (
       n .note-row .kept .0 ∙ l .inv .0,
       u .enter-row .kept .1 .1 .1 .1 .1 .1 .0 ∙ l .inv .1,
       map-next (u .enter-row .result) (n .note-row .last .0) (u .enter-row .last .1 .1 .1 .1 .1 .1 .0) (l .inv .2)
-          (omega (arith, t .loop-test .taken)) few (omega arith) joins residues (n .note-row .kept .0)
+          (omega (arith, t .loop-test .taken)) (omega arith) (omega arith) joins residues (n .note-row .kept .0)
           (subst (λ (x : Row). Grows (l .map) (n .note-row .last .0) (first cellRule x) (u .enter-row .result))
           (r .read-row .ensures) (n .note-row .ensures)),
     )
@@ -139,7 +148,7 @@ returns-2 : tie.Need-returns-2 Inv-loop μ-loop
 returns-2 c =
     let mapped = map-end (c .before .loop .inv .2) (omega (arith, c .loop-test .left)) in
     let a = c .before .before .before .before .before .args in
-    ((λ e. mapped), λ good. rows-few (a .words) (a .next) (now (a .table)) good (mapped .entered))
+    ((λ e. mapped), λ good. rows-few (a .words) (a .next) (now (a .table)) good (omega arith) (mapped .entered))
 
 pub map-rows-spec : {M : Type 1} → statement M
 map-rows-spec =
@@ -150,6 +159,7 @@ map-rows-spec =
     loop-holds
     read-row-requires
     enter-row-requires
+    sub-if1
     add-result
     same-length
     same-length-2

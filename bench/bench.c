@@ -1,4 +1,4 @@
-// The benchmark: every row of the table, the two curves of growth, and the picture of both.
+// The benchmark: every row of the table, the two curves of growth, pools out of the ordinary, and the picture.
 #include <stdlib.h>
 #include <string.h>
 
@@ -6,6 +6,7 @@
 
 static measured rows[ROWS_MOST];
 static size_t row_count;
+static odd_rows odd;
 static growth by_words = {.along = "words", .at = "16 slots, 16 segments"};
 static growth by_records = {.along = "slots", .at = "16,384 words, 64 segments"};
 
@@ -14,24 +15,37 @@ static const char *only;
 
 // ---- what is to be measured
 
-static void plan_row(measured m)
+typedef struct {
+    size_t words, records;
+    uint32_t segments;
+} lengths;
+
+static const lengths sizes[] = {{24, 4, 4}, {1024, 16, 16}, {16384, 16, 64}, {16384, 256, 256}};
+enum { SIZES = sizeof sizes / sizeof sizes[0] };
+
+// Of pools out of the ordinary. The tree pool's check has a map of another kind for up to 32 records in many words.
+static const lengths odd_sizes[] = {{24, 4, 4}, {1024, 16, 16}, {16384, 16, 64}, {16384, 32, 64}, {16384, 256, 256}};
+enum { ODD_SIZES = sizeof odd_sizes / sizeof odd_sizes[0] };
+
+static bool is_wanted(const measured *m)
 {
     char name[128];
-    snprintf(name, sizeof name, "%s %s %zu/%zu %s", engine_name(m.engine), call_name(m.call), m.words, m.records,
-             state_name(m.state));
-    if (only == NULL || strstr(name, only) != NULL)
+    snprintf(name, sizeof name, "%s%s %s %zu/%zu %s", m->odd != NULL ? "odd " : "", engine_name(m->engine),
+             call_name(m->call), m->words, m->records, pool_name(m));
+    return only == NULL || strstr(name, only) != NULL;
+}
+
+static void plan_row(measured m)
+{
+    if (is_wanted(&m))
         rows[row_count++] = m;
 }
 
 // All rows of one engine. On a crowded pool there is only find to do; format takes any state.
 static void plan_engine(enum engine g)
 {
-    static const struct {
-        size_t words, records;
-        uint32_t segments;
-    } sizes[] = {{24, 4, 4}, {1024, 16, 16}, {16384, 16, 64}, {16384, 256, 256}};
     for (int c = FIND; c <= FORMAT; c++)
-        for (size_t i = 0; i < sizeof sizes / sizeof sizes[0]; i++)
+        for (size_t i = 0; i < SIZES; i++)
             for (int s = EMPTY; s <= (c == FORMAT ? EMPTY : c == FIND ? CROWDED : FRAGMENTED); s++)
                 plan_row((measured){.engine = g,
                                     .call = (enum call)c,
@@ -39,6 +53,38 @@ static void plan_engine(enum engine g)
                                     .records = sizes[i].records,
                                     .segments = sizes[i].segments,
                                     .state = (enum state)s});
+}
+
+// A pool out of the ordinary, and beside it all the usual ones of its lengths.
+static void plan_odd(enum engine g, lengths l, const oddity *o)
+{
+    measured m = {
+        .engine = g, .words = l.words, .records = l.records, .segments = l.segments, .call = FIND, .odd = o};
+    if (!is_wanted(&m))
+        return;
+    odd.rows[odd.count++] = m;
+    m.odd = NULL;
+    for (size_t i = 0; i < odd.usual_count; i++)
+        if (is_like(&odd.usual[i], &m))
+            return;
+    for (int s = EMPTY; s <= CROWDED; s++) {
+        m.state = (enum state)s;
+        odd.usual[odd.usual_count++] = m;
+    }
+}
+
+static void plan_oddity(enum engine g, const oddity *o)
+{
+    if (!has_engine(o, g))
+        return;
+    for (size_t words = 512; o->extent == AS_WORDS_GROW && words <= POOL_WORDS; words *= 2)
+        plan_odd(g, (lengths){words, 16, 16}, o);
+    for (size_t i = 0; o->extent != AS_WORDS_GROW && i < ODD_SIZES; i++) {
+        lengths l = odd_sizes[i];
+        if ((o->extent != AT_MOST_WORDS || l.words == POOL_WORDS) &&
+            (o->extent != AT_MOST_RECORDS || l.records == POOL_RECORDS))
+            plan_odd(g, l, o);
+    }
 }
 
 static void plan_point(growth *g, size_t x, size_t words, size_t records, uint32_t segments)
@@ -68,7 +114,7 @@ static void must_agree(pool *p)
     for (size_t k = 0; k < contestant_count; k++)
         if (!agrees(&contestants[k], p)) {
             fprintf(stderr, "bench: %s answers otherwise on a %s pool of %zu words, %s\n", contestants[k].name,
-                    engine_name(p->engine), p->words, state_name(p->state));
+                    engine_name(p->engine), p->words, p->name);
             exit(1);
         }
 }
@@ -76,7 +122,10 @@ static void must_agree(pool *p)
 static void measure(effort e, measured *m)
 {
     static pool p;
-    make_pool(&p, m->engine, m->words, m->records, m->segments, m->state);
+    if (m->odd != NULL)
+        make_odd(&p, m->engine, m->words, m->records, m->segments, m->odd);
+    else
+        make_pool(&p, m->engine, m->words, m->records, m->segments, m->state);
     if (m->call == LIST)
         make_lists(&p);
     must_agree(&p);
@@ -96,6 +145,10 @@ static void each(effort e, void (*act)(effort, measured *))
         act(e, &rows[i]);
     each_point(&by_words, e, act);
     each_point(&by_records, e, act);
+    for (size_t i = 0; i < odd.usual_count; i++)
+        act(e, &odd.usual[i]);
+    for (size_t i = 0; i < odd.count; i++)
+        act(e, &odd.rows[i]);
 }
 
 static void finish(effort e, measured *m)
@@ -118,15 +171,8 @@ static double number_after(int argc, char **argv, const char *option, double oth
     return word == NULL ? otherwise : atof(word);
 }
 
-static int report(effort e, const char *path)
+static int draw_into(const char *path)
 {
-    print_conditions(stdout, e);
-    print_rows(stdout, rows, row_count);
-    if (only != NULL)
-        return 0;
-    print_growth(stdout, &by_words);
-    print_growth(stdout, &by_records);
-    print_summary(stdout, rows, row_count, &by_words, &by_records);
     FILE *picture = fopen(path, "w");
     if (picture == NULL) {
         perror(path);
@@ -134,6 +180,24 @@ static int report(effort e, const char *path)
     }
     draw(picture, rows, row_count, &by_words, &by_records);
     return fclose(picture) == 0 ? 0 : 1;
+}
+
+static int report(effort e, const char *path)
+{
+    print_conditions(stdout, e);
+    if (row_count > 0)
+        print_rows(stdout, rows, row_count);
+    if (only == NULL) {
+        print_growth(stdout, &by_words);
+        print_growth(stdout, &by_records);
+    }
+    if (odd.count > 0)
+        print_odd(stdout, &odd);
+    if (only == NULL)
+        print_summary(stdout, rows, row_count, &by_words, &by_records);
+    if (odd.count > 0)
+        print_odd_summary(stdout, &odd);
+    return only == NULL ? draw_into(path) : 0;
 }
 
 int main(int argc, char **argv)
@@ -149,8 +213,11 @@ int main(int argc, char **argv)
         return 2;
     }
     only = word_after(argc, argv, "--only");
-    plan_engine(TREE);
-    plan_engine(SEGMENT);
+    for (int g = TREE; g <= SEGMENT; g++) {
+        plan_engine((enum engine)g);
+        for (size_t i = 0; i < oddity_count; i++)
+            plan_oddity((enum engine)g, &oddities[i]);
+    }
     if (only == NULL)
         plan_growth();
     for (int i = 0; i < e.passes; i++)

@@ -83,7 +83,7 @@ lf_answer format_pool(const contestant *c, pool *p)
 
 static uint64_t seed;
 
-static uint32_t random_below(uint32_t n)
+uint32_t random_below(uint32_t n)
 {
     seed ^= seed << 13;
     seed ^= seed >> 7;
@@ -91,27 +91,26 @@ static uint32_t random_below(uint32_t n)
     return (uint32_t)(seed >> 20) % n;
 }
 
-static void fail(const pool *p, const char *what)
+void fail(const pool *p, const char *what)
 {
     fprintf(stderr, "bench: %s pool of %zu words and %zu records, %s: %s\n", engine_name(p->engine), p->words,
-            p->records, state_name(p->state), what);
+            p->records, p->name, what);
     exit(1);
 }
 
-static size_t units_of(const pool *p)
+size_t units_of(const pool *p)
 {
     return p->engine == TREE ? p->words / 2 : p->words;
 }
 
-// The words to ask for so that a block takes so many units.
-static uint32_t words_for(const pool *p, size_t units)
+uint32_t words_for(const pool *p, size_t units)
 {
     if (p->engine == TREE)
         return (uint32_t)(2 * units);
     return units < 2 ? 1 : (uint32_t)(units - 1);
 }
 
-static size_t units_for(const pool *p, uint32_t words)
+size_t units_for(const pool *p, uint32_t words)
 {
     return p->engine == TREE ? (words + 1) / 2 : words + 1;
 }
@@ -228,6 +227,7 @@ void make_pool(pool *p, enum engine e, size_t words, size_t records, uint32_t se
     memset(p, 0xa5, sizeof *p);
     p->engine = e;
     p->state = s;
+    p->name = state_name(s);
     p->words = words;
     p->records = records;
     p->segments = segments;
@@ -246,7 +246,12 @@ void make_pool(pool *p, enum engine e, size_t words, size_t records, uint32_t se
     // among gaps, the length of one in the middle; a lower one may fit too
     p->ask = s == FRAGMENTED ? blocks[records / 4 * 2].words : words_for(p, units_of(p) / records);
     p->requests = 0;
-    memcpy(p->copy, p->arena, words * sizeof p->arena[0]);
+    copy_arena(p);
+}
+
+void copy_arena(pool *p)
+{
+    memcpy(p->copy, p->arena, p->words * sizeof p->arena[0]);
 }
 
 static bool lists_agree(const contestant *c, pool *p)

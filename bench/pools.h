@@ -28,6 +28,7 @@ typedef struct {
 typedef struct {
     enum engine engine;
     enum state state;
+    const char *name; // of the state, or of what was made of it
     size_t words, records;
     uint32_t segments;
 
@@ -45,7 +46,22 @@ typedef struct {
 const char *engine_name(enum engine e);
 const char *state_name(enum state s);
 
+// A number below n, the same ones in every run.
+uint32_t random_below(uint32_t n);
+
+size_t units_of(const pool *p);
+
+// The words to ask for so that a block takes so many units, and the units that so many words take.
+uint32_t words_for(const pool *p, size_t units);
+size_t units_for(const pool *p, uint32_t words);
+
 void make_pool(pool *p, enum engine e, size_t words, size_t records, uint32_t segments, enum state s);
+
+// Takes the arena's copy once more, where its words were changed by hand.
+void copy_arena(pool *p);
+
+// Ends the program where a pool could not be made.
+void fail(const pool *p, const char *what);
 
 // Makes the lists, which a pool has none of at first. There must be an empty slot.
 void make_lists(pool *p);

@@ -42,12 +42,17 @@ void print_conditions(FILE *to, effort e)
     fprintf(to, "- Processor: %s. Load average when it ended: %.14s.\n\n", processor, load);
 }
 
-static double ratio(double a, double b)
+const char *pool_name(const measured *m)
+{
+    return m->odd != NULL ? m->odd->name : state_name(m->state);
+}
+
+double ratio(double a, double b)
 {
     return b > 0 ? a / b : 0;
 }
 
-static void print_against(FILE *to, const timed *us, const timed *other)
+void print_against(FILE *to, const timed *us, const timed *other)
 {
     if (other == NULL) {
         fprintf(to, " %24s | %13s |", "-", "-");
@@ -59,7 +64,7 @@ static void print_against(FILE *to, const timed *us, const timed *other)
 }
 
 // Times under 100 are printed with a decimal.
-static void print_proved(FILE *to, const timed *us)
+void print_proved(FILE *to, const timed *us)
 {
     char cell[64];
     int digits = us->least < 100;
@@ -80,7 +85,7 @@ void print_rows(FILE *to, const measured *rows, size_t count)
         snprintf(size, sizeof size, "%zu / %zu", m->words, m->records);
         snprintf(segments, sizeof segments, "%u", m->segments);
         fprintf(to, "| %-7s | %-18s | %-12s | %-3s | %-10s |", engine_name(m->engine), call_name(m->call), size,
-                m->engine == SEGMENT ? segments : "", m->call == FORMAT ? "any" : state_name(m->state));
+                m->engine == SEGMENT ? segments : "", m->call == FORMAT ? "any" : pool_name(m));
         print_proved(to, us);
         print_against(to, us, quickest(&m->t, MARKS_UNITS, MARKS_UNITS));
         print_against(to, us, quickest(&m->t, LAYS_TILES, LAYS_TILES));

@@ -4,6 +4,7 @@
 
 #include <stdio.h>
 
+#include "damage.h"
 #include "tasks.h"
 
 // A row of the table: a call on a pool.
@@ -13,10 +14,11 @@ typedef struct {
     size_t words, records;
     uint32_t segments;
     enum state state;
+    const oddity *odd; // or NULL: a pool in that state
     timings t;
 } measured;
 
-enum { ROWS_MOST = 128, POINTS_MOST = 16 };
+enum { ROWS_MOST = 128, POINTS_MOST = 16, ODD_MOST = 128, USUAL_MOST = 96 };
 
 // A curve for each engine: a checked find on crowded pools.
 typedef struct {
@@ -26,10 +28,29 @@ typedef struct {
     measured points[2][POINTS_MOST];
 } growth;
 
+// Finds on pools out of the ordinary, and on the usual ones of the same lengths, which they are held to.
+typedef struct {
+    size_t count, usual_count;
+    measured rows[ODD_MOST], usual[USUAL_MOST];
+} odd_rows;
+
+const char *pool_name(const measured *m);
+
+double ratio(double a, double b);
+
+// Cells of a row: the proved library's time; another's, with the ratio to it.
+void print_proved(FILE *to, const timed *us);
+void print_against(FILE *to, const timed *us, const timed *other);
+
+// Whether both have pools of the same engine and lengths.
+bool is_like(const measured *a, const measured *b);
+
 void print_conditions(FILE *to, effort e);
 void print_rows(FILE *to, const measured *rows, size_t count);
 void print_growth(FILE *to, const growth *g);
 void print_summary(FILE *to, const measured *rows, size_t count, const growth *by_words, const growth *by_records);
+void print_odd(FILE *to, const odd_rows *odd);
+void print_odd_summary(FILE *to, const odd_rows *odd);
 void draw(FILE *to, const measured *rows, size_t count, const growth *by_words, const growth *by_records);
 
 #endif

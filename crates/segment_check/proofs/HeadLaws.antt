@@ -31,7 +31,7 @@ use Rattle.tiling.specs.Tiles.{Noted, Joins, Spans}
 use Rattle.tiling.proofs.EnterLaws.{enter-start, enter-next, noted-start}
 use Rattle.tiling.proofs.TileLaws.{held-by, tiled-valid, valid-count}
 use Rattle.segment_check.specs.BitMaps.{bitAt}
-use Rattle.segment_check.specs.Laid.{heldFrom, Laid, Matched, Heads, Sets, Good, Joined, Headed, Stored, LaysAll}
+use Rattle.segment_check.specs.Laid.{heldFrom, Laid, Matched, Heads, Sets, Good, Joined, Headed, Shown, LaysAll}
 use Rattle.segment_check.proofs.BitLaws.{no-bit}
 use Rattle.segment_check.proofs.ArenaLaws.{held-is, arena-tiled, arena-kept, arena-good}
 use Rattle.segment_check.proofs.KeptLaws.{passing}
@@ -190,7 +190,7 @@ tiles-right v next t map seen m held free′ after H L exact =
 -- and the index is theirs, if the words above the segments' are right too
 pub tiles-stored : (v : List ℤ) (next : ℕ) (t x map seen : Words) (m held free′ s g : ℕ) → Measured v x s g
     → Headed v next t map seen m (slots t) held → Matched v map x s g free′ → free′ + held ≡ length v → (b : Bool)
-    → b ≡ treeRight x s → b ≡ true → Stored next v t x s
+    → b ≡ treeRight x s → b ≡ true → Shown next v t x s
 tiles-stored v next t x map seen m held free′ s g Z H M exact b is ok =
     let (good, arena) = tiles-right v next t map seen m held free′ (M .after) H (M .laid) exact in
     let L = recordsOf t in
@@ -204,7 +204,7 @@ tiles-stored v next t x map seen m held free′ s g Z H M exact b is ok =
 
 -- ---- the other way: a pool that is stored passes
 
-module _ (v : List ℤ) (next : ℕ) (t x : Words) (s g : ℕ) (Z : Measured v x s g) (P : Stored next v t x s) where
+module _ (v : List ℤ) (next : ℕ) (t x : Words) (s g : ℕ) (Z : Measured v x s g) (P : Shown next v t x s) where
   abbrev L : Ledger
   L = recordsOf t
 

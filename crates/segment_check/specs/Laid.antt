@@ -138,7 +138,7 @@ pub record Headed (v : List ℤ) (next : ℕ) (t map seen : Words) (m i held : �
   pub sets : Sets t map i
 
 -- the table holds a valid ledger, and arena and index are its stored form
-abbrev pub Stored : ℕ → List ℤ → Words → Words → ℕ → Type 0
-Stored next v t x s =
+abbrev pub Shown : ℕ → List ℤ → Words → Words → ℕ → Type 0
+Shown next v t x s =
     (valid segmentRule (length v) next (recordsOf t) ≡ true) × (v ≡ arenaOf (recordsOf t) v)
     × (x ≡ segmentIndex s (length v) (recordsOf t))

@@ -23,7 +23,7 @@ ghost use Rattle.segment_check.specs.Right.{Says, Measured, nodeRight, t
 ghost use Rattle.tiling.specs.Tiles.{Noted};
 ghost use Rattle.segment_check.specs.BitMaps.{bitAt};
 ghost use Rattle.segment_check.specs.Laid.{Laid, HeldBlock, FreeBlock, Strip, Matched};
-ghost use Rattle.segment_check.specs.Laid.{Lays, LaysAll, Heads, Sets, Good, Joined, Headed, Stored};
+ghost use Rattle.segment_check.specs.Laid.{Lays, LaysAll, Heads, Sets, Good, Joined, Headed, Shown};
 
 // ---- the map, 64 words of the arena to an entry
 
@@ -280,7 +280,7 @@ fn map_rows(
 // ---- the test
 
 // The test by a map that comes in all zero and m residues of tickets.
-fn is_tiled_over(
+fn is_shown_over(
     next: u32,
     arena: &[i32],
     table: &[u32],
@@ -293,7 +293,7 @@ fn is_tiled_over(
 ) -> bool
     requires { ⌜ Measured (now arena) (now index) s g × (length (now arena) ≤ 64 * length (now map)) × (0 < m)
         × (length (now seen) ≡ m) × (all isZero (now map) ≡ true) × (slots (now table) ≤ 256) ⌝ }
-    ensures { λ r. ⌜ Says r (Stored next (now (arena .entry)) (now (table .entry)) (now (index .entry)) s) ⌝ }
+    ensures { λ r. ⌜ Says r (Shown next (now (arena .entry)) (now (table .entry)) (now (index .entry)) s) ⌝ }
 {
     let words = arena.len();
     let held = map_rows(&*arena, next, &*table, &mut *map, &mut *seen, m);
@@ -311,7 +311,7 @@ fn is_tiled_over(
 }
 
 // The residues and the map are wiped whole, so that few slots get few, and a small pool a small one.
-fn is_tiled_few(
+fn is_shown_few(
     next: u32,
     arena: &[i32],
     table: &[u32],
@@ -322,10 +322,10 @@ fn is_tiled_few(
 ) -> bool
     requires { ⌜ Measured (now arena) (now index) s g × (length (now arena) ≤ 64 * length (now map))
         × (all isZero (now map) ≡ true) × (slots (now table) ≤ 256) ⌝ }
-    ensures { λ r. ⌜ Says r (Stored next (now (arena .entry)) (now (table .entry)) (now (index .entry)) s) ⌝ }
+    ensures { λ r. ⌜ Says r (Shown next (now (arena .entry)) (now (table .entry)) (now (index .entry)) s) ⌝ }
 {
     let mut seen: [u8; 128] = [0; 128];
-    is_tiled_over(
+    is_shown_over(
         next,
         &*arena,
         &*table,
@@ -338,7 +338,7 @@ fn is_tiled_few(
     )
 }
 
-fn is_tiled_many(
+fn is_shown_many(
     next: u32,
     arena: &[i32],
     table: &[u32],
@@ -349,10 +349,10 @@ fn is_tiled_many(
 ) -> bool
     requires { ⌜ Measured (now arena) (now index) s g × (length (now arena) ≤ 64 * length (now map))
         × (all isZero (now map) ≡ true) × (slots (now table) ≤ 256) ⌝ }
-    ensures { λ r. ⌜ Says r (Stored next (now (arena .entry)) (now (table .entry)) (now (index .entry)) s) ⌝ }
+    ensures { λ r. ⌜ Says r (Shown next (now (arena .entry)) (now (table .entry)) (now (index .entry)) s) ⌝ }
 {
     let mut seen: [u8; 2048] = [0; 2048];
-    is_tiled_over(
+    is_shown_over(
         next,
         &*arena,
         &*table,
@@ -365,7 +365,7 @@ fn is_tiled_many(
     )
 }
 
-fn is_tiled_by(
+fn is_shown_by(
     next: u32,
     arena: &[i32],
     table: &[u32],
@@ -376,15 +376,15 @@ fn is_tiled_by(
 ) -> bool
     requires { ⌜ Measured (now arena) (now index) s g × (length (now arena) ≤ 64 * length (now map))
         × (all isZero (now map) ≡ true) × (slots (now table) ≤ 256) ⌝ }
-    ensures { λ r. ⌜ Says r (Stored next (now (arena .entry)) (now (table .entry)) (now (index .entry)) s) ⌝ }
+    ensures { λ r. ⌜ Says r (Shown next (now (arena .entry)) (now (table .entry)) (now (index .entry)) s) ⌝ }
 {
     if table.len() / 3 <= 16 {
-        return is_tiled_few(next, &*arena, &*table, &*index, s, g, &mut *map);
+        return is_shown_few(next, &*arena, &*table, &*index, s, g, &mut *map);
     }
-    is_tiled_many(next, &*arena, &*table, &*index, s, g, &mut *map)
+    is_shown_many(next, &*arena, &*table, &*index, s, g, &mut *map)
 }
 
-fn is_tiled_small(
+fn is_shown_small(
     next: u32,
     arena: &[i32],
     table: &[u32],
@@ -393,13 +393,13 @@ fn is_tiled_small(
     g: usize,
 ) -> bool
     requires { ⌜ Measured (now arena) (now index) s g × (length (now arena) ≤ 128) × (slots (now table) ≤ 256) ⌝ }
-    ensures { λ r. ⌜ Says r (Stored next (now (arena .entry)) (now (table .entry)) (now (index .entry)) s) ⌝ }
+    ensures { λ r. ⌜ Says r (Shown next (now (arena .entry)) (now (table .entry)) (now (index .entry)) s) ⌝ }
 {
     let mut map: [u64; 2] = [0; 2];
-    is_tiled_by(next, &*arena, &*table, &*index, s, g, &mut map)
+    is_shown_by(next, &*arena, &*table, &*index, s, g, &mut map)
 }
 
-fn is_tiled_middle(
+fn is_shown_middle(
     next: u32,
     arena: &[i32],
     table: &[u32],
@@ -408,13 +408,13 @@ fn is_tiled_middle(
     g: usize,
 ) -> bool
     requires { ⌜ Measured (now arena) (now index) s g × (length (now arena) ≤ 2048) × (slots (now table) ≤ 256) ⌝ }
-    ensures { λ r. ⌜ Says r (Stored next (now (arena .entry)) (now (table .entry)) (now (index .entry)) s) ⌝ }
+    ensures { λ r. ⌜ Says r (Shown next (now (arena .entry)) (now (table .entry)) (now (index .entry)) s) ⌝ }
 {
     let mut map: [u64; 32] = [0; 32];
-    is_tiled_by(next, &*arena, &*table, &*index, s, g, &mut map)
+    is_shown_by(next, &*arena, &*table, &*index, s, g, &mut map)
 }
 
-fn is_tiled_large(
+fn is_shown_large(
     next: u32,
     arena: &[i32],
     table: &[u32],
@@ -423,22 +423,22 @@ fn is_tiled_large(
     g: usize,
 ) -> bool
     requires { ⌜ Measured (now arena) (now index) s g × (slots (now table) ≤ 256) ⌝ }
-    ensures { λ r. ⌜ Says r (Stored next (now (arena .entry)) (now (table .entry)) (now (index .entry)) s) ⌝ }
+    ensures { λ r. ⌜ Says r (Shown next (now (arena .entry)) (now (table .entry)) (now (index .entry)) s) ⌝ }
 {
     let mut map: [u64; 256] = [0; 256];
-    is_tiled_by(next, &*arena, &*table, &*index, s, g, &mut map)
+    is_shown_by(next, &*arena, &*table, &*index, s, g, &mut map)
 }
 
 // Whether the table holds a valid ledger, and arena and index are its stored form.
-pub fn is_tiled(next: u32, arena: &[i32], table: &[u32], index: &[u32], s: usize, g: usize) -> bool
+pub fn is_shown(next: u32, arena: &[i32], table: &[u32], index: &[u32], s: usize, g: usize) -> bool
     requires { ⌜ Measured (now arena) (now index) s g × (slots (now table) ≤ 256) ⌝ }
-    ensures { λ r. ⌜ Says r (Stored next (now (arena .entry)) (now (table .entry)) (now (index .entry)) s) ⌝ }
+    ensures { λ r. ⌜ Says r (Shown next (now (arena .entry)) (now (table .entry)) (now (index .entry)) s) ⌝ }
 {
     if arena.len() <= 128 {
-        return is_tiled_small(next, &*arena, &*table, &*index, s, g);
+        return is_shown_small(next, &*arena, &*table, &*index, s, g);
     }
     if arena.len() <= 2048 {
-        return is_tiled_middle(next, &*arena, &*table, &*index, s, g);
+        return is_shown_middle(next, &*arena, &*table, &*index, s, g);
     }
-    is_tiled_large(next, &*arena, &*table, &*index, s, g)
+    is_shown_large(next, &*arena, &*table, &*index, s, g)
 }

@@ -22,7 +22,7 @@ use Rattle.stored_forms.specs.Segments.{isPower, depth}
 use Rattle.segment_places.specs.Stores.{arenaOf}
 use Rattle.segment_places.proofs.BitLaws.{arena-words, words-arena}
 use Rattle.segment_check.specs.Right.{Says, Measured}
-use Rattle.segment_check.specs.Laid.{Stored}
+use Rattle.segment_check.specs.Laid.{Shown}
 use Rattle.calls.specs.Pool.{Pool, store, lengths, samePool, stored}
 use Rattle.calls.specs.Engines.{segmentEngine}
 use Rattle.calls.proofs.StoreLaws.{same-pool-eq, same-pool-same}
@@ -159,7 +159,7 @@ module _ {S next : ℕ} {v : List ℤ} {t x : Words} (k : Valid S next v t x) wh
 
 -- what the check says of the lent memory is what `stored` says of the pool
 pub stored-says : {S : ℕ} (next : ℕ) {v : List ℤ} {t x : Words} → InRange S v t x → Ranged v → (r : Bool)
-    → Says r (Stored next v t x S) → r ≡ stored segmentEngine (segmentPool S next v t x)
+    → Says r (Shown next v t x S) → r ≡ stored segmentEngine (segmentPool S next v t x)
 stored-says {S} next {v} {t} {x} fit fits r says = go (valid segmentRule (length v) next (recordsOf t)) refl
   where
     go : (b : Bool) → b ≡ valid segmentRule (length v) next (recordsOf t)

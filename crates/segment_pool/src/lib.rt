@@ -69,7 +69,7 @@ fn is_stored(s: u32, next: u32, arena: &[i32], table: &[u32], index: &[u32]) -> 
 {
     ranged(arena);
     let g = segment_index::segment_size(arena.len(), control_words::depth_of(s));
-    segment_check::is_tiled(next, &*arena, &*table, &*index, s as usize, g)
+    segment_check::is_shown(next, &*arena, &*table, &*index, s as usize, g)
 }
 
 // The number of the tests that stand before every call: 8, 1, or 0 for a sound pool.

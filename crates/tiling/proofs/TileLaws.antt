@@ -57,6 +57,16 @@ held-by ρ t j u h x =
     free-slots ρ t u
     ∙ every-breaks (λ k. not (covers ρ u (recordAt t k))) 0 (slots t) j (omega arith) (omega arith) (ap not x)
 
+-- ---- the first terms of a sum
+
+pub sum-part : (f : ℕ → ℕ) (i n : ℕ) → i ≤ n → sumTo f i ≤ sumTo f n
+sum-part f i zero h = let none : i ≡ 0 = omega arith in rw none (omega arith)
+sum-part f i (suc n) h = go (sum-part f i n) (ℕ-discrete i (suc n))
+  where
+    go : (i ≤ n → sumTo f i ≤ sumTo f n) → Dec (i ≡ suc n) → sumTo f i ≤ sumTo f n + f n
+    go ih (yes e) = rw e (omega arith)
+    go ih (no e) = omega (arith, ih (omega arith))
+
 -- ---- terms of which at most one is not 0
 
 sum-one : (f : ℕ → ℕ) (n : ℕ) → ((k : ℕ) → k < n → f k ≤ 1)

@@ -1,72 +1,24 @@
--- The gate: how many records are live, the lent lengths, and when the map and the tree together are a stored pool.
--- Assumes nothing.
-use Prim.Native.Nat.{ℕ, suc, _+_, _-_, _/_, _%_, _≤_, _<_}
-use native.Mathlib.Nat.{sub-zero, zero-add}
-use native.Mathlib.Numerals.{add-one}
-use native.Mathlib.Omega.{arith}
-use mathlib.Core.Path.{_≡_, refl, sym, ap, _∙_, subst}
-use mathlib.Core.Bool.{Bool, true, false, _&&_, and-true}
+-- The gate: the lent lengths, and when a pool is stored. Assumes nothing.
+use Prim.Native.Nat.{ℕ, _%_, _≤_, _<_}
+use mathlib.Core.Path.{_≡_, refl, sym, ap, _∙_}
+use mathlib.Core.Bool.{Bool, true, false, _&&_, and-true, true≢false}
 use mathlib.Core.List.{[], _∷_}
 use lib.Dec.{eqb, leb}
 use lib.ListN.{length, getD}
-use Rattle.words.specs.Lists.{Words, listFrom, zeroAt}
+use Rattle.words.specs.Lists.{Words}
 use Rattle.words.proofs.Tests.{bool-iff, and-l, and-r, eqb-eq, le-of}
-use Rattle.ledger.specs.declared.Rule.{Rule}
-use Rattle.ledger.specs.Records.{Ledger, recordAt, slots, recordsOf, isEmpty}
-use Rattle.ledger.specs.Units.{valid, free, owned}
-use Rattle.ledger.specs.Runs.{runsFrom, freeRuns}
+use Rattle.ledger.specs.Records.{Ledger, slots, recordsOf}
+use Rattle.ledger.specs.Units.{valid, owned}
 use Rattle.ledger.proofs.RecordLaws.{table-records}
-use Rattle.ledger.specs.Runs.{liveCount}
-use Rattle.ledger.proofs.RunLaws.{runs-are, runs-unique, runs-live}
-use Rattle.stored_forms.specs.Tree.{Tree, link, treeOf, formOne, formRule, treeRange, freeTree}
-use Rattle.stored_forms.proofs.TreeLaws.{freeTree-one}
+use Rattle.stored_forms.specs.Tree.{Tree, link, formOne, formRule, treeRange, freeTree}
 use Rattle.stored_forms.specs.Blocks.{Holds}
 use Rattle.stored_forms.proofs.NodeLaws.{readable-one}
 use Rattle.stored_forms.proofs.FreeTreeLaws.{stamped, of-stamped}
 use Rattle.calls.specs.Pool.{Pool, store, lengths, samePool, stored}
 use Rattle.calls.specs.Engines.{treeEngine, treeEngineOf}
 use Rattle.calls.proofs.StoreLaws.{same-pool-eq, same-pool-same}
-use Rattle.record_table.specs.Checks.{Marks}
-use Rattle.tree_check.specs.Walk.{Says, ahead, Shows}
+use Rattle.tree_check.specs.Maps.{Says, Shown}
 use Rattle.tree_check.specs.Gate.{treePool}
-
--- ---- the live records
-
--- a loop over the slots has counted n live records before slot i
-pub record Counting (t : Words) (n i : ℕ) : Type 0 where
-  pub upto : i ≤ slots t
-  pub few : n ≤ i
-  pub left : n + liveCount (listFrom (recordAt t) i (slots t - i)) ≡ liveCount (recordsOf t)
-
-module _ (t : Words) where
-  pub count-start : Counting t 0 0
-  unfolding recordsOf
-  count-start = record { upto = omega arith; few = omega arith; left = rw (zero-add, sub-zero) }
-
-  module _ {n i : ℕ} (c : Counting t n i) where
-    pub count-end : slots t ≤ i → n ≡ liveCount (recordsOf t)
-    count-end h = let z : slots t - i ≡ 0 = omega arith in omega (arith, rw z at (c .left))
-
-    -- the records from slot i on
-    behind : i < slots t
-        → liveCount (listFrom (recordAt t) i (slots t - i))
-        ≡ liveCount (recordAt t i ∷ listFrom (recordAt t) (i + 1) (slots t - (i + 1)))
-    behind h =
-        let z : slots t - i ≡ suc (slots t - (i + 1)) = omega arith in
-        ap (λ d. liveCount (listFrom (recordAt t) i d)) z
-        ∙ ap (λ j. liveCount (recordAt t i ∷ listFrom (recordAt t) j (slots t - (i + 1)))) (sym (add-one i))
-
-    pub count-empty : i < slots t → isEmpty (recordAt t i) ≡ true → Counting t n (i + 1)
-    count-empty h e =
-        let left = c .left in
-        let here = behind h in
-        record { upto = omega arith; few = omega arith; left = omega (arith, rw e at here) }
-
-    pub count-live : i < slots t → isEmpty (recordAt t i) ≡ false → Counting t (n + 1) (i + 1)
-    count-live h e =
-        let left = c .left in
-        let here = behind h in
-        record { upto = omega arith; few = omega arith; left = omega (arith, rw e at here) }
 
 -- ---- the lent lengths
 
@@ -156,42 +108,16 @@ module _ {next : ℕ} {m t : Words} (k : Valid next m t) (root : ℕ) where
   pub stored-shown : stored treeEngine (treePool root next m t) ≡ true → (link T ≡ root) × Holds formOne m T
   stored-shown e = store-holds (same-pool-eq p (store treeEngine L next p) (sym stored-same ∙ e))
 
--- and free units that are those of the map
-pub record Checked (next : ℕ) (m t used : Words) : Type 0 where
-  pub known : Valid next m t
-  pub marks : Marks (formRule formOne) used (recordsOf t)
-
-pub check-passes : {next : ℕ} {m t used : Words} (b : Bool) → InRange m t
-    → b ≡ valid (formRule formOne) (length m) next (recordsOf t)
-    → (b ≡ true → Marks (formRule formOne) used (recordsOf t))
-    → b ≡ true → Checked next m t used
-check-passes b fit e marks ok = record { known = record { fit = fit; good = sym e ∙ ok }; marks = marks ok }
-
-module _ {next : ℕ} {m t used : Words} (k : Checked next m t used) where
-  abbrev ρ : Rule
-  ρ = formRule formOne
-
-  -- the map's runs are the ledger's
-  units-runs : ahead used (length m / 2) 0 ≡ freeRuns ρ (length m) (recordsOf t)
-  unfolding freeRuns formOne
-  units-runs =
-      let N = length m / 2 in
-      let f = free ρ (recordsOf t) in
-      let runs = runs-are f N in
-      ap (runsFrom (zeroAt used) 0) (sub-zero N)
-      ∙ runs-unique (zeroAt used) N (runsFrom f 0 N)
-      (record { gapped = runs .gapped; cover = λ u b. runs .cover u b ∙ sym (k .marks u) })
-
-  pub allowance : length (ahead used (length m / 2) 0) ≤ liveCount (recordsOf t) + 1
-  allowance = let few = runs-live ρ (length m) (recordsOf t) in rw units-runs (omega arith)
-
-  tree-is : treeOf (ahead used (length m / 2) 0) ≡ freeTree formOne (length m) (recordsOf t)
-  tree-is = ap treeOf units-runs ∙ sym (freeTree-one (length m) (recordsOf t))
-
-  pub stored-is : (root : ℕ) (r : Bool) → Says r (Shows m used (length m / 2) root)
-      → r ≡ stored treeEngine (treePool root next m t)
-  stored-is root r says =
-      let shown : Tree → Type 0 = λ t. (link t ≡ root) × Holds formOne m t in
-      bool-iff r (stored treeEngine (treePool root next m t))
-      (λ e. sym (shown-stored (k .known) root (subst shown tree-is (says .0 e))))
-      (λ e. says .1 (subst shown (sym tree-is) (stored-shown (k .known) root e)))
+-- so the pool is stored exactly where that is shown
+pub stored-is : (root next : ℕ) (m t : Words) → InRange m t → (r : Bool) → Says r (Shown root next m t)
+    → r ≡ stored treeEngine (treePool root next m t)
+stored-is root next m t fit r says =
+    bool-iff r (stored treeEngine (treePool root next m t))
+    (λ e. let (good, linked, holds) = says .0 e in
+    sym (shown-stored (record { fit = fit; good = good }) root (linked, holds)))
+    (λ e. says .1 (go (valid (formRule formOne) (length m) next (recordsOf t)) refl e))
+  where
+    go : (b : Bool) → valid (formRule formOne) (length m) next (recordsOf t) ≡ b
+        → stored treeEngine (treePool root next m t) ≡ true → Shown root next m t
+    go true good e = let (linked, holds) = stored-shown (record { fit = fit; good = good }) root e in (good, linked, holds)
+    go false bad e = absurd (true≢false (sym e ∙ sym (not-stored root next m t false (sym bad) refl)))

@@ -1,3 +1,4 @@
--- What the tree pool's soundness check decides.
-pub mod Walk
+-- What the tests before every call decide, and what the map of the records and the walk of the free tree say.
 pub mod Gate
+pub mod Maps
+pub mod Walk

@@ -1,188 +1,153 @@
-// The tree pool's soundness check: the free tree in an arena, over any memory, and the gate before every call.
+// The tree pool's gate, the tests before every call: the lent lengths, and one exact test that head and lent memory are
+// the stored form of a ledger. Records and free blocks lie side by side, and have as many cells together as the arena.
 // Slices are lent on as `&*slice`, which keeps pointer and length in registers (docs/DECISIONS.md, what crosses calls).
-use free_tree::left_of;
-use free_tree::length_of;
-use free_tree::right_of;
-use ledger::Rule;
+pub mod record_map;
+pub mod tree_walk;
+
+use record_map::leads_to;
+use record_map::map_rows;
+use tree_walk::walk;
 ghost use mathlib.Core.Path.{_≡_};
 ghost use mathlib.Core.Bool.{true};
-ghost use Prim.Native.Nat.{_+_, _-_, _*_, _<_, _≤_};
-ghost use mathlib.Core.List.{_∷_};
+ghost use Prim.Native.Nat.{_/_, _<_, _≤_};
 ghost use lib.ListN.{length};
 ghost use Rattle.words.specs.Lists.{all, isZero};
-ghost use Rattle.words.specs.Counted.{every};
-ghost use Rattle.ledger.specs.Records.{slots, recordsOf};
-ghost use Rattle.ledger.specs.Runs.{run};
-ghost use Rattle.ledger.specs.Runs.{liveCount};
+ghost use Rattle.ledger.specs.Records.{slots};
 ghost use Rattle.calls.specs.Pool.{lengths, stored};
 ghost use Rattle.calls.specs.Step.{GateIs};
 ghost use Rattle.calls.specs.Engines.{treeEngine};
-ghost use Rattle.tree_check.specs.Walk.{Says, heldAt, closed, ahead, Ready, Fine, wrong, Walked, Shows};
+ghost use Rattle.tree_check.specs.Maps.{Says, Roomy, most, Shown};
 ghost use Rattle.tree_check.specs.Gate.{treePool, RightLengths};
 
-// ---- the map of units, in which free units read 0
+// ---- the stored form
 
-// Whether no unit from lo up to hi is free.
-fn all_held(used: &[u8], lo: usize, hi: usize) -> bool
-    requires { ⌜ hi ≤ length (now used) ⌝ }
-    ensures { λ r. ⌜ r ≡ every (heldAt (now (used .entry))) lo (hi - lo) ⌝ }
-{
-    if hi <= lo {
-        return true;
-    }
-    words::set_part_bytes(&*used, lo, hi)
-}
-
-// Whether no free unit follows at unit e.
-fn is_closed(used: &[u8], units: usize, e: usize) -> bool
-    requires { ⌜ units ≤ length (now used) ⌝ }
-    ensures { λ r. ⌜ r ≡ closed (now (used .entry)) units e ⌝ }
-{
-    if units <= e {
-        return true;
-    }
-    used[e] != 0
-}
-
-// Whether the z units from unit c on are the first free run from unit k on.
-fn is_next(used: &[u8], units: usize, k: usize, c: usize, z: usize) -> bool
-    requires { ⌜ (k ≤ c) × (1 ≤ z) × (c + z ≤ units) × (units ≤ length (now used)) ⌝ }
-    ensures { λ r. ⌜ Says r (ahead (now (used .entry)) units k ≡ run c z ∷ ahead (now (used .entry)) units (c + z)) ⌝ }
-{
-    let e = c + z;
-    all_held(&*used, k, c) & words::zero_part_bytes(&*used, c, e) & is_closed(&*used, units, e)
-}
-
-// ---- the walk
-
-// What a walk of a part of the tree answers: whether all is well, the unit past the last block seen, and how many
-// more nodes may be entered.
-pub struct Seen {
-    pub ok: bool,
-    pub next: usize,
-    pub left: usize,
-}
-
-// A walk that found something wrong.
-fn stopped(left: usize) -> Seen
-    ensures { λ r. ⌜ r ≡ wrong left ⌝ }
-{
-    Seen {
-        ok: false,
-        next: 0,
-        left,
-    }
-}
-
-// Whether the node of z cells at cell c is the first free run from unit k on, shorter than the limit, with zeros
-// behind its two words.
-fn node_ok(
+// Whether the pool is stored, by a map that comes in all zero and m residues of tickets.
+fn is_shown_over(
+    root: u32,
+    next: u32,
     arena: &[u32],
-    used: &[u8],
-    units: usize,
-    k: usize,
-    limit: usize,
-    c: usize,
-    z: usize,
+    table: &[u32],
+    map: &mut [u8],
+    seen: &mut [u8],
+    m: usize,
 ) -> bool
-    requires { ⌜ Ready (now arena) (now used) units ⌝ }
-    requires { ⌜ c < units ⌝ }
-    ensures { λ r. ⌜ Says r (Fine (now (arena .entry)) (now (used .entry)) units k limit c z) ⌝ }
+    requires { ⌜ (length (now arena) ≤ 16384) × (slots (now table) ≤ 256) × (slots (now table) ≤ most (now map)) ⌝ }
+    requires { ⌜ Roomy (now map) (length (now arena) / 2) × (all isZero (now map) ≡ true) ⌝ }
+    requires { ⌜ (0 < m) × (length (now seen) ≡ m) ⌝ }
+    ensures { λ r. ⌜ Says r (Shown root next (now (arena .entry)) (now (table .entry))) ⌝ }
 {
-    if c < k {
+    let words = arena.len();
+    let held = map_rows(next, &*table, words, &mut *map, &mut *seen, m);
+    if words < held {
         return false;
     }
-    if z == 0 {
-        return false;
-    }
-    if limit <= z {
-        return false;
-    }
-    if units - c < z {
-        return false;
-    }
-    is_next(&*used, units, k, c, z) & words::zero_part(arena, 2 * c + 2, 2 * (c + z))
-}
-
-// Left part, node, right part: whether the blocks of the tree at the link are the free runs from unit k on, each
-// shorter than the limit. Nodes to the left have to be shorter than their father, those to the right no longer. Each
-// node takes one of the allowance, and the right part gets what the left part left of it: on any memory, cycles and
-// wild links included, no more nodes are entered than are allowed, and the walk is no deeper.
-fn walk(
-    arena: &[u32],
-    used: &[u8],
-    units: usize,
-    link: usize,
-    limit: usize,
-    k: usize,
-    allowed: usize,
-) -> Seen
-    requires { ⌜ Ready (now arena) (now used) units ⌝ }
-    ensures { λ r. ⌜ Walked (now (arena .entry)) (now (used .entry)) units link limit k allowed r ⌝ }
-{
-    if link == 0 {
-        return Seen {
-            ok: true,
-            next: k,
-            left: allowed,
-        };
-    }
-    if allowed == 0 {
-        return stopped(allowed);
-    }
-    if units < link {
-        return stopped(allowed);
-    }
-    let c = link - 1;
-    let z = length_of(arena, c) as usize;
-    let before = walk(&*arena, &*used, units, left_of(arena, c), z, k, allowed - 1);
-    let next = before.next;
-    let left = before.left;
-    if !before.ok {
-        return stopped(left);
-    }
-    if !node_ok(&*arena, &*used, units, next, limit, c, z) {
-        return stopped(left);
-    }
-    walk(
+    let cells = words / 2;
+    let allowed = table.len() / 3 + 1;
+    let mut sum: usize = 0;
+    let end = walk(
         &*arena,
-        &*used,
-        units,
-        right_of(arena, c),
-        z + 1,
-        c + z,
-        left,
-    )
+        &*map,
+        root as usize,
+        cells + 1,
+        0,
+        cells,
+        &mut sum,
+        allowed,
+    );
+    if cells < end {
+        return false;
+    }
+    let whole = sum + held;
+    leads_to(map, end, cells) & (whole == cells)
 }
 
-// Whether the arena holds the tree of the map's free runs, from the root link on, and zeros in the rest of their
-// units.
-pub fn tree_ok(arena: &[u32], used: &[u8], units: usize, root: usize, allowed: usize) -> bool
-    requires { ⌜ Ready (now arena) (now used) units ⌝ }
-    requires { ⌜ length (ahead (now used) units 0) ≤ allowed ⌝ }
-    ensures { λ r. ⌜ Says r (Shows (now (arena .entry)) (now (used .entry)) units root) ⌝ }
+// Map and residues are wiped whole on every call, so that a small pool gets small ones. At most 64 cells:
+fn is_shown_tiny(root: u32, next: u32, arena: &[u32], table: &[u32]) -> bool
+    requires { ⌜ (length (now arena) ≤ 128) × (slots (now table) ≤ 256) ⌝ }
+    ensures { λ r. ⌜ Says r (Shown root next (now (arena .entry)) (now (table .entry))) ⌝ }
 {
-    let seen = walk(&*arena, &*used, units, root, units + 1, 0, allowed);
-    let next = seen.next;
-    seen.ok & all_held(&*used, next, units)
+    let mut map: [u8; 64] = [0; 64];
+    let mut seen: [u8; 128] = [0; 128];
+    is_shown_over(root, next, &*arena, &*table, &mut map, &mut seen, 128)
+}
+
+// At most 512 cells.
+fn is_shown_small(root: u32, next: u32, arena: &[u32], table: &[u32]) -> bool
+    requires { ⌜ (length (now arena) ≤ 1024) × (slots (now table) ≤ 256) ⌝ }
+    ensures { λ r. ⌜ Says r (Shown root next (now (arena .entry)) (now (table .entry))) ⌝ }
+{
+    let mut map: [u8; 512] = [0; 512];
+    let mut seen: [u8; 128] = [0; 128];
+    is_shown_over(root, next, &*arena, &*table, &mut map, &mut seen, 128)
+}
+
+// At most 32 records, by entries. They lie from place first / 128 on: 64 places for 8192 cells, and room behind them
+// for 32 records that crowd the last.
+fn is_shown_sparse(root: u32, next: u32, arena: &[u32], table: &[u32]) -> bool
+    requires { ⌜ (length (now arena) ≤ 16384) × (slots (now table) ≤ 32) ⌝ }
+    ensures { λ r. ⌜ Says r (Shown root next (now (arena .entry)) (now (table .entry))) ⌝ }
+{
+    let mut map: [u8; 384] = [0; 384];
+    let mut seen: [u8; 128] = [0; 128];
+    is_shown_over(root, next, &*arena, &*table, &mut map, &mut seen, 128)
+}
+
+// At most 2,048 cells.
+fn is_shown_middle(root: u32, next: u32, arena: &[u32], table: &[u32]) -> bool
+    requires { ⌜ (length (now arena) ≤ 4096) × (slots (now table) ≤ 256) ⌝ }
+    ensures { λ r. ⌜ Says r (Shown root next (now (arena .entry)) (now (table .entry))) ⌝ }
+{
+    let mut map: [u8; 2048] = [0; 2048];
+    let mut seen: [u8; 2048] = [0; 2048];
+    is_shown_over(root, next, &*arena, &*table, &mut map, &mut seen, 2048)
+}
+
+fn is_shown_large(root: u32, next: u32, arena: &[u32], table: &[u32]) -> bool
+    requires { ⌜ (length (now arena) ≤ 16384) × (slots (now table) ≤ 256) ⌝ }
+    ensures { λ r. ⌜ Says r (Shown root next (now (arena .entry)) (now (table .entry))) ⌝ }
+{
+    let mut map: [u8; 8192] = [0; 8192];
+    let mut seen: [u8; 2048] = [0; 2048];
+    is_shown_over(root, next, &*arena, &*table, &mut map, &mut seen, 2048)
+}
+
+// Pools of more than 1,024 words or 16 records. It stands at two places of its caller, so that the compiler keeps it a
+// call and its maps out of the frame of small pools.
+fn is_shown_other(root: u32, next: u32, arena: &[u32], table: &[u32]) -> bool
+    requires { ⌜ (length (now arena) ≤ 16384) × (slots (now table) ≤ 256) ⌝ }
+    ensures { λ r. ⌜ Says r (Shown root next (now (arena .entry)) (now (table .entry))) ⌝ }
+{
+    let slots = table.len() / 3;
+    if slots <= 16 {
+        return is_shown_sparse(root, next, &*arena, &*table);
+    }
+    if arena.len() <= 4096 {
+        return is_shown_middle(root, next, &*arena, &*table);
+    }
+    if slots <= 32 {
+        return is_shown_sparse(root, next, &*arena, &*table);
+    }
+    is_shown_large(root, next, &*arena, &*table)
+}
+
+// Whether the table holds a valid ledger, and the arena the tree of its free runs.
+fn is_shown(root: u32, next: u32, arena: &[u32], table: &[u32]) -> bool
+    requires { ⌜ (length (now arena) ≤ 16384) × (slots (now table) ≤ 256) ⌝ }
+    ensures { λ r. ⌜ Says r (Shown root next (now (arena .entry)) (now (table .entry))) ⌝ }
+{
+    if 16 < table.len() / 3 {
+        return is_shown_other(root, next, &*arena, &*table);
+    }
+    if arena.len() <= 128 {
+        return is_shown_tiny(root, next, &*arena, &*table);
+    }
+    if arena.len() <= 1024 {
+        return is_shown_small(root, next, &*arena, &*table);
+    }
+    is_shown_other(root, next, &*arena, &*table)
 }
 
 // ---- the gate
-
-// How many records are live.
-fn count_live(table: &[u32]) -> usize
-    ensures { λ r. ⌜ (r ≡ liveCount (recordsOf (now (table .entry)))) × (r ≤ slots (now (table .entry))) ⌝ }
-{
-    let mut n: usize = 0;
-    let mut i = 0;
-    while i < table.len() / 3 {
-        if !record_table::is_empty(record_table::read_row(table, i)) {
-            n += 1;
-        }
-        i += 1;
-    }
-    n
-}
 
 // Whether the lent lengths lie in their ranges.
 pub fn right_lengths(arena: &[u32], table: &[u32]) -> bool
@@ -193,41 +158,12 @@ pub fn right_lengths(arena: &[u32], table: &[u32]) -> bool
     (2 <= w) & (w <= 16384) & (w % 2 == 0) & (t % 3 == 0) & (1 <= t / 3) & (t / 3 <= 256)
 }
 
-// Whether head and lent memory are the stored form of a ledger, by a map that comes in all zero. A pool of n live
-// records has at most n + 1 free runs, so the walk is allowed no more nodes: at most 257.
-fn is_stored_over(root: u32, next: u32, arena: &[u32], table: &[u32], used: &mut [u8]) -> bool
-    requires { ⌜ lengths treeEngine (treePool root next (now arena) (now table)) ≡ true ⌝ }
-    requires { ⌜ (length (now arena) ≤ 2 * length (now used)) × (all isZero (now used) ≡ true) ⌝ }
-    ensures { λ r. ⌜ r ≡ stored treeEngine (treePool root next (now (arena .entry)) (now (table .entry))) ⌝ }
-{
-    let words = arena.len();
-    let rule = Rule { unit: 2, lead: 0 };
-    if !record_table::table_check(rule, words, next, &*table, &mut *used) {
-        return false;
-    }
-    let allowed = count_live(&*table) + 1;
-    tree_ok(&*arena, &*used, words / 2, root as usize, allowed)
-}
-
-// The exact check, with every unit marked. It is what refuses a pool.
-fn is_stored_marked(root: u32, next: u32, arena: &[u32], table: &[u32]) -> bool
+// Whether head and lent memory are the stored form of a ledger.
+fn is_stored(root: u32, next: u32, arena: &[u32], table: &[u32]) -> bool
     requires { ⌜ lengths treeEngine (treePool root next (now arena) (now table)) ≡ true ⌝ }
     ensures { λ r. ⌜ r ≡ stored treeEngine (treePool root next (now (arena .entry)) (now (table .entry))) ⌝ }
 {
-    let mut used: [u8; 8192] = [0; 8192];
-    is_stored_over(root, next, &*arena, &*table, &mut used)
-}
-
-// Whether head and lent memory are the stored form of a ledger. Records and free blocks that lie side by side are
-// found quickly; only where they don't is every unit marked.
-pub fn is_stored(root: u32, next: u32, arena: &[u32], table: &[u32]) -> bool
-    requires { ⌜ lengths treeEngine (treePool root next (now arena) (now table)) ≡ true ⌝ }
-    ensures { λ r. ⌜ r ≡ stored treeEngine (treePool root next (now (arena .entry)) (now (table .entry))) ⌝ }
-{
-    if tree_tiles::is_tiled(root, next, &*arena, &*table) {
-        return true;
-    }
-    is_stored_marked(root, next, &*arena, &*table)
+    is_shown(root, next, &*arena, &*table)
 }
 
 // The number of the tests that stand before every call: 8, 1, or 0 for a sound pool.

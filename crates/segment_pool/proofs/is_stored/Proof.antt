@@ -20,8 +20,8 @@ depth-of-requires c κs = fit (c .before .before .before) .power
 segment-size-requires : tie.Need-segment-size-requires
 segment-size-requires c κs = (fit (c .before .before .before .before) .most, c .depth-of .ensures .1)
 
-is-tiled-requires : tie.Need-is-tiled-requires
-is-tiled-requires c κs =
+is-shown-requires : tie.Need-is-shown-requires
+is-shown-requires c κs =
     let d = c .before in
     let in-range = fit (d .before .before .before .before) in
     (measured in-range _ (sized _ _ (d .depth-of .ensures .0) (c .segment-size .ensures)), in-range .few)
@@ -30,8 +30,8 @@ returns : tie.Need-returns
 returns c =
     let r = c .before .before .before in
     let s = r .before .before .before in
-    stored-says (s .args .next) (fit s) (r .ranged .ensures) (c .is-tiled .result) (c .is-tiled .ensures)
+    stored-says (s .args .next) (fit s) (r .ranged .ensures) (c .is-shown .result) (c .is-shown .ensures)
 
 pub is-stored-spec : {M : Type 1} → statement M
 is-stored-spec =
-    tie.close (tie.spec ranged-requires depth-of-requires segment-size-requires is-tiled-requires returns)
+    tie.close (tie.spec ranged-requires depth-of-requires segment-size-requires is-shown-requires returns)

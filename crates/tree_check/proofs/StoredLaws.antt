@@ -1,0 +1,123 @@
+-- Free blocks and records from the first unit to the last, with as many units as the arena has: the table is a valid
+-- ledger's, and the arena has the tree of its free runs; and back. Assumes nothing.
+use Prim.Native.Nat.{ℕ, _+_, _/_, _≤_, _<_}
+use native.Mathlib.Decide.{decLe}
+use native.Mathlib.Omega.{arith}
+use mathlib.Core.Path.{_≡_, sym, ap, _∙_, subst}
+use mathlib.Core.Bool.{Bool, true, false, _&&_}
+use mathlib.Core.List.{List}
+use lib.Dec.{eqb}
+use lib.ListN.{length}
+use Rattle.words.specs.Lists.{Words}
+use Rattle.words.proofs.Tests.{and-l, and-r, and-i, eqb-eq, eqb-same}
+use Rattle.ledger.specs.Records.{recordsOf, slots}
+use Rattle.ledger.specs.Units.{free, valid}
+use Rattle.ledger.specs.Runs.{Run, covered, freeRuns, AreRuns}
+use Rattle.ledger.proofs.RecordLaws.{length-records}
+use Rattle.ledger.proofs.RunLaws.{runs-are, runs-few}
+use Rattle.stored_forms.specs.Tree.{Tree, link, treeOf, inorder, formOne}
+use Rattle.stored_forms.specs.Blocks.{Holds}
+use Rattle.stored_forms.proofs.TreeLaws.{tree-unique, freeTree-one, inorder-treeOf, heaped-treeOf}
+use Rattle.tiling.specs.Tiles.{Tiled, total}
+use Rattle.tiling.proofs.TileLaws.{tiled-valid, valid-exact}
+use Rattle.tree_check.specs.Maps.{cellRule, Leads, Says, CoversAll, Mapped, Shown}
+use Rattle.tree_check.specs.Walk.{Found, Apart, ends, LiesAt, Passes}
+use Rattle.tiling.proofs.LeadLaws.{leads-up}
+use Rattle.tree_check.proofs.LeadLaws.{leads-cover}
+use Rattle.tree_check.proofs.GapLaws.{gapped-wider}
+use Rattle.tree_check.proofs.ApartLaws.{gapped-short, apart-all}
+
+module _ {root next limit : ℕ} {m t map : Words} {held end sum : ℕ} (mapped : Mapped (length m) next t held map)
+    (x : Found m map (length m / 2) root limit 0 0 end sum) (behind : CoversAll map end (length m / 2)) where
+  -- the tree's runs are free tiles, and records lie in the rest
+  tiled : Tiled cellRule (recordsOf t) (length m / 2) (inorder (x .tree))
+  tiled = record {
+    gapped = gapped-wider 0 end (length m / 2) (inorder (x .tree)) (x .inside) (x .gapped);
+    held = λ u l e. go u l e (decLe end u);
+  }
+    where
+      go : (u : ℕ) → u < length m / 2 → covered (inorder (x .tree)) u ≡ false → Dec (end ≤ u)
+          → free cellRule (recordsOf t) u ≡ false
+      go u l e (yes h) = mapped .spans u (behind u h l)
+      go u l e (no h) = mapped .spans u (x .known u (omega arith) (omega arith) e)
+
+  tiles-stored : sum + held ≡ length m / 2 → Shown root next m t
+  unfolding formOne
+  tiles-stored exact =
+      let size = x .size in
+      let (good, runs) = tiled-valid cellRule (omega arith) (length m) next held t (inorder (x .tree)) (mapped .entered)
+      tiled (omega arith) in
+      let rs = freeRuns cellRule (length m) (recordsOf t) in
+      let is = tree-unique rs (x .tree) (record { order = sym runs; heap = x .heaped })
+      ∙ sym (freeTree-one (length m) (recordsOf t)) in
+      (good, ap link (sym is) ∙ x .linked, subst (λ (y : Tree). Holds formOne m y) is (x .holds))
+
+-- ---- and back
+
+module _ (root next : ℕ) (m t map : Words) (held : ℕ) (mapped : Mapped (length m) next t held map)
+    (shown : Shown root next m t) where
+  abbrev N : ℕ
+  N = length m / 2
+
+  abbrev rs : List Run
+  rs = freeRuns cellRule (length m) (recordsOf t)
+
+  good : valid cellRule (length m) next (recordsOf t) ≡ true
+  unfolding formOne
+  good = shown .0
+
+  runs : AreRuns (free cellRule (recordsOf t)) N rs
+  unfolding freeRuns
+  runs = runs-are (free cellRule (recordsOf t)) N
+
+  runs-apart : Apart map 0 rs × Leads map (ends 0 rs) N
+  runs-apart = apart-all (length m) next t map good (mapped .led good) rs (runs .gapped) (runs .cover)
+
+  -- the tree of the free runs lies at the root
+  lies : LiesAt m map N root (N + 1) 0 (treeOf rs)
+  unfolding formOne
+  lies =
+      let is = freeTree-one (length m) (recordsOf t) in
+      let order = inorder-treeOf rs in
+      record {
+        linked = ap link (sym is) ∙ shown .1;
+        holds = subst (λ (y : Tree). Holds formOne m y) is (shown .2);
+        heaped = heaped-treeOf rs;
+        short = rw order (gapped-short 0 N rs (runs .gapped));
+        runs = rw order (runs-apart .0);
+        inside = rw order (leads-up (runs-apart .1));
+      }
+
+  -- and has no more nodes than the walk is allowed
+  few-nodes : length (inorder (treeOf rs)) ≤ slots t + 1
+  few-nodes =
+      let order = inorder-treeOf rs in
+      let few = runs-few cellRule (length m) (recordsOf t) in
+      rw order (omega (arith, length-records t))
+
+  module _ {end sum : ℕ} (pass : Passes m map N root (N + 1) 0 (slots t + 1) 0 end sum) where
+    met : (end ≡ ends 0 rs) × (sum ≡ 0 + total rs)
+    met = let order = inorder-treeOf rs in rw order at (pass .meets (treeOf rs) lies few-nodes)
+
+    pub end-low : end ≤ N
+    end-low = let up = leads-up (runs-apart .1) in omega (arith, met .0)
+
+    end-leads : Leads map end N
+    end-leads = subst (λ k. Leads map k N) (sym (met .0)) (runs-apart .1)
+
+    end-exact : sum + held ≡ N
+    end-exact =
+        omega (arith, met .1, valid-exact cellRule (omega arith) (length m) next t good held (mapped .entered))
+
+-- what the last two tests say, together
+pub both-say : {root next : ℕ} {m t map : Words} {held end sum : ℕ} (b : Bool)
+    → Mapped (length m) next t held map → Found m map (length m / 2) root (length m / 2 + 1) 0 0 end sum
+    → Passes m map (length m / 2) root (length m / 2 + 1) 0 (slots t + 1) 0 end sum → Says b (Leads map end (length m / 2))
+    → Says (b && eqb (sum + held) (length m / 2)) (Shown root next m t)
+both-say {root} {next} {m} {t} {map} {held} {end} {sum} b mapped x pass behind =
+    let N = length m / 2 in (
+      (λ e. tiles-stored mapped x (leads-cover (behind .0 (and-l b (eqb (sum + held) N) e)))
+          (eqb-eq (sum + held) N (and-r b (eqb (sum + held) N) e))),
+      λ shown. and-i b (eqb (sum + held) N) (behind .1 (end-leads root next m t map held mapped shown pass))
+          (ap (λ k. eqb k N) (end-exact root next m t map held mapped shown pass) ∙ eqb-same N),
+    )

@@ -1,0 +1,305 @@
+-- `tree_check::tree_walk::walk` meets its contract, by the laws of WalkLaws. The measure is the allowance: so no more
+-- calls lie in each other than there may be nodes. Assumes nothing.
+use Prim.Native.Nat.{ℕ, suc, _-_, _<_}
+use native.Mathlib.Omega.{arith}
+use mathlib.Core.Path.{_≡_, refl, sym, _∙_}
+use mathlib.Core.Logic.{⊎-elim}
+use mathlib.Core.Bool.{true≢false}
+use borrow.Author.Needs.{needs}
+use borrow.Fn.Kinds.{In}
+use borrow.Fn.PlainCycle.{Measures, is, falls, and}
+use denote.Ref.{now}
+use Rattle.words.proofs.Tests.{not-true, not-false}
+use Rattle.stored_forms.specs.Tree.{formOne}
+use Rattle.tree_check.specs.Walk.{Between, Placed, Found, Passes}
+use Rattle.tree_check.proofs.WalkLaws.{none-found, joined, ready-part, walked-as, passes-none, passes-both}
+use Rattle.tree_check.proofs.WalkLaws.{not-inside, not-allowed, not-between, not-left, not-placed}
+use Rattle.tree_check.proofs.tree_walk.walk.Reads as walk
+use Rattle.tree_check.proofs.tree_walk.walk.Kinds as walk-kinds
+use Rattle.tree_check.proofs.tree_walk.+walk.Lts-walk as walk-lts
+use Rattle.free_tree.proofs.left_of.Reads as left-of-reads
+use Rattle.free_tree.proofs.length_of.Reads as length-of-reads
+use Rattle.free_tree.proofs.right_of.Reads as right-of-reads
+use Rattle.tree_check.proofs.tree_walk.is_between.Reads as is-between-reads
+use Rattle.tree_check.proofs.tree_walk.node_ok.Reads as node-ok-reads
+use Rattle.tree_check.proofs.tree_walk.+walk.{statement}
+use Rattle.tree_check.proofs.tree_walk.+walk.Tie.{close}
+
+abbrev μ-walk : Measures 3 walk-kinds.ps ℕ
+μ-walk κs a = a .1 .1 .1 .1 .1 .1 .1 .0
+
+abbrev walk-at : ℕ → In 3 walk-kinds.ps
+walk-at t = and 3 walk-kinds.ps (is 3 walk-kinds.ps μ-walk t) walk.Pre
+
+abbrev walk-below : ℕ → In 3 walk-kinds.ps
+walk-below t = and 3 walk-kinds.ps (falls 3 walk-kinds.ps _<_ μ-walk t) walk.Pre
+
+abbrev walk-claims : ℕ → walk-lts.Claims
+walk-claims t = (
+  length-of-reads.Asked,
+  length-of-reads.Learnt,
+  is-between-reads.Asked,
+  is-between-reads.Learnt,
+  left-of-reads.Asked,
+  left-of-reads.Learnt,
+  walk-below t,
+  walk.Post,
+  node-ok-reads.Asked,
+  node-ok-reads.Learnt,
+  right-of-reads.Asked,
+  right-of-reads.Learnt,
+)
+
+-- the entry, seen from where the node's place and length are tested
+abbrev start : (t : ℕ) → walk-lts.Else4 (walk-claims t) (walk-at t) walk.Post
+    → walk-lts.Start (walk-claims t) (walk-at t) walk.Post
+start t c = c .before .before .before .before .before .before .before .before
+
+at-cell : (t : ℕ) (c : walk-lts.Else4 (walk-claims t) (walk-at t) walk.Post)
+    → (let a = start t c .args in a .link ≡ suc (a .link - 1))
+at-cell t c = let some = c .before .before .before .before .before .if1 .left in omega arith
+
+-- nodes are allowed
+may : (t : ℕ) (c : walk-lts.Else4 (walk-claims t) (walk-at t) walk.Post)
+    → (let a = start t c .args in a .allowed ≡ suc (a .allowed - 1))
+may t c = let some = c .before .before .before .if3 .left in omega arith
+
+fit : (t : ℕ) (c : walk-lts.Else4 (walk-claims t) (walk-at t) walk.Post)
+    → (let a = start t c .args in
+    Between (a .k) (a .hi) (a .limit) (a .link - 1) (c .before .before .length-of .result))
+fit t c = c .before .is-between .ensures .0 (not-false _ (c .if4 .left))
+
+-- the left part is found right, or there is none
+left-done : (t : ℕ) (c : walk-lts.Joined5 (walk-claims t) (walk-at t) walk.Post)
+    → (let f = c .before in
+    let e = f .before in
+    let a = start t e .args in
+    let z = e .before .before .length-of .result in
+    Found (now (a .arena)) (now (a .map)) (a .link - 1) (f .left-of .result) z (a .k) (now (a .free)) (c .if5 .next)
+    (c .if5 .free)
+    × Passes (now (a .arena)) (now (a .map)) (a .link - 1) (f .left-of .result) z (a .k) (a .allowed - 1)
+    (now (a .free)) (c .if5 .next)
+    (c .if5 .free))
+left-done t c =
+    let e = c .before .before in
+    let b = fit t e in
+    let p = start t e .pre .1 in
+    let high = b .high in
+    let ready = ready-part {n = start t e .args .link - 1} (omega arith) (p .0) in
+    ⊎-elim (λ w. walked-as (w .5) (w .4) (w .2 .ensures .0 (omega (arith, w .3 .left))) (w .2 .ensures .1))
+    (λ w. walked-as (w .2) (w .1) (none-found (w .0 .left) (b .low) (p .1 .1)) (passes-none ready (w .0 .left)))
+    (c .if5 .came)
+
+-- the node is found right
+node-placed : (t : ℕ) (c : walk-lts.Else7 (walk-claims t) (walk-at t) walk.Post)
+    → (let d = c .before .before in
+    let e = d .before .before in
+    let a = start t e .args in
+    Placed (now (a .arena)) (now (a .map)) (d .if5 .next) (a .link - 1) (e .before .before .length-of .result))
+node-placed t c = c .before .node-ok .ensures .0 (not-false _ (c .if7 .left))
+
+walk-returns : (t : ℕ) → walk-lts.Need-returns (walk-claims t) (walk-at t) walk.Post
+walk-returns t c = let p = c .before .before .before .pre .1 in
+    ((λ h. none-found (c .if1 .taken) (p .1 .0) (p .1 .1)), passes-none (p .0) (c .if1 .taken))
+
+walk-add-result : (t : ℕ) → walk-lts.Need-add-result (walk-claims t) (walk-at t) walk.Post
+walk-add-result t c = omega arith
+
+walk-returns-2 : (t : ℕ) → walk-lts.Need-returns-2 (walk-claims t) (walk-at t) walk.Post
+walk-returns-2 t c = ((λ h. absurd (omega arith)), not-inside (c .before .before .before .before .pre .1 .0) (c .if2 .taken))
+
+walk-add-result-2 : (t : ℕ) → walk-lts.Need-add-result-2 (walk-claims t) (walk-at t) walk.Post
+walk-add-result-2 t c = omega arith
+
+walk-returns-3 : (t : ℕ) → walk-lts.Need-returns-3 (walk-claims t) (walk-at t) walk.Post
+walk-returns-3 t c =
+    let l = c .before .before in
+    ((λ h. absurd (omega arith)), not-allowed (l .before .before .before .pre .1 .0) (l .if1 .left) (c .if3 .taken))
+
+walk-sub-c : (t : ℕ) → walk-lts.Need-sub-c (walk-claims t) (walk-at t) walk.Post
+walk-sub-c t c = omega arith
+
+walk-length-of-requires : (t : ℕ) → walk-lts.Need-length-of-requires (walk-claims t) (walk-at t) walk.Post
+unfolding formOne
+walk-length-of-requires t c κs = omega arith
+
+walk-cast-z : (t : ℕ) → walk-lts.Need-cast-z (walk-claims t) (walk-at t) walk.Post
+walk-cast-z t c = search needs
+
+walk-is-between-requires : (t : ℕ) → walk-lts.Need-is-between-requires (walk-claims t) (walk-at t) walk.Post
+walk-is-between-requires t c κs = omega arith
+
+walk-add-result-3 : (t : ℕ) → walk-lts.Need-add-result-3 (walk-claims t) (walk-at t) walk.Post
+walk-add-result-3 t c = omega arith
+
+walk-returns-4 : (t : ℕ) → walk-lts.Need-returns-4 (walk-claims t) (walk-at t) walk.Post
+walk-returns-4 t c =
+    let l = c .before .before in
+    let s = l .before .before .before .before .before .before in (
+      (λ h. absurd (omega arith)),
+      not-between (s .pre .1 .0) (omega arith) (l .length-of .ensures) refl refl
+          (λ b. true≢false (sym (c .before .is-between .ensures .1 b) ∙ not-true _ (c .if4 .taken))),
+    )
+
+walk-left-of-requires : (t : ℕ) → walk-lts.Need-left-of-requires (walk-claims t) (walk-at t) walk.Post
+unfolding formOne
+walk-left-of-requires t c κs = omega arith
+
+walk-sub-walk : (t : ℕ) → walk-lts.Need-sub-walk (walk-claims t) (walk-at t) walk.Post
+walk-sub-walk t c = omega arith
+
+walk-walk-requires : (t : ℕ) → walk-lts.Need-walk-requires (walk-claims t) (walk-at t) walk.Post
+walk-walk-requires t c κs =
+    let e = c .before .before .before in
+    let s = start t e in
+    let b = fit t e in
+    let low = b .low in
+    let high = b .high in
+    let some = b .some in
+    (omega (arith, s .pre .0), (ready-part (omega arith) (s .pre .1 .0), (low, s .pre .1 .1 .1)))
+
+walk-add-result-4 : (t : ℕ) → walk-lts.Need-add-result-4 (walk-claims t) (walk-at t) walk.Post
+walk-add-result-4 t c = omega arith
+
+walk-returns-5 : (t : ℕ) → walk-lts.Need-returns-5 (walk-claims t) (walk-at t) walk.Post
+walk-returns-5 t c =
+    let w = c .before in
+    let f = w .before .before .before in
+    let e = f .before in (
+      (λ h. absurd (omega arith)),
+      not-left (start t e .pre .1 .0) (at-cell t e) (e .before .before .length-of .ensures) (f .left-of .ensures) refl
+          (may t e) (w .walk .ensures .1) (c .if6 .taken),
+    )
+
+walk-node-ok-requires : (t : ℕ) → walk-lts.Need-node-ok-requires (walk-claims t) (walk-at t) walk.Post
+walk-node-ok-requires t c κs =
+    let e = c .before .before in
+    let b = fit t e in
+    let (x, p) = left-done t c in
+    (x .inside, b .some, ready-part (b .high) (start t e .pre .1 .0))
+
+walk-add-result-5 : (t : ℕ) → walk-lts.Need-add-result-5 (walk-claims t) (walk-at t) walk.Post
+walk-add-result-5 t c = omega arith
+
+walk-returns-6 : (t : ℕ) → walk-lts.Need-returns-6 (walk-claims t) (walk-at t) walk.Post
+walk-returns-6 t c =
+    let n = c .before in
+    let d = n .before in
+    let f = d .before in
+    let e = f .before in (
+      (λ h. absurd (omega arith)),
+      not-placed (start t e .pre .1 .0) (at-cell t e) (e .before .before .length-of .ensures) (f .left-of .ensures) refl
+          (may t e) (left-done t d .1) (λ p. true≢false (sym (n .node-ok .ensures .1 p) ∙ not-true _ (c .if7 .taken))),
+    )
+
+walk-add-free : (t : ℕ) → walk-lts.Need-add-free (walk-claims t) (walk-at t) walk.Post
+walk-add-free t c =
+    let d = c .before .before .before in
+    let e = d .before .before in
+    let (x, p) = left-done t d in
+    let b = fit t e in
+    let few = x .few in
+    let inside = x .inside in
+    let high = b .high in
+    let small = start t e .pre .1 .0 .small in
+    omega arith
+
+walk-right-of-requires : (t : ℕ) → walk-lts.Need-right-of-requires (walk-claims t) (walk-at t) walk.Post
+unfolding formOne
+walk-right-of-requires t c κs = omega arith
+
+walk-add-result-6 : (t : ℕ) → walk-lts.Need-add-result-6 (walk-claims t) (walk-at t) walk.Post
+walk-add-result-6 t c = omega arith
+
+walk-returns-7 : (t : ℕ) → walk-lts.Need-returns-7 (walk-claims t) (walk-at t) walk.Post
+walk-returns-7 t c =
+    let r = c .before in
+    let n = r .before .before in
+    let d = n .before .before in
+    let f = d .before in
+    let e = f .before in
+    let s = start t e in
+    let b = fit t e in
+    let (x, p) = left-done t d in
+    let size = e .before .before .length-of .ensures in
+    let few = x .few in
+    let inside = x .inside in
+    let none = c .if8 .taken in (
+      (λ h. joined (s .pre .1 .0) size (f .left-of .ensures) (r .right-of .ensures) b x (node-placed t n)
+          (none-found none (b .high) (omega arith)) (at-cell t e)),
+      passes-both (s .pre .1 .0) (at-cell t e) size (f .left-of .ensures) (r .right-of .ensures) (may t e) p
+          (passes-none (s .pre .1 .0) none),
+    )
+
+walk-add-walk : (t : ℕ) → walk-lts.Need-add-walk (walk-claims t) (walk-at t) walk.Post
+walk-add-walk t c = omega arith
+
+walk-add-walk-2 : (t : ℕ) → walk-lts.Need-add-walk-2 (walk-claims t) (walk-at t) walk.Post
+walk-add-walk-2 t c = omega arith
+
+walk-sub-walk-2 : (t : ℕ) → walk-lts.Need-sub-walk-2 (walk-claims t) (walk-at t) walk.Post
+walk-sub-walk-2 t c = omega arith
+
+walk-walk-requires-2 : (t : ℕ) → walk-lts.Need-walk-requires-2 (walk-claims t) (walk-at t) walk.Post
+walk-walk-requires-2 t c κs =
+    let d = c .before .before .before .before .before .before in
+    let e = d .before .before in
+    let (x, p) = left-done t d in
+    let b = fit t e in
+    let s = start t e in
+    let few = x .few in
+    let inside = x .inside in
+    let low = b .low in
+    let some = b .some in
+    let high = b .high in
+    (omega (arith, s .pre .0), (s .pre .1 .0, (high, omega arith)))
+
+walk-returns-8 : (t : ℕ) → walk-lts.Need-returns-8 (walk-claims t) (walk-at t) walk.Post
+walk-returns-8 t c =
+    let r = c .before .before .before in
+    let n = r .before .before in
+    let d = n .before .before in
+    let f = d .before in
+    let e = f .before in
+    let s = start t e in
+    let b = fit t e in
+    let (x, p) = left-done t d in
+    let size = e .before .before .length-of .ensures in (
+      (λ h. joined (s .pre .1 .0) size (f .left-of .ensures) (r .right-of .ensures) b x (node-placed t n)
+          (c .walk2 .ensures .0 h) (at-cell t e)),
+      passes-both (s .pre .1 .0) (at-cell t e) size (f .left-of .ensures) (r .right-of .ensures) (may t e) p
+          (c .walk2 .ensures .1),
+    )
+
+pub +walk-spec : {M : Type 1} → statement M
++walk-spec =
+    close μ-walk λ t. walk-lts.spec (walk-claims t) (walk-at t)
+    walk.Post
+    (walk-returns t)
+    (walk-add-result t)
+    (walk-returns-2 t)
+    (walk-add-result-2 t)
+    (walk-returns-3 t)
+    (walk-sub-c t)
+    (walk-length-of-requires t)
+    (walk-cast-z t)
+    (walk-is-between-requires t)
+    (walk-add-result-3 t)
+    (walk-returns-4 t)
+    (walk-left-of-requires t)
+    (walk-sub-walk t)
+    (walk-walk-requires t)
+    (walk-add-result-4 t)
+    (walk-returns-5 t)
+    (walk-node-ok-requires t)
+    (walk-add-result-5 t)
+    (walk-returns-6 t)
+    (walk-add-free t)
+    (walk-right-of-requires t)
+    (walk-add-result-6 t)
+    (walk-returns-7 t)
+    (walk-add-walk t)
+    (walk-add-walk-2 t)
+    (walk-sub-walk-2 t)
+    (walk-walk-requires-2 t)
+    (walk-returns-8 t)

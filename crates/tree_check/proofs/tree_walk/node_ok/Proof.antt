@@ -1,0 +1,55 @@
+-- `tree_check::tree_walk::node_ok` meets its contract: behind the test of the place, the answer is that of two tests. Assumes
+-- nothing.
+use Prim.Native.Nat.{_≤_}
+use native.Mathlib.Omega.{arith}
+use mathlib.Core.Logic.{⊎-elim}
+use mathlib.Core.Bool.{false≢true}
+use borrow.Author.Needs.{needs}
+use Rattle.tree_check.specs.Walk.{earliest}
+use Rattle.tree_check.proofs.GapLaws.{placed}
+use Rattle.tree_check.proofs.tree_walk.node_ok.Statement.{statement}
+use Rattle.tree_check.proofs.tree_walk.node_ok.Tie as tie
+
+returns : tie.Need-returns
+returns c = ((λ e. absurd (false≢true e)), λ p. let apart = p .apart in absurd (omega arith))
+
+leads-to-requires : tie.Need-leads-to-requires
+leads-to-requires c κs =
+    let ready = c .before .before .before .pre .2 in
+    let small = ready .small in
+    (omega arith, λ bytes. omega (arith, ready .places bytes))
+
+mul-zero-part : tie.Need-mul-zero-part
+mul-zero-part c = search needs
+
+add-zero-part : tie.Need-add-zero-part
+add-zero-part c = search needs
+
+add-zero-part-2 : tie.Need-add-zero-part-2
+add-zero-part-2 c = search needs
+
+mul-zero-part-2 : tie.Need-mul-zero-part-2
+mul-zero-part-2 c = search needs
+
+zero-part-requires : tie.Need-zero-part-requires
+zero-part-requires c κs = search needs
+
+-- no free block touches the one before
+apart : (c : tie.Joined1) → (let a = c .before .before .before .args in earliest (a .k) ≤ a .c)
+apart c = let low = c .before .before .before .pre .0 in ⊎-elim (λ w. omega arith) (λ w. omega arith) (c .if1 .came)
+
+returns-2 : tie.Need-returns-2
+returns-2 c = placed _ _ (apart (c .before .before)) (c .before .leads-to .ensures) (c .zero-part .ensures)
+
+pub node-ok-spec : {M : Type 1} → statement M
+node-ok-spec =
+    tie.close
+    (tie.spec
+    returns
+    leads-to-requires
+    mul-zero-part
+    add-zero-part
+    add-zero-part-2
+    mul-zero-part-2
+    zero-part-requires
+    returns-2)

@@ -1,0 +1,162 @@
+// The map of a table's records: of each, the cells that it holds, in a row from its first cell on. Free blocks are held
+// against it: what lies between two of them has to be records.
+// Slices are lent on as `&*slice`, which keeps pointer and length in registers (docs/DECISIONS.md, what crosses calls).
+use ledger::Row;
+use ledger::Rule;
+ghost use mathlib.Core.Path.{_≡_};
+ghost use mathlib.Core.Bool.{true, false};
+ghost use mathlib.Core.Logic.{_≢_};
+ghost use Prim.Native.Nat.{ℕ, _+_, _*_, _/_, _<_, _≤_};
+ghost use lib.ListN.{length};
+ghost use Rattle.words.specs.Lists.{all, isZero};
+ghost use Rattle.ledger.specs.Records.{slots, recordsOf};
+ghost use Rattle.ledger.specs.Units.{first, valid};
+ghost use Rattle.tree_check.specs.Maps.{pairAt, isEntries, cellRule, Next, Leads, Says, Roomy, Grows, most};
+ghost use Rattle.tree_check.specs.Maps.{Mapped};
+
+// ---- entries
+
+// A map of 384 bytes has an entry of four bytes for each record: its first cell and its cells, each as two bytes, the
+// lower one first. An entry with no cells is empty. An arena that is large for its records gets such a map, because a
+// map with a byte for each cell is wiped on every call.
+
+// Two bytes as one number.
+fn pair_at(map: &[u8], i: usize) -> usize
+    requires { ⌜ i + 1 < length (now map) ⌝ }
+    ensures { λ r. ⌜ (r < 65536) × (r ≡ pairAt (now (map .entry)) i) ⌝ }
+{
+    map[i] as usize + 256 * map[i + 1] as usize
+}
+
+// The cells of an entry for the record from cell k on, 0 if there is none. The search begins where entries for cell k
+// begin, and ends at an empty one.
+fn entry_for(map: &[u8], k: usize) -> usize
+    requires { ⌜ isEntries (now map) ≡ true ⌝ }
+    ensures { λ n. ⌜ (n < 65536) × (0 < n → Next (now (map .entry)) k n) ⌝ }
+    ensures { λ n. ⌜ ((x : ℕ) → Next (now (map .entry)) k x → n ≡ x) ⌝ }
+{
+    let mut i = 4 * (k / 128);
+    while i + 3 < map.len() {
+        let n = pair_at(map, i + 2);
+        if n == 0 {
+            return 0;
+        }
+        if pair_at(map, i) == k {
+            return n;
+        }
+        i += 4;
+    }
+    0
+}
+
+// Writes an entry for n cells from cell lo on, where the first empty one is. Should all be taken, nothing is written.
+fn note_entry(map: &mut [u8], lo: usize, n: usize)
+    requires { ⌜ (lo < 65536) × (0 < n) × (n < 65536) × (isEntries (now map) ≡ true) ⌝ }
+    ensures { λ _. ⌜ Grows (now (map .entry)) (now (map .exit)) lo n ⌝ }
+{
+    let mut i = 4 * (lo / 128);
+    while i + 3 < map.len() {
+        if pair_at(&*map, i + 2) == 0 {
+            map[i] = (lo % 256) as u8;
+            map[i + 1] = (lo / 256) as u8;
+            map[i + 2] = (n % 256) as u8;
+            map[i + 3] = (n / 256) as u8;
+            return;
+        }
+        i += 4;
+    }
+}
+
+// ---- either map
+
+// How many cells from cell k on the map knows to be held, 0 if of none.
+fn span_at(map: &[u8], k: usize) -> usize
+    requires { ⌜ Roomy (now map) (k + 1) ⌝ }
+    ensures { λ n. ⌜ (n < 65536) × (0 < n → Next (now (map .entry)) k n) ⌝ }
+    ensures { λ n. ⌜ ((x : ℕ) → Next (now (map .entry)) k x → n ≡ x) ⌝ }
+{
+    if map.len() == 384 {
+        return entry_for(&*map, k);
+    }
+    map[k] as usize
+}
+
+// Whether records lead from cell lo to cell hi, without a cell left over.
+pub fn leads_to(map: &[u8], lo: usize, hi: usize) -> bool
+    requires { ⌜ (hi < 65536) × Roomy (now map) hi ⌝ }
+    ensures { λ b. ⌜ Says b (Leads (now (map .entry)) lo hi) ⌝ }
+{
+    let mut k = lo;
+    while k < hi {
+        let n = span_at(map, k);
+        if n == 0 {
+            return false;
+        }
+        k += n;
+    }
+    k == hi
+}
+
+// Writes that n cells from cell lo on are held. A byte counts no more than 255, so that the map is small; a longer
+// record stands in it several times.
+fn note_span(map: &mut [u8], lo: usize, n: usize)
+    requires { ⌜ (0 < n) × (lo + n ≤ length (now map)) × (isEntries (now map) ≡ false) ⌝ }
+    ensures { λ _. ⌜ Grows (now (map .entry)) (now (map .exit)) lo n ⌝ }
+{
+    let mut at = lo;
+    let mut left = n;
+    while 255 < left {
+        map[at] = 255;
+        at += 255;
+        left -= 255;
+    }
+    map[at] = left as u8;
+}
+
+// The same in either map, for a record of n cells. An empty one has none, though its address is cell 0's.
+fn note_row(map: &mut [u8], rule: Rule, r: Row, n: usize)
+    requires { ⌜ (0 < rule .unit) × (n ≢ 0 → (first rule r + n < 65536) × Roomy (now map) (first rule r + n)) ⌝ }
+    ensures { λ _. ⌜ Grows (now (map .entry)) (now (map .exit)) (first rule r) n ⌝ }
+{
+    if n == 0 {
+        return;
+    }
+    let lo = record_table::first_unit(rule, r);
+    if map.len() == 384 {
+        note_entry(&mut *map, lo, n);
+        return;
+    }
+    note_span(&mut *map, lo, n);
+}
+
+// Enters all slots, and the records in a map that is all zero. Their cells together, or more than the arena's words if
+// a slot may not be entered, or they have more cells together than that: so no more is noted than the arena has room for.
+pub fn map_rows(
+    next: u32,
+    table: &[u32],
+    words: usize,
+    map: &mut [u8],
+    seen: &mut [u8],
+    m: usize,
+) -> usize
+    requires { ⌜ (slots (now table) ≤ 256) × (words ≤ 16384) × Roomy (now map) (words / 2) ⌝ }
+    requires { ⌜ (all isZero (now map) ≡ true) × (0 < m) × (length (now seen) ≡ m) ⌝ }
+    requires { ⌜ slots (now table) ≤ most (now map) ⌝ }
+    ensures { λ r. ⌜ (r ≤ words → Mapped words next (now (table .entry)) r (now (map .exit))) ⌝ }
+    ensures { λ r. ⌜ (valid cellRule words next (recordsOf (now (table .entry))) ≡ true → r ≤ words) ⌝ }
+{
+    let rule = Rule { unit: 2, lead: 0 };
+    let mut held: usize = 0;
+    let mut i = 0;
+    while i < table.len() / 3 {
+        let r = record_table::read_row(table, i);
+        let n = tiling::enter_row(rule, words, next, table, i, r, &mut *seen, m);
+        if words - held < n {
+            return words + 1;
+        }
+        note_row(&mut *map, rule, r, n);
+        held += n;
+        i += 1;
+    }
+    held
+}

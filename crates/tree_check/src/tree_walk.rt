@@ -1,0 +1,106 @@
+// The walk of the free tree, over any memory (01, "The soundness check visits the tree left part, node, right part").
+use crate::record_map::leads_to;
+use free_tree::left_of;
+use free_tree::length_of;
+use free_tree::right_of;
+ghost use Prim.Native.Nat.{_+_, _<_, _≤_};
+ghost use Rattle.tree_check.specs.Maps.{Says};
+ghost use Rattle.tree_check.specs.Walk.{Ready, Between, Placed, Found, Passes};
+
+// Whether a block of z cells at cell c lies between cells k and hi, and is shorter than the limit.
+fn is_between(k: usize, hi: usize, limit: usize, c: usize, z: usize) -> bool
+    requires { ⌜ c < hi ⌝ }
+    ensures { λ r. ⌜ Says r (Between k hi limit c z) ⌝ }
+{
+    if c < k {
+        return false;
+    }
+    if z == 0 {
+        return false;
+    }
+    if limit <= z {
+        return false;
+    }
+    z <= hi - c
+}
+
+// Whether the node of z cells at cell c follows records that begin at cell k, with zeros behind its two words. Free
+// blocks that touch are none, but nothing lies before cell 0.
+fn node_ok(arena: &[u32], map: &[u8], k: usize, c: usize, z: usize) -> bool
+    requires { ⌜ (k ≤ c) × (1 ≤ z) × Ready (now arena) (now map) (c + z) ⌝ }
+    ensures { λ r. ⌜ Says r (Placed (now (arena .entry)) (now (map .entry)) k c z) ⌝ }
+{
+    if c == k {
+        if k != 0 {
+            return false;
+        }
+    }
+    leads_to(map, k, c) & words::zero_part(arena, 2 * c + 2, 2 * (c + z))
+}
+
+// Left part, node, right part: whether the blocks of the tree at the link, each shorter than the limit, lie apart from
+// cell k on, with records between them, and end at cell hi or before. Nodes to the left have to be shorter than their
+// father, those to the right no longer. Answers the cell past the last block, k if there is none, or a number above hi
+// if something is wrong; if nothing is, the blocks' cells have been added to `*free`. One number comes back in a
+// register, where a struct would come through memory. On any memory the walk ends, and its calls lie in each other no
+// deeper than allowed, because each takes one; they are few, because a node lies between k and hi, its left part before
+// it and its right part behind it. The map is passed on as it stands, for both calls then share one copy of its slice
+// in the frame, where `&*map` would make two.
+pub fn walk(
+    arena: &[u32],
+    map: &[u8],
+    link: usize,
+    limit: usize,
+    k: usize,
+    hi: usize,
+    free: &mut usize,
+    allowed: usize,
+) -> usize
+    requires { ⌜ Ready (now arena) (now map) hi ⌝ }
+    requires { ⌜ (k ≤ hi) × (now free ≤ k) ⌝ }
+    ensures { λ r. ⌜ (r ≤ hi → Found (now (arena .entry)) (now (map .entry)) hi link limit k
+        (now (free .entry)) r (now (free .exit))) ⌝ }
+    ensures { λ r. ⌜ Passes (now (arena .entry)) (now (map .entry)) hi link limit k allowed (now (free .entry)) r
+        (now (free .exit)) ⌝ }
+{
+    if link == 0 {
+        return k;
+    }
+    if hi < link {
+        return hi + 1;
+    }
+    if allowed == 0 {
+        return hi + 1;
+    }
+    let c = link - 1;
+    let z = length_of(arena, c) as usize;
+    if !is_between(k, hi, limit, c, z) {
+        return hi + 1;
+    }
+    let lower = left_of(arena, c);
+    let mut next = k;
+    if lower != 0 {
+        next = walk(&*arena, map, lower, z, k, c, &mut *free, allowed - 1);
+        if c < next {
+            return hi + 1;
+        }
+    }
+    if !node_ok(&*arena, &*map, next, c, z) {
+        return hi + 1;
+    }
+    *free += z;
+    let upper = right_of(arena, c);
+    if upper == 0 {
+        return c + z;
+    }
+    walk(
+        &*arena,
+        map,
+        upper,
+        z + 1,
+        c + z,
+        hi,
+        &mut *free,
+        allowed - 1,
+    )
+}

@@ -7,7 +7,7 @@ use lib.Dec.{eqb, ltb}
 use Rattle.ledger.specs.Records.{full}
 use Rattle.calls.specs.Pool.{Pool, ledger, Engine}
 use Rattle.calls.specs.Step.{refusal, Act, ask, fitOf, numberOf, answerTo, poolAfter}
-use Rattle.calls.proofs.ActLaws.{act-refused}
+use Rattle.calls.proofs.ActLaws.{act-refused, number-two, number-three, number-four, number-five}
 
 -- refused by x: the answer, and the pool as it was
 abbrev pub RefusedBy : Engine → Pool → Act → ℕ → Type 0
@@ -21,19 +21,15 @@ module _ (E : Engine) (p : Pool) where
 
   module _ (n : ℕ) where
     pub ask-two : (eqb n 0 || ltb (E .limit (p .shape)) n) ≡ true → RefusedBy E p (ask n) 2
-    unfolding numberOf
-    ask-two size = refused-by (ask n) 2 (rw size) refl
+    ask-two size = refused-by (ask n) 2 (number-two E p n size) refl
 
     module _ (size : (eqb n 0 || ltb (E .limit (p .shape)) n) ≡ false) where
       pub ask-three : full (ledger p) ≡ true → RefusedBy E p (ask n) 3
-      unfolding numberOf
-      ask-three slot = refused-by (ask n) 3 (rw (size, slot)) refl
+      ask-three slot = refused-by (ask n) 3 (number-three E p n size slot) refl
 
       module _ (slot : full (ledger p) ≡ false) where
         pub ask-four : eqb (p .head .next) 0 ≡ true → RefusedBy E p (ask n) 4
-        unfolding numberOf
-        ask-four ticket = refused-by (ask n) 4 (rw (size, slot, ticket)) refl
+        ask-four ticket = refused-by (ask n) 4 (number-four E p n size slot ticket) refl
 
         pub ask-five : eqb (p .head .next) 0 ≡ false → fitOf E p n ≡ none → RefusedBy E p (ask n) 5
-        unfolding numberOf
-        ask-five ticket fit = refused-by (ask n) 5 (rw (size, slot, ticket, fit, numberOf)) refl
+        ask-five ticket fit = refused-by (ask n) 5 (number-five E p n size slot ticket fit) refl

@@ -1,6 +1,6 @@
 -- Laws of the shared parts of the calls.
 pub mod NamedLaws
 pub mod ListLaws
-pub mod GateLaws
+pub mod FindLaws
 pub mod AskLaws
 pub mod WholeLists

@@ -1,16 +1,17 @@
 -- A list call as a whole, over any engine: what a list that suits has, a list that does not, and the shape that no act
 -- changes. Assumes nothing.
 use Prim.Native.Nat.{_%_, _≤_}
+use native.Mathlib.Omega.{arith}
 use mathlib.Core.Path.{_≡_, refl, sym, _∙_}
-use mathlib.Core.Logic.{_≢_}
 use mathlib.Core.Bool.{true, false, _&&_, false≢true}
 use lib.Dec.{eqb, leb}
 use lib.ListN.{length}
 use Rattle.words.specs.Lists.{Words}
-use Rattle.words.proofs.Tests.{and-l, and-r, eqb-eq, le-of}
+use Rattle.words.proofs.Tests.{and-l, and-r, eqb-eq, le-of, false-of}
 use Rattle.calls.specs.Pool.{Pool, Engine, store, lengths}
-use Rattle.calls.specs.Step.{Act, bad, list, grant, numberOf, poolAfter, listSuits, Outcome, refusedWhole, step}
-use Rattle.calls.proofs.ActLaws.{act-by, Way, eight, one, runs, way}
+use Rattle.calls.specs.Step.{Act, bad, list, grant, numberOf, poolAfter, listSuits, refusedBy, step}
+use Rattle.calls.proofs.ActLaws.{act-by}
+use Rattle.calls.proofs.GateLaws.{gate-number, step-stops}
 use Rattle.call_parts.proofs.AskLaws.{RefusedBy, refused-by}
 
 pub suited-lengths : (rs bs : Words) → listSuits rs bs ≡ true → (length rs % 4 ≡ 0) × (length rs ≤ length bs)
@@ -30,16 +31,13 @@ module _ (E : Engine) where
   pub same-shape : (p : Pool) (a : Act) → poolAfter E p a .shape ≡ p .shape
   unfolding store grant
   same-shape =
-      act-by E (λ (p : Pool) (a : Act) (q : Pool). q .shape ≡ p .shape) (λ p a. refl) (λ p n k h. refl) (λ p r h. refl)
+      act-by E (λ (p : Pool) (a : Act) (q : Pool). q .shape ≡ p .shape) (λ p a. refl) (λ p n k h. refl)
+      (λ p x r h. refl)
 
   pub unsuited-list : (p : Pool) (rs bs : Words) → listSuits rs bs ≡ false
-      → step E (list rs bs) p ≡ refusedWhole (list rs bs) p 8
-  unsuited-list p rs bs e = by (step E (list rs bs) p) (way E (list rs bs) p refl)
-    where
-      suited : (lengths E p && listSuits rs bs) ≢ true
-      suited k = false≢true (sym e ∙ and-r (lengths E p) (listSuits rs bs) k)
-
-      by : (o : Outcome) → Way E (list rs bs) p o → o ≡ refusedWhole (list rs bs) p 8
-      by o (eight k x) = x
-      by o (one k b x) = absurd (suited k)
-      by o (runs k b x) = absurd (suited k)
+      → step E (list rs bs) p ≡ refusedBy E (list rs bs) p 8
+  unsuited-list p rs bs e =
+      step-stops E (list rs bs) p 8
+      (gate-number E (list rs bs) p .eight .1
+      (false-of (lengths E p && listSuits rs bs) (λ k. false≢true (sym e ∙ and-r (lengths E p) (listSuits rs bs) k))))
+      (λ z. omega arith)

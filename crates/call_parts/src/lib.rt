@@ -7,7 +7,7 @@ ghost use Prim.Native.Nat.{_+_, _*_, _≤_, _<_};
 ghost use lib.ListN.{length, getD, set};
 ghost use Rattle.ledger.specs.Records.{recordsOf};
 ghost use Rattle.calls.specs.Pool.{nextAfter};
-ghost use Rattle.calls.specs.Step.{granted, refusal, listSuits};
+ghost use Rattle.calls.specs.Step.{success, refusal, listSuits};
 ghost use Rattle.call_parts.specs.Parts.{namedIn, actOf, requestAt, withAnswer};
 
 // A refusal: ticket, address and words are 0.
@@ -24,7 +24,7 @@ pub fn refused(number: u32) -> Answer
 
 // Success, with the record's three.
 pub fn succeeded(named: Row) -> Answer
-    ensures { λ r. ⌜ r ≡ granted named ⌝ }
+    ensures { λ r. ⌜ r ≡ success named ⌝ }
 {
     Answer {
         number: 0,

@@ -1,25 +1,22 @@
--- Laws of one act and of the step: what an act answers and leaves, done or refused, and which way a call goes.
--- Assumes nothing.
+-- Laws of one act: what it answers and leaves, done or refused. Assumes nothing.
 use Prim.Native.Nat.{ℕ}
 use native.Mathlib.Omega.{arith}
 use native.Mathlib.Decide.{ℕ-discrete}
 use mathlib.Core.Path.{_≡_, refl, sym, ap, _∙_, subst}
 use mathlib.Core.Logic.{_≢_}
-use mathlib.Core.Bool.{Bool, true, false, cond, _&&_, _||_, true≢false}
-use mathlib.Core.List.{[], _∷_}
+use mathlib.Core.Bool.{Bool, true, false, cond, _||_}
+use mathlib.Core.List.{List, [], _∷_, _++_}
 use mathlib.Core.Option.{Option, none, some}
 use lib.Dec.{eqb, ltb}
-use Rattle.words.specs.Lists.{Words}
-use Rattle.words.proofs.Tests.{and-l, and-r, and-i, eqb-eq, eqb-same, eqb-ne}
+use Rattle.words.proofs.Tests.{and-l, and-r, eqb-eq, eqb-same, eqb-ne, absurd-some}
 use Rattle.ledger.specs.declared.Row.{Row}
-use Rattle.ledger.specs.Records.{Ledger, recordOf, sameBlock, full, vacate, member, settle}
+use Rattle.ledger.specs.Records.{Ledger, recordOf, sameBlock, full, Plan, vacate}
 use Rattle.ledger.proofs.RecordLaws.{record-ticket}
 use Rattle.calls.specs.declared.Answer.{Answer}
-use Rattle.calls.specs.Pool.{Pool, ledger, Engine, store, lengths, stored, sound}
-use Rattle.calls.specs.Step.{Call, format, allocate, release, find, look, list, granted, refusal, accepted, Act}
-use Rattle.calls.specs.Step.{ask, give, query, bad, Outcome, named, fitOf, numberOf, newRow, grant, answerOf}
-use Rattle.calls.specs.Step.{poolOf, answerTo, poolAfter, suits, refusedWhole, perform, checked, formatted}
-use Rattle.calls.specs.Step.{isFormat, step}
+use Rattle.calls.specs.Pool.{Pool, ledger, Engine}
+use Rattle.calls.specs.Step.{success, refusal, accepted, Act, ask, give, query, bad, Kind, plans, reads}
+use Rattle.calls.specs.Step.{others, kindOf, named, fitOf, numberOf, newRow, grant, carry, answerDone, poolDone}
+use Rattle.calls.specs.Step.{answerTo, poolAfter, countedOf, poolAfterAll}
 
 -- ---- the number of release and find
 
@@ -55,6 +52,10 @@ named-zero L r z = go (recordOf (r .ticket) L) refl
 
 -- ---- one act
 
+-- the act that carries out a plan on the record r
+abbrev pub planned : Plan → Row → Act
+planned vacate r = give r
+
 -- what a request that gets the number 0 says: every test of its rows fails
 pub record Asked (E : Engine) (p : Pool) (n k : ℕ) : Type 0 where
   pub size : (eqb n 0 || ltb (E .limit (p .shape)) n) ≡ false
@@ -63,7 +64,7 @@ pub record Asked (E : Engine) (p : Pool) (n k : ℕ) : Type 0 where
   pub fit : fitOf E p n ≡ some k
 
 module _ (E : Engine) (p : Pool) where
-  pub act-done : (a : Act) → numberOf E p a ≡ 0 → (answerTo E p a ≡ answerOf E p a) × (poolAfter E p a ≡ poolOf E p a)
+  pub act-done : (a : Act) → numberOf E p a ≡ 0 → (answerTo E p a ≡ answerDone E p a) × (poolAfter E p a ≡ poolDone E p a)
   unfolding answerTo poolAfter
   act-done a z = (rw z, rw z)
 
@@ -71,6 +72,30 @@ module _ (E : Engine) (p : Pool) where
       → (answerTo E p a ≡ refusal (numberOf E p a)) × (poolAfter E p a ≡ p)
   unfolding answerTo poolAfter
   act-refused a z = (rw (eqb-ne (numberOf E p a) 0 z), rw (eqb-ne (numberOf E p a) 0 z))
+
+  -- the number of a request, test by test: 2, 3, 4, 5 or 0
+  module _ (n : ℕ) where
+    pub number-two : (eqb n 0 || ltb (E .limit (p .shape)) n) ≡ true → numberOf E p (ask n) ≡ 2
+    unfolding numberOf
+    number-two size = rw size
+
+    module _ (size : (eqb n 0 || ltb (E .limit (p .shape)) n) ≡ false) where
+      pub number-three : full (ledger p) ≡ true → numberOf E p (ask n) ≡ 3
+      unfolding numberOf
+      number-three slot = rw (size, slot)
+
+      module _ (slot : full (ledger p) ≡ false) where
+        pub number-four : eqb (p .head .next) 0 ≡ true → numberOf E p (ask n) ≡ 4
+        unfolding numberOf
+        number-four ticket = rw (size, slot, ticket)
+
+        pub number-five : eqb (p .head .next) 0 ≡ false → fitOf E p n ≡ none → numberOf E p (ask n) ≡ 5
+        unfolding numberOf
+        number-five ticket fit = rw (size, slot, ticket, fit, numberOf)
+
+  pub zero-ask : (n k : ℕ) → Asked E p n k → numberOf E p (ask n) ≡ 0
+  unfolding numberOf
+  zero-ask n k a = rw (a .size, a .slot, a .ticket, a .fit)
 
   pub ask-zero : (n : ℕ) → numberOf E p (ask n) ≡ 0 → (k : ℕ) × Asked E p n k
   unfolding numberOf
@@ -87,26 +112,22 @@ module _ (E : Engine) (p : Pool) where
       go false s false t false u none f h = absurd (omega arith)
       go false s false t false u (some k) f h = (k, record { size = s; slot = t; ticket = u; fit = f })
 
-  pub zero-ask : (n k : ℕ) → Asked E p n k → numberOf E p (ask n) ≡ 0
-  unfolding numberOf
-  zero-ask n k a = rw (a .size, a .slot, a .ticket, a .fit)
-
   pub ask-done : (n k : ℕ) → Asked E p n k
-      → (answerTo E p (ask n) ≡ granted (newRow E p n k)) × (poolAfter E p (ask n) ≡ grant E p n k)
-  unfolding answerOf poolOf
+      → (answerTo E p (ask n) ≡ success (newRow E p n k)) × (poolAfter E p (ask n) ≡ grant E p n k)
+  unfolding answerDone poolDone
   ask-done n k a =
       let (x, y) = act-done (ask n) (zero-ask n k a) in
-      (x ∙ rw (a .fit, answerOf), y ∙ rw (a .fit, poolOf))
+      (x ∙ rw (a .fit, answerDone), y ∙ rw (a .fit, poolDone))
 
-  pub give-done : (r : Row) → recordOf (r .ticket) (ledger p) ≡ some r
-      → (answerTo E p (give r) ≡ granted r)
-      × (poolAfter E p (give r) ≡ store E (settle (member (r .ticket) vacate ∷ []) (ledger p)) (p .head .next) p)
-  unfolding numberOf answerOf poolOf
-  give-done r e = act-done (give r) (named-right (ledger p) r e)
+  -- a plan carried out on the record r
+  pub plan-done : (q : Plan) (r : Row) → recordOf (r .ticket) (ledger p) ≡ some r
+      → (answerTo E p (planned q r) ≡ success r) × (poolAfter E p (planned q r) ≡ carry E p (r .ticket) q)
+  unfolding numberOf answerDone poolDone
+  plan-done vacate r e = act-done (give r) (named-right (ledger p) r e)
 
   -- an act's answer has its number
   pub answer-number : (a : Act) → answerTo E p a .number ≡ numberOf E p a
-  unfolding numberOf answerOf
+  unfolding numberOf answerDone
   answer-number a = go a (ℕ-discrete (numberOf E p a) 0)
     where
       done : (a : Act) → numberOf E p a ≡ 0 → answerTo E p a .number ≡ 0
@@ -122,15 +143,15 @@ module _ (E : Engine) (p : Pool) where
   pub act-accepted : (a : Act) → accepted (answerTo E p a) ≡ eqb (numberOf E p a) 0
   act-accepted a = ap (λ n. eqb n 0) (answer-number a)
 
--- what holds of a pool that stays, of a grant and of a release holds of every act
+-- what holds of a pool that stays, of a grant and of a plan carried out holds of every act
 pub act-by : (E : Engine) (P : Pool → Act → Pool → Type 0)
     → ((p : Pool) (a : Act) → P p a p)
     → ((p : Pool) (n k : ℕ) → Asked E p n k → P p (ask n) (grant E p n k))
-    → ((p : Pool) (r : Row) → recordOf (r .ticket) (ledger p) ≡ some r
-    → P p (give r) (store E (settle (member (r .ticket) vacate ∷ []) (ledger p)) (p .head .next) p))
+    → ((p : Pool) (q : Plan) (r : Row) → recordOf (r .ticket) (ledger p) ≡ some r
+    → P p (planned q r) (carry E p (r .ticket) q))
     → (p : Pool) (a : Act) → P p a (poolAfter E p a)
-unfolding numberOf poolOf
-act-by E P stays grants gives p a = go a (ℕ-discrete (numberOf E p a) 0)
+unfolding numberOf poolDone
+act-by E P stays grants carries p a = go a (ℕ-discrete (numberOf E p a) 0)
   where
     go : (a : Act) → Dec (numberOf E p a ≡ 0) → P p a (poolAfter E p a)
     go a (no z) = subst (P p a) (sym (act-refused E p a z .1)) (stays p a)
@@ -139,51 +160,29 @@ act-by E P stays grants gives p a = go a (ℕ-discrete (numberOf E p a) 0)
         subst (P p (ask n)) (sym (ask-done E p n k h .1)) (grants p n k h)
     go (give r) (yes z) =
         let e = named-zero (ledger p) r z in
-        subst (P p (give r)) (sym (give-done E p r e .1)) (gives p r e)
+        subst (P p (give r)) (sym (plan-done E p vacate r e .1)) (carries p vacate r e)
     go (query r) (yes z) = subst (P p (query r)) (sym (act-done E p (query r) z .1)) (stays p (query r))
     go bad (yes z) = absurd (omega arith)
 
--- ---- which way a call goes
+-- each act is answered on the pool as the one before left it
+pub counted-append : (E : Engine) (xs ys : List Act) (p : Pool)
+    → countedOf E p (xs ++ ys) ≡ countedOf E p xs ++ countedOf E (poolAfterAll E p xs) ys
+counted-append E [] ys p = refl
+counted-append E (a ∷ xs) ys p = rw (counted-append E xs ys (poolAfter E p a))
 
-pub data Way (E : Engine) (c : Call Words) (p : Pool) (o : Outcome) : Type 0 where
-  eight : (lengths E p && suits c) ≡ false → o ≡ refusedWhole c p 8 → Way E c p o
-  one : (lengths E p && suits c) ≡ true → stored E p ≡ false → o ≡ refusedWhole c p 1 → Way E c p o
-  runs : (lengths E p && suits c) ≡ true → stored E p ≡ true → o ≡ perform E c p → Way E c p o
+-- ---- the kind of an act
 
-module _ (E : Engine) where
-  checked-way : (c : Call Words) (p : Pool) → Way E c p (checked E c p)
-  unfolding checked
-  checked-way c p = go (lengths E p && suits c) refl (stored E p) refl
-    where
-      go : (a : Bool) → (lengths E p && suits c) ≡ a → (b : Bool) → stored E p ≡ b → Way E c p (checked E c p)
-      go false x b y = eight x (rw x)
-      go true x false y = one x y (rw (x, y))
-      go true x true y = runs x y (rw (x, y))
+-- an act that carries out a plan is the plan's act
+abbrev backTo : Kind → Option Act
+backTo (plans q r) = some (planned q r)
+backTo reads = none
+backTo others = none
 
-  -- what holds of format and of each way of the other calls holds of the step
-  pub step-by : (P : Call Words → Pool → Outcome → Type 0) → ((p : Pool) → P format p (formatted E p))
-      → ((c : Call Words) (p : Pool) (o : Outcome) → isFormat c ≡ false → Way E c p o → P c p o)
-      → (c : Call Words) (p : Pool) → P c p (step E c p)
-  unfolding step
-  step-by P f g format p = f p
-  step-by P f g (allocate n) p = g (allocate n) p (checked E (allocate n) p) refl (checked-way (allocate n) p)
-  step-by P f g (release r) p = g (release r) p (checked E (release r) p) refl (checked-way (release r) p)
-  step-by P f g (find r) p = g (find r) p (checked E (find r) p) refl (checked-way (find r) p)
-  step-by P f g (look r hold) p = g (look r hold) p (checked E (look r hold) p) refl (checked-way (look r hold) p)
-  step-by P f g (list rs bs) p = g (list rs bs) p (checked E (list rs bs) p) refl (checked-way (list rs bs) p)
-
-  pub way : (c : Call Words) (p : Pool) → isFormat c ≡ false → Way E c p (step E c p)
-  way = step-by (λ c p o. isFormat c ≡ false → Way E c p o) (λ p h. absurd (true≢false h)) (λ c p o f w h. w)
-
-  pub step-sound : (c : Call Words) (p : Pool) → isFormat c ≡ false → suits c ≡ true → sound E p ≡ true
-      → step E c p ≡ perform E c p
-  unfolding sound
-  step-sound c p f s ok = go (step E c p) (way c p f)
-    where
-      right : (lengths E p && suits c) ≡ true
-      right = and-i (lengths E p) (suits c) (and-l (lengths E p) (stored E p) ok) s
-
-      go : (o : Outcome) → Way E c p o → o ≡ perform E c p
-      go o (eight x e) = absurd (true≢false (sym right ∙ x))
-      go o (one x y e) = absurd (true≢false (sym (and-r (lengths E p) (stored E p) ok) ∙ y))
-      go o (runs x y e) = e
+pub kind-plans : (a : Act) (q : Plan) (r : Row) → kindOf a ≡ plans q r → a ≡ planned q r
+kind-plans a q r e = go a (ap backTo e)
+  where
+    go : (a : Act) → backTo (kindOf a) ≡ some (planned q r) → a ≡ planned q r
+    go (give s) x = cc
+    go (ask n) x = absurd (absurd-some x)
+    go (query s) x = absurd (absurd-some x)
+    go bad x = absurd (absurd-some x)

@@ -3,46 +3,40 @@ use Prim.Native.Nat.{ℕ, zero, _%_, _≤_}
 use native.Mathlib.Omega.{arith}
 use mathlib.Core.Path.{_≡_, refl, sym, ap, _∙_, subst}
 use mathlib.Core.Logic.{_≢_, _↔_, inl}
-use mathlib.Core.Bool.{Bool, true, false, cond, not, _&&_, _||_, true≢false, false≢true, and-true}
+use mathlib.Core.Bool.{Bool, true, false, cond, not, _&&_, _||_, true≢false, false≢true}
 use mathlib.Core.Option.{Option, none, some}
 use lib.Dec.{eqb, ltb}
 use lib.ListN.{length}
+use Rattle.words.specs.Flags.{Says}
 use Rattle.words.specs.Lists.{Words}
 use Rattle.words.proofs.Tests.{and-l, and-r, and-i, eqb-eq, eqb-ne, eqb-false, false-of, le-of, of-le, absurd-some}
 use Rattle.ledger.specs.declared.Row.{Row}
 use Rattle.ledger.specs.Records.{recordOf, sameBlock, full}
 use Rattle.calls.specs.declared.Answer.{Answer}
 use Rattle.calls.specs.Pool.{Pool, ledger, wordCount, Engine, Laws, StoredForm, ruleOf, lengths, stored, sound}
-use Rattle.calls.specs.Step.{formatRefused, Call, format, allocate, release, find, look, list, refusal, sliceOf}
-use Rattle.calls.specs.Step.{accepted, arenaPart, placeholder, Act, ask, give, query, bad, Outcome, named, fitOf}
-use Rattle.calls.specs.Step.{numberOf, answerTo}
-use Rattle.calls.specs.Step.{poolAfter, buffersOf, suits, listSuits, refusedWhole, perform, checked, formatted}
-use Rattle.calls.specs.Step.{isFormat, step}
+use Rattle.calls.specs.Step.{Call, format, single, find, look, list, refusal, accepted, arenaPart, placeholder}
+use Rattle.calls.specs.Step.{Act, ask, give, query, bad, Outcome, listSuits, named, fitOf, numberOf, answerTo}
+use Rattle.calls.specs.Step.{poolAfter, buffersOf, suits, fills, shownBy, gate, refusedHead, refusedBy, actsDone}
+use Rattle.calls.specs.Step.{behind, perform, step}
 use Rattle.calls.specs.Demand1.{BadSize, NoRecord, NoTicket, NoRoom, Unknown, Same, AskNumbers, NameNumbers}
-use Rattle.calls.specs.Demand1.{ActNumbers, refusedHead, Refused, Performed, Kinds, Demand1}
+use Rattle.calls.specs.Demand1.{ActNumbers, Refused, Performed, RequestForms, Demand1}
 use Rattle.calls.proofs.StoreLaws.{sound-valid, sound-form}
 use Rattle.calls.proofs.RowLaws.{size-test, record-test, ticket-test, room-test, unknown-test, record-same}
 use Rattle.calls.proofs.RowLaws.{same-record}
 use Rattle.calls.proofs.ActLaws.{named-none, named-some, named-right, named-zero, act-refused, answer-number}
-use Rattle.calls.proofs.ActLaws.{Way, eight, one, runs, step-by, step-sound}
-use Rattle.calls.proofs.CallLaws.{query-kept}
-
--- two statements that both hold, or of which neither does
-both : {P Q : Type 0} → P → Q → P ↔ Q
-both p q = (λ h. q, λ h. p)
-
-neither : {P Q : Type 0} → (P → ⊥) → (Q → ⊥) → P ↔ Q
-neither f g = (λ p. absurd (f p), λ q. absurd (g q))
+use Rattle.calls.proofs.ActLaws.{counted-append}
+use Rattle.calls.proofs.GateLaws.{Way, stops, runs, way, both, neither, gate-number, step-sound}
+use Rattle.calls.proofs.CallLaws.{reads-kept}
 
 -- a test that fails, and what it says
-off : {P : Type 0} → (false ≡ true) ↔ P → P → ⊥
+off : {P : Type 0} → Says false P → P → ⊥
 off t h = false≢true (t .1 h)
 
 -- ---- the numbers of one act
 
 -- the tests of rows 2 to 5, in their order, each with what it says
 ask-rows : (E : Engine) (p : Pool) (n : ℕ) (a b c : Bool) (o : Option ℕ)
-    → (a ≡ true) ↔ BadSize E p n → (b ≡ true) ↔ NoRecord p → (c ≡ true) ↔ NoTicket p → (o ≡ none) ↔ NoRoom E p n
+    → Says a (BadSize E p n) → Says b (NoRecord p) → Says c (NoTicket p) → (o ≡ none) ↔ NoRoom E p n
     → AskNumbers E p n (cond a 2 (cond b 3 (cond c 4 (elim o [ none ↦ 5 | some k ↦ 0 ]))))
 ask-rows E p n true b c o s r t f =
     let wrong = s .0 refl in
@@ -160,31 +154,23 @@ module _ (E : Engine) where
       let (x, y) = act-refused E p a (λ z. eqb-false (answerTo E p a .number) 0 h (n ∙ z)) in
       (x ∙ ap refusal (sym n), y)
 
-  -- as a whole, by 8 or 1
-  refused-whole : (c : Call Words) (p : Pool) (n : ℕ) → isFormat c ≡ false → Refused E c p (refusedWhole c p n)
-  refused-whole c p n f =
-      record {
-        answer = refl;
-        head = go c f;
-        shape = refl;
-        arena = refl;
-        table = refl;
-        index = refl;
-        buffers = refl;
-        shown = refl;
-      }
-    where
-      go : (c : Call Words) → isFormat c ≡ false → p .head ≡ refusedHead E c p
-      go format f = absurd (true≢false f)
-      go (allocate n) f = refl
-      go (release r) f = refl
-      go (find r) f = refl
-      go (look r hold) f = refl
-      go (list rs bs) f = refl
+  -- by the gate
+  refused-gate : (c : Call Words) (p : Pool) (n : ℕ) → Refused E c p (refusedBy E c p n)
+  refused-gate c p n = record {
+    answer = refl;
+    head = refl;
+    shape = refl;
+    arena = refl;
+    table = refl;
+    index = refl;
+    buffers = refl;
+    shown = refl;
+  }
 
   -- by its one act
-  refused-one : (c : Call Words) (p : Pool) (a : Act) (o : Outcome) → isFormat c ≡ false → o .answer ≡ answerTo E p a
-      → o .pool ≡ poolAfter E p a → o .buffers ≡ buffersOf c → o .shown ≡ sliceOf c (o .answer)
+  refused-one : (c : Call Words) (p : Pool) (a : Act) (o : Outcome) → refusedHead E c p ≡ p .head
+      → o .answer ≡ answerTo E p a
+      → o .pool ≡ poolAfter E p a → o .buffers ≡ buffersOf c → o .shown ≡ shownBy c (o .answer)
       → accepted (answerTo E p a) ≡ false → Refused E c p o
   refused-one c p a o f x y z w h =
       let (u, v) = refused-act p a h in
@@ -192,58 +178,32 @@ module _ (E : Engine) where
       let zeros : o .answer ≡ refusal (o .answer .number) = x ∙ u ∙ ap (λ (k : Answer). refusal (k .number)) (sym x) in
       record {
         answer = zeros;
-        head = ap (λ (q : Pool). q .head) kept ∙ refused-whole c p 0 f .head;
+        head = ap (λ (q : Pool). q .head) kept ∙ sym f;
         shape = ap (λ (q : Pool). q .shape) kept;
         arena = ap (λ (q : Pool). q .arena) kept;
         table = ap (λ (q : Pool). q .table) kept;
         index = ap (λ (q : Pool). q .index) kept;
         buffers = z;
-        shown = w ∙ ap (sliceOf c) zeros;
+        shown = w ∙ ap (shownBy c) zeros;
       }
 
-  refused-run : (c : Call Words) (p : Pool) → isFormat c ≡ false → accepted (perform E c p .answer) ≡ false
-      → Refused E c p (perform E c p)
-  unfolding perform
-  refused-run format p f h = absurd (true≢false f)
-  refused-run (allocate n) p f h =
-      refused-one (allocate n) p (ask n) (perform E (allocate n) p) f refl refl refl refl h
-  refused-run (release r) p f h = refused-one (release r) p (give r) (perform E (release r) p) f refl refl refl refl h
-  refused-run (find r) p f h = refused-one (find r) p (query r) (perform E (find r) p) f refl refl refl refl h
-  refused-run (look r hold) p f h =
-      refused-one (look r hold) p (query r) (perform E (look r hold) p) f refl refl refl refl h
-  refused-run (list rs bs) p f h = absurd (true≢false h)
+  refused-run : (c : Call Words) (p : Pool) → accepted (perform E c p .answer) ≡ false → Refused E c p (perform E c p)
+  unfolding perform actsDone
+  refused-run format p h = absurd (true≢false h)
+  refused-run (single a) p h = refused-one (single a) p a (perform E (single a) p) refl refl refl refl refl h
+  refused-run (look r hold) p h =
+      refused-one (look r hold) p (query r) (perform E (look r hold) p) refl refl refl refl refl h
+  refused-run (list rs bs) p h = absurd (true≢false h)
 
-  format-refused : (p : Pool) → accepted (formatted E p .answer) ≡ false → Refused E format p (formatted E p)
-  unfolding formatted
-  format-refused p h = go (lengths E p) refl
+  refused-step : (c : Call Words) (p : Pool) → accepted (step E c p .answer) ≡ false → Refused E c p (step E c p)
+  refused-step c p h = by (step E c p) (way E c p) h
     where
-      whole : Refused E format p (formatRefused E p)
-      whole =
-          record {
-            answer = refl;
-            head = refl;
-            shape = refl;
-            arena = refl;
-            table = refl;
-            index = refl;
-            buffers = refl;
-            shown = refl;
-          }
-
-      go : (b : Bool) → lengths E p ≡ b → Refused E format p (formatted E p)
-      go true e = absurd (true≢false (sym (rw e) ∙ h))
-      go false e = rw e whole
+      by : (o : Outcome) → Way E c p o → accepted (o .answer) ≡ false → Refused E c p o
+      by o (stops n g z e) h = subst (Refused E c p) (sym e) (refused-gate c p n)
+      by o (runs g e) h =
+          subst (Refused E c p) (sym e) (refused-run c p (ap (λ (q : Outcome). accepted (q .answer)) (sym e) ∙ h))
 
   -- ---- 8 and 1
-
-  -- format gives 8 or succeeds
-  format-number : (p : Pool) → formatted E p .answer .number ≡ cond (lengths E p) 0 8
-  unfolding formatted
-  format-number p = go (lengths E p) refl
-    where
-      go : (b : Bool) → lengths E p ≡ b → formatted E p .answer .number ≡ cond (lengths E p) 0 8
-      go true e = rw e
-      go false e = rw e
 
   -- the numbers that an act can get: neither 8 nor 1
   ofAct : ℕ → Bool
@@ -276,73 +236,60 @@ module _ (E : Engine) where
       go (query r) = name r (recordOf (r .ticket) (ledger p))
       go bad = refl
 
-  run-number : (c : Call Words) (p : Pool) → isFormat c ≡ false
+  run-number : (c : Call Words) (p : Pool)
       → (perform E c p .answer .number ≢ 1) × (perform E c p .answer .number ≢ 8)
-  unfolding perform ofAct
-  run-number c p f = (
-    (λ e. false≢true (ap ofAct (sym e) ∙ go c f)),
-    (λ e. false≢true (ap ofAct (sym e) ∙ go c f)),
-  )
+  unfolding perform actsDone ofAct
+  run-number c p = ((λ e. false≢true (ap ofAct (sym e) ∙ go c)), (λ e. false≢true (ap ofAct (sym e) ∙ go c)))
     where
       acted : (a : Act) → ofAct (answerTo E p a .number) ≡ true
       acted a = ap ofAct (answer-number E p a) ∙ act-number p a
 
-      go : (c : Call Words) → isFormat c ≡ false → ofAct (perform E c p .answer .number) ≡ true
-      go format f = absurd (true≢false f)
-      go (allocate n) f = acted (ask n)
-      go (release r) f = acted (give r)
-      go (find r) f = acted (query r)
-      go (look r hold) f = acted (query r)
-      go (list rs bs) f = refl
+      go : (c : Call Words) → ofAct (perform E c p .answer .number) ≡ true
+      go format = refl
+      go (single a) = acted a
+      go (look r hold) = acted (query r)
+      go (list rs bs) = refl
 
-  eight-way : (c : Call Words) (p : Pool) (o : Outcome) → isFormat c ≡ false → Way E c p o
-      → (o .answer .number ≡ 8) ↔ ((lengths E p && suits c) ≡ false)
-  eight-way c p o f (eight x e) = both (ap numberIn e) x
-  eight-way c p o f (one x y e) =
-      let n = ap numberIn e in
-      neither (λ h. omega arith) (λ h. true≢false (sym x ∙ h))
-  eight-way c p o f (runs x y e) =
-      neither (λ h. run-number c p f .1 (ap numberIn (sym e) ∙ h)) (λ h. true≢false (sym x ∙ h))
-
-  eight-format : (p : Pool) → (formatted E p .answer .number ≡ 8) ↔ ((lengths E p && true) ≡ false)
-  eight-format p = rw (format-number p, and-true (lengths E p)) (go (lengths E p))
+  -- 8 and 1 come from the gate alone
+  gate-gives : (c : Call Words) (p : Pool) (n : ℕ) → n ≢ 0 → perform E c p .answer .number ≢ n
+      → (step E c p .answer .number ≡ n) ↔ (gate E c p ≡ n)
+  gate-gives c p n z other = by (step E c p) (way E c p)
     where
-      go : (b : Bool) → _≡_ {A = ℕ} (cond b 0 8) 8 ↔ (b ≡ false)
-      go true = neither (λ h. omega arith) true≢false
-      go false = both refl refl
+      by : (o : Outcome) → Way E c p o → (o .answer .number ≡ n) ↔ (gate E c p ≡ n)
+      by o (stops k g y e) = (λ h. g ∙ sym (ap numberIn e) ∙ h, λ h. ap numberIn e ∙ sym g ∙ h)
+      by o (runs g e) = neither (λ h. other (ap numberIn (sym e) ∙ h)) (λ h. z (sym h ∙ g))
 
-  refused-way : (c : Call Words) (p : Pool) (o : Outcome) → isFormat c ≡ false → Way E c p o
-      → accepted (o .answer) ≡ false → Refused E c p o
-  refused-way c p o f (eight x e) h = subst (Refused E c p) (sym e) (refused-whole c p 8 f)
-  refused-way c p o f (one x y e) h = subst (Refused E c p) (sym e) (refused-whole c p 1 f)
-  refused-way c p o f (runs x y e) h =
-      subst (Refused E c p) (sym e) (refused-run c p f (ap (λ (q : Outcome). accepted (q .answer)) (sym e) ∙ h))
+  then-iff : {P Q R : Type 0} → P ↔ Q → Q ↔ R → P ↔ R
+  then-iff f g = (λ h. g .0 (f .0 h), λ h. f .1 (g .1 h))
 
-  run-performed : (c : Call Words) (p : Pool) → Performed E c p (perform E c p)
-  unfolding perform
-  run-performed c p = record { counted = refl; pool = refl; answer = refl; shown = refl; buffers = refl }
+  eight-step : (c : Call Words) (p : Pool) → (step E c p .answer .number ≡ 8) ↔ ((lengths E p && suits c) ≡ false)
+  eight-step c p =
+      then-iff (gate-gives c p 8 (λ z. omega arith) (run-number c p .1)) (gate-number E c p .eight)
+
+  format-number : (p : Pool) → lengths E p ≡ true → step E format p .answer .number ≡ 0
+  unfolding step perform
+  format-number p e =
+      rw (gate-number E format p .zero .1 (and-i (lengths E p) true e refl, λ f. absurd (true≢false f)))
+
+  acts-performed : (c : Call Words) (p : Pool) → Performed E c p (actsDone E c p)
+  unfolding actsDone
+  acts-performed c p = record { counted = refl; pool = refl; answer = refl; shown = refl; buffers = refl }
 
   module _ (laws : Laws E) where
-    one-way : (c : Call Words) (p : Pool) (o : Outcome) → isFormat c ≡ false → Way E c p o
-        → (o .answer .number ≡ 1) ↔ ((isFormat c ≡ false) × ((lengths E p && suits c) ≡ true) × (StoredForm E p → ⊥))
+    one-step : (c : Call Words) (p : Pool) → (step E c p .answer .number ≡ 1)
+        ↔ ((fills c ≡ false) × ((lengths E p && suits c) ≡ true) × (StoredForm E p → ⊥))
     unfolding sound
-    one-way c p o f (eight x e) =
-        let n = ap numberIn e in
-        neither (λ h. omega arith) (λ h. true≢false (sym (h .1) ∙ x))
-    one-way c p o f (one x y e) =
-        both (ap numberIn e)
-        (f, x, λ s. true≢false (sym (and-r (lengths E p) (stored E p) (sound-form E laws p .1 s)) ∙ y))
-    one-way c p o f (runs x y e) =
-        let ok = and-i (lengths E p) (stored E p) (and-l (lengths E p) (suits c) x) y in
-        neither (λ h. run-number c p f .0 (ap numberIn (sym e) ∙ h)) (λ h. h .2 (sound-form E laws p .0 ok))
-
-    one-format : (p : Pool) → (formatted E p .answer .number ≡ 1)
-        ↔ ((true ≡ false) × ((lengths E p && true) ≡ true) × (StoredForm E p → ⊥))
-    one-format p = rw (format-number p) (neither (go (lengths E p)) (λ h. true≢false (h .0)))
-      where
-        go : (b : Bool) → _≡_ {A = ℕ} (cond b 0 8) 1 → ⊥
-        go true h = omega arith
-        go false h = omega arith
+    one-step c p =
+        then-iff (gate-gives c p 1 (λ z. omega arith) (run-number c p .0))
+        (then-iff (gate-number E c p .one) (
+          (λ h. (h .0, h .1, λ s. true≢false (sym (and-r (lengths E p) (stored E p) (sound-form E laws p .1 s)) ∙ h .2))),
+          (λ h. (
+            h .0,
+            h .1,
+            false-of (stored E p) (λ y. h .2 (sound-form E laws p .0
+                (and-i (lengths E p) (stored E p) (and-l (lengths E p) (suits c) (h .1)) y))),
+          )),
+        ))
 
 -- ---- look
 
@@ -354,26 +301,36 @@ Looked p r f o =
     × (accepted (f .answer) ≡ false → o .shown ≡ placeholder)
 
 looks-at : (E : Engine) (p : Pool) (r : Row) (hold : Words) → Looked p r (step E (find r) p) (step E (look r hold) p)
-unfolding step checked perform
+unfolding step gate behind perform actsDone
 looks-at E p r hold = go (lengths E p && true) (stored E p)
   where
     -- refused by 8 or 1, both show the placeholder
-    whole : (n : ℕ) → eqb n 0 ≡ false → Looked p r (refusedWhole (find r) p n) (refusedWhole (look r hold) p n)
-    whole n z = (refl, refl, λ h. absurd (false≢true (sym z ∙ h)), λ h. rw h)
+    stopped : (n : ℕ) → eqb n 0 ≡ false → Looked p r (refusedBy E (find r) p n) (refusedBy E (look r hold) p n)
+    stopped n z = (refl, refl, λ h. absurd (false≢true (sym z ∙ h)), λ h. rw h)
 
-    go : (a b : Bool)
-        → Looked p r
-        (cond a (cond b (perform E (find r) p) (refusedWhole (find r) p 1)) (refusedWhole (find r) p 8))
-        (cond a (cond b (perform E (look r hold) p) (refusedWhole (look r hold) p 1)) (refusedWhole (look r hold) p 8))
-    go true true = (refl, query-kept E p r, λ h. rw h, λ h. rw h)
-    go true false = whole 1 refl
-    go false b = whole 8 refl
+    by : Call Words → Bool → Bool → Outcome
+    by c a b =
+        let n : ℕ = cond a (cond b 0 1) 8 in
+        cond (eqb n 0) (perform E c p) (refusedBy E c p n)
+
+    go : (a b : Bool) → Looked p r (by (find r) a b) (by (look r hold) a b)
+    go true true = (refl, reads-kept E p (query r) refl, λ h. rw h, λ h. rw h)
+    go true false = stopped 1 refl
+    go false b = stopped 8 refl
+
+finds-at : (E : Engine) (p : Pool) (r : Row) → step E (find r) p .pool ≡ p
+unfolding perform actsDone
+finds-at E p r = by (step E (find r) p) (way E (find r) p)
+  where
+    by : (o : Outcome) → Way E (find r) p o → o .pool ≡ p
+    by o (stops n g z e) = ap (λ (q : Outcome). q .pool) e
+    by o (runs g e) = ap (λ (q : Outcome). q .pool) e ∙ reads-kept E p (query r) refl
 
 -- ---- lists
 
 -- spare words that are not zero, and a kind that is neither
-request-kinds : Kinds
-request-kinds =
+request-forms : RequestForms
+request-forms =
     record {
       asks = λ n. refl;
       gives = λ t a w. refl;
@@ -387,7 +344,7 @@ request-kinds =
         (eqb-eq k 1 (search (and-l, and-r)), eqb-eq y 0 (search (and-l, and-r)), eqb-eq z 0 (search (and-l, and-r))))
 
 list-lengths : (rs bs : Words)
-    → (listSuits rs bs ≡ true) ↔ ((length rs % 4 ≡ 0) × (length rs ≤ 4096) × (length rs ≤ length bs))
+    → Says (listSuits rs bs) ((length rs % 4 ≡ 0) × (length rs ≤ 4096) × (length rs ≤ length bs))
 list-lengths rs bs = (
   (λ h. (
     eqb-eq (length rs % 4) 0 (search (and-l, and-r)),
@@ -398,23 +355,18 @@ list-lengths rs bs = (
 )
 
 pub demand1 : (E : Engine) → Laws E → Demand1 E
-unfolding step
 demand1 E laws =
     record {
-      refused = step-by E (λ c p o. accepted (o .answer) ≡ false → Refused E c p o) (format-refused E) (refused-way E);
+      refused = refused-step E;
       refusedAct = refused-act E;
-      eight =
-          step-by E (λ c p o. (o .answer .number ≡ 8) ↔ ((lengths E p && suits c) ≡ false))
-          (eight-format E) (eight-way E);
-      one =
-          step-by E
-          (λ c p o. (o .answer .number ≡ 1)
-          ↔ ((isFormat c ≡ false) × ((lengths E p && suits c) ≡ true) × (StoredForm E p → ⊥)))
-          (one-format E laws) (one-way E laws);
-      formats = λ p e. format-number E p ∙ rw e;
-      performed = λ c p f s ok. subst (Performed E c p) (sym (step-sound E c p f s ok)) (run-performed E c p);
+      eight = eight-step E;
+      one = one-step E laws;
+      formats = format-number E;
+      performed = λ c p f s ok. subst (Performed E c p) (sym (step-sound E c p f s ok)) (acts-performed E c p);
       numbers = λ p a ok. subst (ActNumbers E p a) (sym (answer-number E p a)) (act-numbers E laws p a ok);
+      inTurn = λ p xs ys. counted-append E xs ys p;
+      finds = finds-at E;
       looks = looks-at E;
-      kinds = request-kinds;
+      requestForms = request-forms;
       listLengths = list-lengths;
     }

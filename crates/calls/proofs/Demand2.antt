@@ -3,15 +3,15 @@ use Prim.Native.Nat.{ℕ, _/_}
 use native.Mathlib.Omega.{arith}
 use mathlib.Core.Path.{_≡_, refl, sym, ap, _∙_, subst}
 use mathlib.Core.Logic.{_≢_}
-use mathlib.Core.Bool.{Bool, true, false, _||_, false≢true}
+use mathlib.Core.Bool.{true, false, _||_, false≢true}
 use mathlib.Core.List.{List, [], _∷_}
 use mathlib.Core.Option.{Option, none, some}
 use lib.Dec.{eqb, ltb}
 use lib.ListN.{getD}
 use Rattle.words.specs.Lists.{Words}
-use Rattle.words.proofs.Tests.{eqb-ne, false-of}
+use Rattle.words.proofs.Tests.{and-l, eqb-ne, false-of}
 use Rattle.ledger.specs.declared.Row.{Row}
-use Rattle.ledger.specs.Records.{Ledger, recordOf, full, Member, vacate, member, planFor, settle}
+use Rattle.ledger.specs.Records.{Ledger, recordOf, full, Plan, vacate, Member, member, planFor, settle}
 use Rattle.ledger.specs.Units.{free}
 use Rattle.ledger.specs.Runs.{freeRuns}
 use Rattle.ledger.proofs.RecordLaws.{record-kept}
@@ -19,20 +19,19 @@ use Rattle.ledger.proofs.UnitLaws.{free-enter, free-settle, valid-settle}
 use Rattle.ledger.proofs.RunLaws.{runs-are}
 use Rattle.calls.specs.Pool.{store, Pool, ledger, wordCount, Engine, Laws, firstTicket, nextAfter, ruleOf}
 use Rattle.calls.specs.Pool.{lengths, sound}
-use Rattle.calls.specs.Step.{refusedWhole, Call, format, granted, done, refusal, accepted, Act, ask, give, query}
-use Rattle.calls.specs.Step.{Outcome, fitOf}
-use Rattle.calls.specs.Step.{numberOf, newRow, grant, answerOf, answerTo, poolAfter, poolAfterAll, actsOf}
-use Rattle.calls.specs.Step.{perform}
-use Rattle.calls.specs.Step.{blank, formatted, isFormat, step}
+use Rattle.calls.specs.Step.{Call, format, success, zeroAnswer, refusal, accepted, Act, ask, give, query}
+use Rattle.calls.specs.Step.{Outcome, fitOf, numberOf, newRow, grant, carry, answerDone, answerTo}
+use Rattle.calls.specs.Step.{poolAfter, poolAfterAll, actsOf, fills, blank, formatDone, actsDone, perform}
+use Rattle.calls.specs.Step.{step}
 use Rattle.calls.specs.Demand1.{BadSize, NoRecord, NoTicket, NoRoom}
 use Rattle.calls.specs.Demand2.{LowestFit, Granted, Released, Names, Spares, Untouched, Throughout, Demand2}
 use Rattle.calls.proofs.StoreLaws.{ledger-store, next-store, words-store, sound-valid, settled-sound}
 use Rattle.calls.proofs.StoreLaws.{blank-sound}
 use Rattle.calls.proofs.RowLaws.{size-test, record-test, ticket-test, fit-found, found-fit, room-test}
-use Rattle.calls.proofs.ActLaws.{named-right, named-zero, Asked, act-done, act-refused, ask-done, give-done}
-use Rattle.calls.proofs.ActLaws.{act-accepted, act-by}
-use Rattle.calls.proofs.ActLaws.{Way, eight, one, runs, way}
-use Rattle.calls.proofs.CallLaws.{query-kept}
+use Rattle.calls.proofs.ActLaws.{named-right, named-zero, Asked, act-done, act-refused, ask-done, plan-done}
+use Rattle.calls.proofs.ActLaws.{planned, act-accepted, act-by}
+use Rattle.calls.proofs.GateLaws.{Way, stops, runs, way, gate-number, perform-acts}
+use Rattle.calls.proofs.CallLaws.{reads-kept, refused-pool}
 use Rattle.calls.proofs.GrantLaws.{entered, over, zeroed, length-zeroed, grant-store, grant-valid, grant-sound}
 use Rattle.calls.proofs.GrantLaws.{grant-zeros, zeroed-keeps, grant-holds}
 use Rattle.calls.proofs.HeldLaws.{block-kept}
@@ -95,7 +94,7 @@ module _ (E : Engine) (laws : Laws E) where
       let L = settle (member (r .ticket) vacate ∷ []) (ledger p) in
       let next = p .head .next in
       let good = sound-valid E laws p ok in
-      let (x, y) = give-done E p r e in
+      let (x, y) = plan-done E p vacate r e in
       let holds = ap (λ (q : Pool). ledger q) y ∙ ledger-store E L next p in
       record {
         answer = x;
@@ -113,9 +112,9 @@ module _ (E : Engine) (laws : Laws E) where
       ∙ eqb-ne (numberOf E p (give r)) 0 (λ z. h (named-zero (ledger p) r z))
 
   finds-at : (p : Pool) → sound E p ≡ true → (r : Row) → Held p r
-      → (answerTo E p (query r) ≡ granted r) × (poolAfter E p (query r) ≡ p)
-  unfolding numberOf answerOf
-  finds-at p ok r e = (act-done E p (query r) (named-right (ledger p) r e) .0, query-kept E p r)
+      → (answerTo E p (query r) ≡ success r) × (poolAfter E p (query r) ≡ p)
+  unfolding numberOf answerDone
+  finds-at p ok r e = (act-done E p (query r) (named-right (ledger p) r e) .0, reads-kept E p (query r) refl)
 
   -- ---- an act, and every pool that it leaves
 
@@ -124,7 +123,7 @@ module _ (E : Engine) (laws : Laws E) where
       act-by E (λ p a q. sound E p ≡ true → sound E q ≡ true)
       (λ p a ok. ok)
       (λ p n k asked ok. grant-sound E laws p ok n k asked)
-      (λ p r e ok. settled-sound E laws p ok (member (r .ticket) vacate ∷ []))
+      (λ p x r e ok. settled-sound E laws p ok (member (r .ticket) x ∷ []))
 
   acts-sound : (acts : List Act) (p : Pool) → sound E p ≡ true → Throughout E p acts
   acts-sound [] p ok = ok
@@ -132,15 +131,24 @@ module _ (E : Engine) (laws : Laws E) where
 
   pub act-shape : (p : Pool) (a : Act) → poolAfter E p a .shape ≡ p .shape
   unfolding grant store
-  act-shape = act-by E (λ p a q. q .shape ≡ p .shape) (λ p a. refl) (λ p n k asked. refl) (λ p r e. refl)
+  act-shape = act-by E (λ p a q. q .shape ≡ p .shape) (λ p a. refl) (λ p n k asked. refl)
+      (λ p x r e. refl)
+
+  -- a format that is accepted had the right lengths
+  format-done : (p : Pool) → accepted (step E format p .answer) ≡ true
+      → (lengths E p ≡ true) × (step E format p ≡ formatDone E p)
+  unfolding perform
+  format-done p h = by (step E format p) (way E format p) h
+    where
+      by : (o : Outcome) → Way E format p o → accepted (o .answer) ≡ true → (lengths E p ≡ true) × (o ≡ formatDone E p)
+      by o (stops n g z e) h =
+          absurd (false≢true (sym (eqb-ne n 0 z) ∙ ap (λ (q : Outcome). accepted (q .answer)) (sym e) ∙ h))
+      by o (runs g e) h = (and-l (lengths E p) true (gate-number E format p .zero .0 g .0), e)
 
   format-sound : (p : Pool) → accepted (step E format p .answer) ≡ true → sound E (step E format p .pool) ≡ true
-  unfolding step formatted
-  format-sound p h = go (lengths E p) refl
-    where
-      go : (b : Bool) → lengths E p ≡ b → sound E (formatted E p .pool) ≡ true
-      go true e = rw e (blank-sound E laws p e)
-      go false e = absurd (false≢true (sym (rw e) ∙ h))
+  format-sound p h =
+      let (right, made) = format-done p h in
+      ap (λ (o : Outcome). sound E (o .pool)) made ∙ blank-sound E laws p right
 
   -- ---- a held block
 
@@ -160,10 +168,10 @@ module _ (E : Engine) (laws : Laws E) where
       (grant-valid E laws p ok n k asked) r e (grant-holds E laws p ok n k asked r e)
       (zeroed-keeps E laws p ok n k asked))
 
-  release-spares : (p : Pool) → sound E p ≡ true → (t : ℕ) (r : Row) → Held p r
-      → t ≢ r .ticket → Untouched E p (store E (settle (member t vacate ∷ []) (ledger p)) (p .head .next) p) r
-  release-spares p ok t r e d =
-      let ms : List Member = member t vacate ∷ [] in
+  plan-spares : (p : Pool) → sound E p ≡ true → (t : ℕ) (x : Plan) (r : Row) → Held p r
+      → t ≢ r .ticket → Untouched E p (carry E p t x) r
+  plan-spares p ok t x r e d =
+      let ms : List Member = member t x ∷ [] in
       let other : planFor (r .ticket) ms ≡ none = rw (eqb-ne t (r .ticket) d) in
       block-kept E laws p ok (p .arena) refl (settle ms (ledger p)) (p .head .next)
       (valid-settle (ruleOf E p) (wordCount p) (p .head .next) ms (ledger p) (sound-valid E laws p ok)) r e
@@ -175,9 +183,12 @@ module _ (E : Engine) (laws : Laws E) where
       act-by E (λ p a q. sound E p ≡ true → Held p r → (Names r a → ⊥) → Untouched E p q r)
       (λ p a ok e names. untouched-same p r e)
       (λ p n k asked ok e names. grant-spares p ok n k asked r e)
-      (λ p s f ok e names. release-spares p ok (s .ticket) r e (λ t. names (one-record p s f e t)))
+      (λ p x s f ok e names. plan-spares p ok (s .ticket) x r e (λ t. names (named-so x s (one-record p s f e t))))
       p a ok e
     where
+      named-so : (x : Plan) (s : Row) → s ≡ r → Names r (planned x s)
+      named-so vacate s e = e
+
       -- a ticket has one record
       one-record : (p : Pool) (s : Row) → Held p s → Held p r → s .ticket ≡ r .ticket → s ≡ r
       one-record p s f e t = let g = ap (λ k. recordOf k (ledger p)) t in cc
@@ -191,38 +202,38 @@ module _ (E : Engine) (laws : Laws E) where
       untouched-then p q (poolAfterAll E q more) r (act-shape p a) u
       (acts-spare more q (act-sound p a ok) r (u .holds) (s .1))
 
-  call-spares : (p : Pool) (c : Call Words) → sound E p ≡ true → isFormat c ≡ false → (r : Row)
+  call-spares : (p : Pool) (c : Call Words) → sound E p ≡ true → fills c ≡ false → (r : Row)
       → Held p r → Spares r (actsOf c) → Untouched E p (step E c p .pool) r
-  unfolding perform
-  call-spares p c ok f r e s = go (step E c p) (way E c p f)
+  unfolding actsDone
+  call-spares p c ok f r e s = go (step E c p) (way E c p)
     where
-      left : (o q : Outcome) → o ≡ q → Untouched E p (q .pool) r → Untouched E p (o .pool) r
-      left o q x u = subst (λ (z : Outcome). Untouched E p (z .pool) r) (sym x) u
+      left : (q z : Pool) → q ≡ z → Untouched E p z r → Untouched E p q r
+      left q z x u = subst (λ (y : Pool). Untouched E p y r) (sym x) u
 
       go : (o : Outcome) → Way E c p o → Untouched E p (o .pool) r
-      go o (eight x q) = left o (refusedWhole c p 8) q (untouched-same p r e)
-      go o (one x y q) = left o (refusedWhole c p 1) q (untouched-same p r e)
-      go o (runs x y q) = left o (perform E c p) q (acts-spare (actsOf c) p ok r e s)
+      go o (stops n g y q) =
+          left (o .pool) p (ap (λ (z : Outcome). z .pool) q ∙ refused-pool E c p n f) (untouched-same p r e)
+      go o (runs g q) =
+          left (o .pool) (poolAfterAll E p (actsOf c)) (ap (λ (z : Outcome). z .pool) (q ∙ perform-acts E c p f))
+          (acts-spare (actsOf c) p ok r e s)
 
 module _ (E : Engine) (laws : Laws E) where
   format-blank : (p : Pool) → accepted (step E format p .answer) ≡ true
       → (ledger (step E format p .pool) ≡ blank E p) × (step E format p .pool .head .next ≡ firstTicket)
-      × (step E format p .answer ≡ done)
-  unfolding step formatted
-  format-blank p h = go (lengths E p) refl
-    where
-      go : (b : Bool) → lengths E p ≡ b
-          → (ledger (formatted E p .pool) ≡ blank E p) × (formatted E p .pool .head .next ≡ firstTicket)
-          × (formatted E p .answer ≡ done)
-      go true e = rw e (ledger-store E (blank E p) firstTicket p, next-store E (blank E p) firstTicket p, refl)
-      go false e = absurd (false≢true (sym (rw e) ∙ h))
+      × (step E format p .answer ≡ zeroAnswer)
+  format-blank p h =
+      let made = format-done E laws p h .1 in (
+        ap (λ (o : Outcome). ledger (o .pool)) made ∙ ledger-store E (blank E p) firstTicket p,
+        ap (λ (o : Outcome). o .pool .head .next) made ∙ next-store E (blank E p) firstTicket p,
+        ap (λ (o : Outcome). o .answer) made,
+      )
 
   count-kept : (p : Pool) (a : Act) → wordCount (poolAfter E p a) ≡ wordCount p
   count-kept =
       act-by E (λ p a q. wordCount q ≡ wordCount p) (λ p a. refl)
       (λ p n k asked. ap (λ (q : Pool). wordCount q) (grant-store E p n k)
       ∙ words-store E (entered E p n k) (nextAfter (p .head .next)) (over p (zeroed E p n k)) ∙ length-zeroed E p n k)
-      (λ p r e. words-store E (settle (member (r .ticket) vacate ∷ []) (ledger p)) (p .head .next) p)
+      (λ p x r e. words-store E (settle (member (r .ticket) x ∷ []) (ledger p)) (p .head .next) p)
 
 pub demand2 : (E : Engine) → Laws E → Demand2 E
 unfolding freeRuns

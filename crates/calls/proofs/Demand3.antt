@@ -1,6 +1,5 @@
 -- Demand 3, proved once for any engine. Of a call the proof uses only that its acts are answered one after another on
 -- what it was lent, and that an act that is refused leaves the pool. Assumes nothing.
-use Prim.Native.Nat.{ℕ}
 use mathlib.Core.Path.{_≡_, refl, sym, ap, _∙_, subst}
 use mathlib.Core.Bool.{Bool, true, false, not, _||_, false≢true}
 use mathlib.Core.List.{List, [], _∷_, _++_}
@@ -8,23 +7,24 @@ use mathlib.Core.Option.{Option, none, some}
 use lib.ListN.{length, getD, drop}
 use Rattle.words.specs.Lists.{Words}
 use Rattle.words.proofs.Tests.{and-l, and-r, not-true}
-use Rattle.ledger.specs.Records.{Ledger, recordOf, Plan, Member, planFor, settle, recordsOf, tableOf}
+use Rattle.ledger.specs.declared.Row.{Row}
+use Rattle.ledger.specs.Records.{Ledger, Plan, Member, planFor, settle, recordsOf, tableOf}
 use Rattle.ledger.proofs.RecordLaws.{settle-same, length-table-settle}
 use Rattle.calls.specs.Pool.{Pool, ledger, wordCount, Engine, Laws, store, lengths, sound}
-use Rattle.calls.specs.Step.{Call, format, allocate, release, find, look, list, done, accepted, Outcome}
-use Rattle.calls.specs.Step.{answersOf, answerWords, perform, step}
-use Rattle.calls.specs.Lent.{Lent, see, Event, mapCall, brought, isWhole, ownTable, headReturns, outcome, after}
+use Rattle.calls.specs.Step.{Call, format, single, look, list, zeroAnswer, accepted, Outcome, named, answersOf}
+use Rattle.calls.specs.Step.{answerWords, actsDone, step}
+use Rattle.calls.specs.Lent.{Buffer, see, Event, mapCall, brought, isWhole, headReturns, outcome, after}
 use Rattle.calls.specs.Lent.{laterEnd, laterOutcomes}
-use Rattle.calls.specs.Demand3.{Brings, Standing, live, standAll, RightAll, afterActs, brings, elsewhere}
+use Rattle.calls.specs.Demand3.{Brings, Progress, isReplay, standAll, RightAll, afterActs, brings, elsewhere}
 use Rattle.calls.specs.Demand3.{RightList, follows, Answered, endOf, atStart, Sequence, Demand3}
 use Rattle.calls.proofs.StoreLaws.{ledger-store, shape-store, words-store, store-keeps, settled-sound}
 use Rattle.calls.proofs.StoreLaws.{settled-none, sound-lengths, settled}
+use Rattle.calls.proofs.GateLaws.{step-sound}
 use Rattle.calls.proofs.LentLaws.{whole-brings, whole-table, own-table, quiet-after, Fits, whole-after}
-use Rattle.calls.proofs.LentLaws.{outcome-is, returned-head, format-seen}
-use Rattle.calls.proofs.Standing.{orElse, Inv}
+use Rattle.calls.proofs.LentLaws.{outcome-is, returned-head, fills-seen}
+use Rattle.calls.proofs.ProgressLaws.{orElse, Inv}
 use Rattle.calls.proofs.Strays.{stray-step}
-use Rattle.calls.proofs.WholeCalls.{all-own, not-there, WholeCall, whole-sound, whole-step}
-use Rattle.calls.proofs.ActLaws.{step-sound}
+use Rattle.calls.proofs.WholeCalls.{all-own, replay-six, WholeCall, whole-sound, whole-step}
 
 or-first : (a b : Bool) → b ≡ false → (a || b) ≡ true → a ≡ true
 or-first true b h k = refl
@@ -33,10 +33,9 @@ or-first false b h k = absurd (false≢true (sym h ∙ k))
 module _ (E : Engine) (laws : Laws E) (p : Pool) (ok : sound E p ≡ true) (ms : List Member) where
   -- ---- one event
 
-  pub record Moved (s : Standing) (q : Pool) (e : Event) : Type 0 where
-    pub past : List Member
-    pub pool : after E q e ≡ settled E p past
-    pub inv : Inv ms (afterActs (ledger p) (brings q e) s (outcome E q e .counted)) past
+  pub record Moved (s : Progress) (q : Pool) (e : Event) : Type 0 where
+    pub pool : after E q e ≡ settled E p (afterActs (ledger p) (brings q e) s (outcome E q e .counted) .done)
+    pub inv : Inv ms (afterActs (ledger p) (brings q e) s (outcome E q e .counted))
     pub right : RightAll (ledger p) (brings q e) s (outcome E q e .counted)
     pub listed : isWhole q e ≡ true → RightList q (e .call) (outcome E q e)
 
@@ -72,21 +71,18 @@ module _ (E : Engine) (laws : Laws E) (p : Pool) (ok : sound E p ≡ true) (ms :
     shape = ap (λ (z : Pool). z .shape) d ∙ same-shape y ∙ sym (ap (λ (z : Pool). z .shape) e ∙ same-shape x);
   }
 
-  stray-event : (s : Standing) (past : List Member) (q : Pool) (e : Event) → q ≡ settled E p past → Inv ms s past
-      → isWhole q e ≡ false
+  stray-event : (s : Progress) (q : Pool) (e : Event) → q ≡ settled E p (s .done) → Inv ms s → isWhole q e ≡ false
       → standAll (ledger p) (brings q e) s (outcome E q e .counted) ≡ true
       → (not (accepted (outcome E q e .answer)) || elsewhere (e .call)) ≡ true → Moved s q e
-  unfolding outcome
-  stray-event s past q e d v w h b =
+  unfolding outcome isReplay
+  stray-event s q e d v w h b =
       let m = brought q e in
       let c = mapCall (see q) (e .call) in
-      let unknown : ownTable q e ≡ true → (t : ℕ) → live (ledger p) (s .spent) t ≡ false
-      → recordOf t (ledger m) ≡ none =
-      λ k t n. ap (λ (z : Words). recordOf t (recordsOf z)) (own-table q e k)
-      ∙ not-there E laws p ok ms s past q d v t n in
+      let unknown : (r : Row) → isReplay (ledger p) (brings q e) s r ≡ true → named (ledger m) r ≡ 6 =
+      λ r y. ap (λ (t : Words). named (recordsOf t) r) (own-table q e (search and-l))
+      ∙ replay-six E laws p ok ms s q d v (brings q e) r y in
       let k = stray-step E (ledger p) (brings q e) s w m unknown c h in
       record {
-        past = past;
         pool = quiet-after E q e (record {
           arena = k .arena;
           table = k .table;
@@ -94,41 +90,38 @@ module _ (E : Engine) (laws : Laws E) (p : Pool) (ok : sound E p ≡ true) (ms :
           head = λ a.
               let (f, back) = k .head (and-l (accepted (outcome E q e .answer)) (headReturns q e) a) in
               back ∙ returned-head q e (and-r (accepted (outcome E q e .answer)) (headReturns q e) a)
-              (sym (format-seen (see q) (e .call)) ∙ f);
+              (sym (fills-seen (see q) (e .call)) ∙ f);
           buffers = λ a. k .buffers (not-true (accepted (outcome E q e .answer))
               (or-first (not (accepted (outcome E q e .answer))) (elsewhere (e .call)) a b));
-        }) ∙ d;
-        inv = subst (λ (z : Standing). Inv ms z past) (sym (k .standing)) v;
+        }) ∙ d ∙ ap (λ (z : Progress). settled E p (z .done)) (sym (k .progress));
+        inv = subst (λ (z : Progress). Inv ms z) (sym (k .progress)) v;
         right = k .right;
         listed = λ a. absurd (false≢true (sym w ∙ a));
       }
 
-  list-right : (q : Pool) → sound E q ≡ true → (c : Call Lent) (o : Outcome) → o ≡ step E (mapCall (see q) c) q
+  list-right : (q : Pool) → sound E q ≡ true → (c : Call Buffer) (o : Outcome) → o ≡ step E (mapCall (see q) c) q
       → RightList q c o
-  unfolding step perform
+  unfolding actsDone
   list-right q so format o j = tt
-  list-right q so (allocate n) o j = tt
-  list-right q so (release r) o j = tt
-  list-right q so (find r) o j = tt
+  list-right q so (single a) o j = tt
   list-right q so (look r hold) o j = tt
   list-right q so (list rs bs) o j = λ h.
-      let k : o ≡ perform E (list (see q rs) (see q bs)) q =
+      let k : o ≡ actsDone E (list (see q rs) (see q bs)) q =
       j ∙ step-sound E (list (see q rs) (see q bs)) q refl h so in
       subst
-      (λ (z : Outcome). (z .answer ≡ done)
+      (λ (z : Outcome). (z .answer ≡ zeroAnswer)
       × (z .buffers ≡ (answerWords (answersOf (z .counted)) ++ drop (length (see q rs)) (see q bs)) ∷ []))
       (sym k) (refl, refl)
 
-  whole-event : (s : Standing) (past : List Member) (q : Pool) (e : Event) → q ≡ settled E p past → Inv ms s past
-      → isWhole q e ≡ true
+  whole-event : (s : Progress) (q : Pool) (e : Event) → q ≡ settled E p (s .done) → Inv ms s → isWhole q e ≡ true
       → standAll (ledger p) (brings q e) s (outcome E q e .counted) ≡ true
       → (not (accepted (outcome E q e .answer)) || elsewhere (e .call)) ≡ true → Moved s q e
-  whole-event s past q e d v w h b = record {
-    past = call .past;
-    pool = left (accepted (o .answer)) refl ∙ call .pool;
-    inv = subst (λ (x : Brings). Inv ms (afterActs (ledger p) x s (o .counted)) (call .past)) (sym own) (call .inv);
+  whole-event s q e d v w h b = record {
+    pool = left (accepted (o .answer)) refl
+        ∙ ap (λ (x : Brings). settled E p (afterActs (ledger p) x s (o .counted) .done)) (sym own);
+    inv = subst (λ (x : Brings). Inv ms (afterActs (ledger p) x s (o .counted))) (sym own) (call .inv);
     right = subst (λ (x : Brings). RightAll (ledger p) x s (o .counted)) (sym own) (call .right);
-    listed = λ _. list-right q (whole-sound E laws p ok ms s past q d v) (e .call) o is-step;
+    listed = λ _. list-right q (whole-sound E laws p ok ms s q d v) (e .call) o is-step;
   }
     where
       o : Outcome
@@ -146,63 +139,65 @@ module _ (E : Engine) (laws : Laws E) (p : Pool) (ok : sound E p ≡ true) (ms :
       call : WholeCall E laws p ok ms s q c o
       call =
           subst (λ (z : Outcome). WholeCall E laws p ok ms s q c z) (sym is-step)
-          (whole-step E laws p ok ms s past q d v c
+          (whole-step E laws p ok ms s q d v c
           (subst (λ (z : Outcome). standAll (ledger p) all-own s (z .counted) ≡ true) is-step
           (subst (λ (x : Brings). standAll (ledger p) x s (o .counted) ≡ true) own h)))
 
       seen : brought q e ≡ q
       seen = whole-brings q e w
 
-      left : (a : Bool) → accepted (o .answer) ≡ a → after E q e ≡ o .pool
+      left : (a : Bool) → accepted (o .answer) ≡ a
+          → after E q e ≡ settled E p (afterActs (ledger p) all-own s (o .counted) .done)
       left true a =
           whole-after E q e w a (ap (λ (x : Bool). not x || elsewhere (e .call)) (sym a) ∙ b)
-          (settled-fits past (call .past) q o d (call .pool))
+          (settled-fits (s .done) (afterActs (ledger p) all-own s (o .counted) .done) q o d (call .pool a))
+          ∙ call .pool a
       left false a =
-          let k : o .pool ≡ q = call .kept a in
+          let (k, still) = call .kept a in
           quiet-after E q e (record {
-            arena = ap (λ (z : Pool). z .arena) (k ∙ sym seen);
-            table = ap (λ (z : Pool). z .table) (k ∙ sym seen);
-            index = ap (λ (z : Pool). z .index) (k ∙ sym seen);
-            head = λ _. ap (λ (z : Pool). z .head) k;
-            buffers = λ _. call .buffers a;
-          }) ∙ sym k
+            arena = k .arena ∙ ap (λ (z : Pool). z .arena) (sym seen);
+            table = k .table ∙ ap (λ (z : Pool). z .table) (sym seen);
+            index = k .index ∙ ap (λ (z : Pool). z .index) (sym seen);
+            head = λ y. absurd (false≢true (sym a ∙ and-l (accepted (o .answer)) (headReturns q e) y));
+            buffers = λ _. k .buffers;
+          })
+          ∙ d ∙ ap (λ (z : Progress). settled E p (z .done)) (sym still)
 
-  pub event : (s : Standing) (past : List Member) (q : Pool) (e : Event) → q ≡ settled E p past → Inv ms s past
+  pub event : (s : Progress) (q : Pool) (e : Event) → q ≡ settled E p (s .done) → Inv ms s
       → standAll (ledger p) (brings q e) s (outcome E q e .counted) ≡ true
       → (not (accepted (outcome E q e .answer)) || elsewhere (e .call)) ≡ true → Moved s q e
-  event s past q e d v h b = go (isWhole q e) refl
+  event s q e d v h b = go (isWhole q e) refl
     where
       go : (w : Bool) → isWhole q e ≡ w → Moved s q e
-      go true w = whole-event s past q e d v w h b
-      go false w = stray-event s past q e d v w h b
+      go true w = whole-event s q e d v w h b
+      go false w = stray-event s q e d v w h b
 
   -- ---- a whole sequence
 
-  at-end : (s : Standing) (past : List Member) → Inv ms s past
-      → _≡_ {A = Bool} (elim (s .due) [ [] ↦ true | m ∷ more ↦ false ]) true
-      → settled E p past ≡ settled E p ms
+  at-end : (s : Progress) → Inv ms s → _≡_ {A = Bool} (elim (s .due) [ [] ↦ true | m ∷ more ↦ false ]) true
+      → settled E p (s .done) ≡ settled E p ms
   unfolding settled
-  at-end s past v h =
+  at-end s v h =
       ap (λ (L : Ledger). store E L (p .head .next) p)
-      (settle-same past ms (λ t. ap (λ (due : List Member). orElse (planFor t due) (planFor t past))
+      (settle-same (s .done) ms (λ t. ap (λ (due : List Member). orElse (planFor t due) (planFor t (s .done)))
       (sym (none-due (s .due) h)) ∙ v .covers t) (ledger p))
     where
       none-due : (due : List Member) → _≡_ {A = Bool} (elim due [ [] ↦ true | m ∷ more ↦ false ]) true → due ≡ []
       none-due [] h = refl
       none-due (m ∷ more) h = absurd (false≢true h)
 
-  events : (es : List Event) (s : Standing) (past : List Member) (q : Pool) → q ≡ settled E p past → Inv ms s past
+  events : (es : List Event) (s : Progress) (q : Pool) → q ≡ settled E p (s .done) → Inv ms s
       → follows E (ledger p) s q es ≡ true → Answered E (ledger p) s q es × (endOf E q es ≡ settled E p ms)
-  events [] s past q d v h = (tt, d ∙ at-end s past v h)
-  events (e ∷ es) s past q d v h =
+  events [] s q d v h = (tt, d ∙ at-end s v h)
+  events (e ∷ es) s q d v h =
       let o = outcome E q e in
       let next = afterActs (ledger p) (brings q e) s (o .counted) in
-      let m = event s past q e d v (search (and-l, and-r)) (search (and-l, and-r)) in
-      let rest = events es next (m .past) (after E q e) (m .pool) (m .inv) (search (and-l, and-r)) in
+      let m = event s q e d v (search (and-l, and-r)) (search (and-l, and-r)) in
+      let rest = events es next (after E q e) (m .pool) (m .inv) (search (and-l, and-r)) in
       ((m .right, m .listed, rest .0), rest .1)
 
-  pub start-inv : Inv ms (atStart E ms) []
-  start-inv = record { covers = λ t. or-none (planFor t ms); fresh = λ t h. refl; spent = λ t. refl }
+  pub start-inv : Inv ms (atStart E ms)
+  start-inv = record { covers = λ t. or-none (planFor t ms); fresh = λ t h. refl }
     where
       or-none : (o : Option Plan) → orElse o none ≡ o
       or-none none = refl
@@ -210,7 +205,7 @@ module _ (E : Engine) (laws : Laws E) (p : Pool) (ok : sound E p ≡ true) (ms :
 
   pub sequence-end : (es : List Event) → Sequence E p ms es
       → Answered E (ledger p) (atStart E ms) p es × (endOf E p es ≡ settled E p ms)
-  sequence-end es h = events es (atStart E ms) [] p (sym (unfold settled in settled-none E laws p ok)) start-inv h
+  sequence-end es h = events es (atStart E ms) p (sym (unfold settled in settled-none E laws p ok)) start-inv h
 
 -- ---- the demand
 

@@ -1,24 +1,33 @@
 -- The laws of both engines, what row 8 says of each one's lengths, and the three demands for each. 01, "The pool and
 -- its two engines": "Both engines are held to the ledger." Assumes nothing.
-use Prim.Native.Nat.{ℕ, _*_, _%_, _^_, _≤_}
+use Prim.Native.Nat.{ℕ, _+_, _*_, _%_, _^_, _≤_, _<_}
+use native.Mathlib.Nat.{div-one}
 use native.Mathlib.Omega.{arith}
-use mathlib.Core.Path.{_≡_, refl}
-use mathlib.Core.Logic.{_↔_}
-use mathlib.Core.Bool.{true}
-use lib.ListN.{length}
-use Rattle.words.proofs.Tests.{and-l, and-r, eqb-eq, eqb-same, le-of, of-le}
+use mathlib.Core.Path.{_≡_, refl, sym, ap, _∙_}
+use mathlib.Core.Bool.{true, false, true≢false}
+use mathlib.Core.List.{List, _∷_, _++_}
+use lib.ListN.{length, getD}
+use mir.Syntax.{w32}
+use mir.Val.{ofZ}
+use Rattle.words.specs.Flags.{Says}
+use Rattle.words.specs.Lists.{Words}
+use Rattle.words.proofs.Tests.{and-l, and-r, eqb-eq, eqb-same, le-of, of-le, false-of}
 use Rattle.words.proofs.ListLaws.{length-listFrom}
+use Rattle.words.proofs.PlaceLaws.{stamp-sets}
 use Rattle.ledger.specs.Records.{slots}
-use Rattle.ledger.specs.Units.{addressAt}
-use Rattle.ledger.proofs.UnitLaws.{valid-record}
+use Rattle.ledger.specs.Units.{addressAt, free, owned}
+use Rattle.ledger.specs.Runs.{Run, freeRuns}
+use Rattle.ledger.proofs.UnitLaws.{valid-record, owned-covered}
 use Rattle.stored_forms.specs.Tree.{formOne, formRule, treeRange}
-use Rattle.stored_forms.specs.Segments.{controlWord, indexWord, segmentIndex, depth, segmentRange}
-use Rattle.stored_forms.proofs.SegmentLaws.{lead-segment, power-is}
-use Rattle.calls.specs.Pool.{Pool, wordCount, Laws, lengths}
+use Rattle.stored_forms.specs.Segments.{segmentRule, controlWord, segmentWord, indexWord, segmentIndex, depth}
+use Rattle.stored_forms.specs.Segments.{segmentRange}
+use Rattle.stored_forms.proofs.SegmentLaws.{lead-segment, power-is, free-run-maximal, control-free, control-free-inside}
+use Rattle.calls.specs.Pool.{Pool, ledger, wordCount, Laws, lengths, sound}
 use Rattle.calls.specs.Engines.{treeEngine, segmentEngine}
 use Rattle.calls.specs.Demand1.{Demand1}
 use Rattle.calls.specs.Demand2.{Demand2}
 use Rattle.calls.specs.Demand3.{Demand3}
+use Rattle.calls.proofs.StoreLaws.{arena-store, sound-valid, is-store}
 use Rattle.calls.proofs.Demand1.{demand1}
 use Rattle.calls.proofs.Demand2.{demand2}
 use Rattle.calls.proofs.Demand3.{demand3}
@@ -50,8 +59,8 @@ segment-laws =
 
 -- Tree pool: "32-bit unsigned words, even count from 2 to 16,384. Table: 32-bit words, three to a record, 1 to 256
 -- records". It has no index.
-pub tree-lengths : (p : Pool) → (lengths treeEngine p ≡ true)
-    ↔ ((2 ≤ wordCount p) × (wordCount p ≤ 16384) × (wordCount p % 2 ≡ 0)
+pub tree-lengths : (p : Pool) → Says (lengths treeEngine p)
+    ((2 ≤ wordCount p) × (wordCount p ≤ 16384) × (wordCount p % 2 ≡ 0)
     × (length (p .table) % 3 ≡ 0) × (3 ≤ length (p .table)) × (length (p .table) ≤ 768) × (length (p .index) ≡ 0))
 unfolding lengths treeEngine formOne treeRange
 tree-lengths p =
@@ -77,8 +86,8 @@ tree-lengths p =
 
 -- Segment pool: W "of them, 2 to 16,384", the table as above, S "a power of two, 1 to 256", and "Index: 3S unsigned
 -- words".
-pub segment-lengths : (p : Pool) → (lengths segmentEngine p ≡ true)
-    ↔ ((2 ≤ wordCount p) × (wordCount p ≤ 16384) × ((d : ℕ) × (d ≤ 8) × (p .shape ≡ 2 ^ d))
+pub segment-lengths : (p : Pool) → Says (lengths segmentEngine p)
+    ((2 ≤ wordCount p) × (wordCount p ≤ 16384) × ((d : ℕ) × (d ≤ 8) × (p .shape ≡ 2 ^ d))
     × (length (p .table) % 3 ≡ 0) × (3 ≤ length (p .table)) × (length (p .table) ≤ 768)
     × (length (p .index) ≡ 3 * p .shape))
 unfolding lengths segmentEngine segmentRange
@@ -123,6 +132,41 @@ tree-demand2 = demand2 treeEngine tree-laws
 
 pub segment-demand2 : Demand2 segmentEngine
 segment-demand2 = demand2 segmentEngine segment-laws
+
+-- The free blocks of a sound segment pool are the maximal free runs, which `merged` of demand 2 names: "positive if
+-- free", "Other words of a free block are zero."
+module _ (p : Pool) (ok : sound segmentEngine p ≡ true) where
+  free-word : (u : ℕ) → u < wordCount p → free segmentRule (ledger p) u ≡ true
+      → getD (p .arena) u 0 ≡ segmentWord (wordCount p) (ledger p) u
+  unfolding segmentEngine
+  free-word u l h =
+      let L = ledger p in
+      let own : owned segmentRule L u ≡ false =
+      false-of (owned segmentRule L u)
+      (λ o. true≢false (sym h ∙ sym (ap (free segmentRule L) (div-one u))
+      ∙ owned-covered segmentRule (omega arith) (wordCount p) (p .head .next) L
+      (sound-valid segmentEngine segment-laws p ok) u o)) in
+      ap (λ (q : Pool). getD (q .arena) u 0) (is-store segmentEngine segment-laws p ok)
+      ∙ ap (λ (x : Words). getD x u 0) (arena-store segmentEngine L (p .head .next) p)
+      ∙ stamp-sets (owned segmentRule L) (segmentWord (wordCount p) L) (p .arena) u 0 l own
+
+  pub segment-free-blocks : (xs : List Run) (r : Run) (ys : List Run)
+      → freeRuns segmentRule (wordCount p) (ledger p) ≡ xs ++ r ∷ ys
+      → (getD (p .arena) (r .start) 0 ≡ r .size)
+      × ((u : ℕ) → r .start < u → u < r .start + r .size → getD (p .arena) u 0 ≡ 0)
+  unfolding segmentWord segmentEngine
+  segment-free-blocks xs r ys e =
+      let W = wordCount p in
+      let L = ledger p in
+      let good = sound-valid segmentEngine segment-laws p ok in
+      let run = free-run-maximal W L xs r ys e in
+      let long = run .long in
+      let inside = run .inside in (
+        free-word (r .start) (omega arith) (run .passes (r .start) (omega arith) (omega arith))
+            ∙ ap (ofZ w32) (control-free W (p .head .next) L good r run),
+        (λ u a b. free-word u (omega arith) (run .passes u (omega arith) b)
+            ∙ ap (ofZ w32) (control-free-inside W (p .head .next) L good r run u a b)),
+      )
 
 pub tree-demand3 : Demand3 treeEngine
 tree-demand3 = demand3 treeEngine tree-laws

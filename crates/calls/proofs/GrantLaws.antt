@@ -13,14 +13,14 @@ use lib.ListN.{length, getD}
 use Rattle.words.specs.Lists.{Words}
 use Rattle.words.specs.Counted.{within}
 use Rattle.words.specs.Places.{wiped}
-use Rattle.words.proofs.Tests.{and-l, and-i, or-l, eqb-eq, eqb-ne, eqb-false, lt-of, of-lt, within-in, within-of}
+use Rattle.words.proofs.Tests.{and-i, or-l, eqb-ne, eqb-false, lt-of, of-lt, within-in, within-of}
 use Rattle.words.proofs.Tests.{false-of}
 use Rattle.words.proofs.CountedLaws.{every-of}
 use Rattle.words.proofs.PlaceLaws.{length-wiped, wiped-in, wiped-out}
 use Rattle.ledger.specs.declared.Row.{Row}
 use Rattle.ledger.specs.Records.{Ledger, isEmpty, isLive, hasTicket, recordOf, enter}
 use Rattle.ledger.specs.Units.{span, addressAt, past, valid, free, owns, owned}
-use Rattle.ledger.proofs.RecordLaws.{length-table-enter, has-ticket}
+use Rattle.ledger.proofs.RecordLaws.{length-table-enter, empty-row, has-ticket}
 use Rattle.ledger.proofs.UnitLaws.{valid-record, past-new, valid-enter, owned-enter, owned-covered}
 use Rattle.calls.specs.Pool.{Pool, ledger, wordCount, Engine, Laws, nextAfter, ruleOf, store, lengths, sound}
 use Rattle.calls.specs.Step.{newRow, grant}
@@ -52,7 +52,7 @@ record-enter t new (r ∷ L) z d = go (isEmpty r) refl (record-enter t new L z d
     go : (b : Bool) → isEmpty r ≡ b → recordOf t (enter new L) ≡ recordOf t L
         → recordOf t (cond b (new ∷ L) (r ∷ enter new L)) ≡ recordOf t (r ∷ L)
     go true e ih =
-        let empty : r .ticket ≡ 0 = eqb-eq (r .ticket) 0 (search and-l) in
+        let empty : r .ticket ≡ 0 = ap (λ (x : Row). x .ticket) (empty-row r .0 e) in
         rw (other new d, other r (λ q. z (sym q ∙ empty)))
     go false e ih = rw ih
 

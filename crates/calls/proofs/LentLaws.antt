@@ -1,23 +1,22 @@
 -- Laws of lent buffers: what is left as it was seen changes nothing, and what is left in the pool's own memory is the
 -- pool's. Assumes nothing.
-use Prim.Native.Nat.{_+_}
-use native.Mathlib.Nat.{zero-add}
+use Prim.Native.Nat.{ℕ, zero, suc, _+_, _<_}
 use native.Mathlib.Omega.{arith}
-use mathlib.Core.Path.{_≡_, refl, sym, ap, ap₂, _∙_, subst}
+use mathlib.Core.Path.{_≡_, refl, sym, ap, ap₂, _∙_}
 use mathlib.Core.Bool.{Bool, true, false, cond, _&&_, _||_, false≢true, or-true}
 use mathlib.Core.List.{List, [], _∷_, _++_, append-assoc, append-nil}
-use lib.ListN.{length, take, drop, take-append-drop}
-use lib.Seq.{drop-drop, take-all, take-length, drop-length, take-append-seam, drop-append-seam}
+use lib.Dec.{eqb}
+use lib.ListN.{length, take, drop, set, length-set}
+use lib.Seq.{drop-cons, take-all, drop-length, set-getD, take-suc-set}
 use Rattle.words.specs.Lists.{Words, all}
 use Rattle.words.proofs.Tests.{and-l, and-r, eqb-eq}
 use Rattle.words.proofs.ListLaws.{sameWords-eq}
-use Rattle.calls.specs.Pool.{Head, Pool, Engine}
-use Rattle.calls.specs.Step.{Call, format, allocate, release, find, look, list, accepted, Outcome, buffersOf}
-use Rattle.calls.specs.Step.{isFormat, step}
-use Rattle.calls.specs.Lent.{Part, inArena, inTable, inIndex, Piece, own, other, Lent, partOf, withPart}
-use Rattle.calls.specs.Lent.{withHead, seePiece, see, leavePiece, leave, leaveAll, isOther, samePart, isAllOf}
-use Rattle.calls.specs.Lent.{Event, mapCall, headOf, brought, sameHead, isWhole, ownTable, headReturns, outcome}
-use Rattle.calls.specs.Lent.{after}
+use Rattle.calls.specs.Pool.{Head, Pool, withHead, Engine}
+use Rattle.calls.specs.Step.{Call, format, single, look, list, accepted, Outcome, buffersOf, fills, step}
+use Rattle.calls.specs.Lent.{Part, inArena, inTable, inIndex, Spot, own, other, Buffer, partOf, withPart, seeAt}
+use Rattle.calls.specs.Lent.{see, leaveAt, leave, leaveAll, isOther, samePart, isOwn, areOwn, isAllOf, Event}
+use Rattle.calls.specs.Lent.{mapCall, headBrought, brought, sameHead, isWhole, ownTable, headReturns, writtenBy}
+use Rattle.calls.specs.Lent.{outcome, after}
 
 -- ---- one buffer
 
@@ -26,24 +25,38 @@ same-words inArena p = refl
 same-words inTable p = refl
 same-words inIndex p = refl
 
-piece-back : (p : Pool) (l : Piece) → leavePiece l (seePiece p l) p ≡ p
-piece-back p (other x) = refl
-piece-back p (own q f n) = ap (λ (z : Words). withPart q z p) whole-again ∙ same-words q p
-  where
-    whole-again : take f (partOf q p) ++ take n (drop f (partOf q p)) ++ drop (f + n) (partOf q p) ≡ partOf q p
-    whole-again = rw (append-assoc, ← drop-drop n f (partOf q p), take-append-drop n (drop f (partOf q p)))
-        (take-append-drop f (partOf q p))
+part-with : (q : Part) (x : Words) (p : Pool) → partOf q (withPart q x p) ≡ x
+part-with inArena x p = refl
+part-with inTable x p = refl
+part-with inIndex x p = refl
 
-pub leave-seen : (l : Lent) (p : Pool) → leave l (see p l) p ≡ p
+with-twice : (q : Part) (x y : Words) (p : Pool) → withPart q y (withPart q x p) ≡ withPart q y p
+with-twice inArena x y p = refl
+with-twice inTable x y p = refl
+with-twice inIndex x y p = refl
+
+spot-back : (p : Pool) (l : Spot) → leaveAt l (seeAt p l) p ≡ p
+spot-back p (other v) = refl
+spot-back p (own q i) = ap (λ (z : Words). withPart q z p) (set-getD (partOf q p) i 0) ∙ same-words q p
+
+-- the first words of a buffer left as they were seen
+leave-first : (n : ℕ) (l : Buffer) (p : Pool) → leave (take n l) (see p l) p ≡ p
+leave-first zero l p = refl
+leave-first (suc n) [] p = refl
+leave-first (suc n) (l ∷ ls) p =
+    ap (λ (z : Pool). leave (take n ls) (see p ls) z) (spot-back p l) ∙ leave-first n ls p
+
+pub leave-seen : (l : Buffer) (p : Pool) → leave l (see p l) p ≡ p
 leave-seen [] p = refl
-leave-seen (l ∷ ls) p =
-    rw (take-append-seam (seePiece p l) (see p ls), drop-append-seam (seePiece p l) (see p ls), piece-back p l)
-    (leave-seen ls p)
+leave-seen (l ∷ ls) p = ap (λ (z : Pool). leave ls (see p ls) z) (spot-back p l) ∙ leave-seen ls p
 
-pub leave-other : (l : Lent) (x : Words) (p : Pool) → all isOther l ≡ true → leave l x p ≡ p
+leave-other : (l : Buffer) (x : Words) (p : Pool) → all isOther l ≡ true → leave l x p ≡ p
 leave-other [] x p h = refl
-leave-other (own q f n ∷ l) x p h = absurd (false≢true h)
-leave-other (other y ∷ l) x p h = leave-other l (drop (length y) x) p h
+leave-other (l ∷ ls) [] p h = refl
+leave-other (own q i ∷ ls) (v ∷ x) p h = absurd (false≢true h)
+leave-other (other w ∷ ls) (v ∷ x) p h = leave-other ls x p h
+
+-- ---- all of a part
 
 same-part : (q r : Part) → samePart q r ≡ true → q ≡ r
 same-part inArena inArena h = refl
@@ -56,46 +69,67 @@ same-part inIndex inArena h = absurd (false≢true h)
 same-part inIndex inTable h = absurd (false≢true h)
 same-part inIndex inIndex h = refl
 
--- a buffer that is all of a part: its one piece, or none where the part has no words
-all-by : (q : Part) (x : Words) (P : Lent → Type 0) → (length x ≡ 0 → P []) → P (own q 0 (length x) ∷ [])
-    → (l : Lent) → isAllOf q x l ≡ true → P l
-all-by q x P none one [] h = none (eqb-eq (length x) 0 h)
-all-by q x P none one (other y ∷ l) h = absurd (false≢true h)
-all-by q x P none one (own r f n ∷ k ∷ l) h = absurd (false≢true h)
-all-by q x P none one (own r f n ∷ []) h =
-    let e₁ : q ≡ r = same-part q r (search (and-l, and-r)) in
-    let e₂ : f ≡ 0 = eqb-eq f 0 (search (and-l, and-r)) in
-    let e₃ : n ≡ length x = eqb-eq n (length x) (search (and-l, and-r)) in
-    subst P (λ i. own (e₁ i) (sym e₂ i) (sym e₃ i) ∷ []) one
+own-spot : (q : Part) (i : ℕ) (l : Spot) → isOwn q i l ≡ true → l ≡ own q i
+own-spot q i (other v) h = absurd (false≢true h)
+own-spot q i (own r j) h =
+    let a = same-part q r (and-l (samePart q r) (eqb i j) h) in
+    let b = eqb-eq i j (and-r (samePart q r) (eqb i j) h) in
+    λ k. own (sym a k) (sym b k)
 
-no-words : (x : Words) → length x ≡ 0 → x ≡ []
-no-words [] h = refl
-no-words (v ∷ x) h = absurd (omega arith)
+module _ (q : Part) where
+  see-from : (i : ℕ) (l : Buffer) (p : Pool) → areOwn q i l ≡ true → i + length l ≡ length (partOf q p)
+      → see p l ≡ drop i (partOf q p)
+  see-from i [] p h e =
+      let k : i ≡ length (partOf q p) = omega arith in
+      sym (ap (λ j. drop j (partOf q p)) k ∙ drop-length (partOf q p))
+  see-from i (l ∷ ls) p h e =
+      let at : l ≡ own q i = own-spot q i l (and-l (isOwn q i l) (areOwn q (suc i) ls) h) in
+      let more = see-from (suc i) ls p (and-r (isOwn q i l) (areOwn q (suc i) ls) h) (omega arith) in
+      let below : i < length (partOf q p) = omega arith in
+      ap₂ (λ (v : ℕ) (x : Words). v ∷ x) (ap (seeAt p) at) more ∙ sym (drop-cons (partOf q p) i 0 below)
 
-pub see-all : (q : Part) (p : Pool) (l : Lent) → isAllOf q (partOf q p) l ≡ true → see p l ≡ partOf q p
-see-all q p =
-    let w = partOf q p in
-    all-by q w (λ l. see p l ≡ w) (λ z. sym (no-words w z)) (append-nil (take (length w) w) ∙ take-length w)
+  leave-from : (i : ℕ) (l : Buffer) (x : Words) (p : Pool) → areOwn q i l ≡ true
+      → i + length l ≡ length (partOf q p) → length x ≡ length l
+      → leave l x p ≡ withPart q (take i (partOf q p) ++ x) p
+  leave-from i [] [] p h e s =
+      sym (ap (λ (y : Words). withPart q y p)
+      (append-nil (take i (partOf q p)) ∙ take-all i (partOf q p) (omega arith)) ∙ same-words q p)
+  leave-from i [] (v ∷ x) p h e s = absurd (omega arith)
+  leave-from i (l ∷ ls) [] p h e s = absurd (omega arith)
+  leave-from i (l ∷ ls) (v ∷ x) p h e s =
+      let w = partOf q p in
+      let at : l ≡ own q i = own-spot q i l (and-l (isOwn q i l) (areOwn q (suc i) ls) h) in
+      let next = withPart q (set w i v) p in
+      let words : partOf q next ≡ set w i v = part-with q (set w i v) p in
+      let count : length (partOf q next) ≡ length w = ap length words ∙ length-set w i v in
+      let below : i < length w = omega arith in
+      ap (λ (z : Spot). leave ls x (leaveAt z v p)) at
+      ∙ leave-from (suc i) ls x next (and-r (isOwn q i l) (areOwn q (suc i) ls) h) (omega arith) (omega arith)
+      ∙ with-twice q (set w i v) (take (suc i) (partOf q next) ++ x) p
+      ∙ ap (λ (y : Words). withPart q y p)
+      (ap (λ (y : Words). take (suc i) y ++ x) words
+      ∙ ap (λ (y : Words). y ++ x) (take-suc-set w i v below)
+      ∙ append-assoc (take i w) (v ∷ []) x)
 
-pub leave-all : (q : Part) (p : Pool) (l : Lent) (x : Words) → isAllOf q (partOf q p) l ≡ true
-    → length x ≡ length (partOf q p)
-    → leave l x p ≡ withPart q x p
-leave-all q p l x h e =
-    let w = partOf q p in
-    all-by q w (λ l. leave l x p ≡ withPart q x p)
-    (λ z. sym (ap (λ (y : Words). withPart q y p) (no-words x (e ∙ z) ∙ sym (no-words w z)) ∙ same-words q p))
-    (ap (λ (y : Words). withPart q y p) (
-    rw (take-length w, zero-add (length w), drop-length w, append-nil (take (length w) x))
-    (take-all (length w) x (omega arith))))
-    l h
+  pub see-all : (p : Pool) (l : Buffer) → isAllOf q (partOf q p) l ≡ true → see p l ≡ partOf q p
+  see-all p l h =
+      let count = eqb-eq (length l) (length (partOf q p)) (search and-l) in
+      see-from 0 l p (search and-r) (omega arith)
+
+  pub leave-all : (p : Pool) (l : Buffer) (x : Words) → isAllOf q (partOf q p) l ≡ true
+      → length x ≡ length (partOf q p)
+      → leave l x p ≡ withPart q x p
+  leave-all p l x h e =
+      let count = eqb-eq (length l) (length (partOf q p)) (search and-l) in
+      leave-from 0 l x p (search and-r) (omega arith) (omega arith)
 
 -- ---- what an event brings
 
 pub whole-brings : (q : Pool) (e : Event) → isWhole q e ≡ true → brought q e ≡ q
 unfolding isWhole
 whole-brings q e h =
-    let root = sameWords-eq (headOf q (e .head) .root) (q .head .root) (search (and-l, and-r)) in
-    let next = eqb-eq (headOf q (e .head) .next) (q .head .next) (search (and-l, and-r)) in
+    let root = sameWords-eq (headBrought q (e .head) .root) (q .head .root) (search (and-l, and-r)) in
+    let next = eqb-eq (headBrought q (e .head) .next) (q .head .next) (search (and-l, and-r)) in
     let shape = eqb-eq (e .shape) (q .shape) (search (and-l, and-r)) in
     let arena = see-all inArena q (e .arena) (search (and-l, and-r)) in
     let table = see-all inTable q (e .table) (search (and-l, and-r)) in
@@ -116,30 +150,40 @@ pub own-table : (q : Pool) (e : Event) → ownTable q e ≡ true → brought q e
 unfolding ownTable
 own-table q e h = see-all inTable q (e .table) h
 
+-- "the pool keeps the head it had" after a refused call
+pub refused-keeps : (E : Engine) (q : Pool) (e : Event) → accepted (outcome E q e .answer) ≡ false
+    → after E q e .head ≡ q .head
+unfolding after
+refused-keeps E q e a = rw a
+
+-- a call that fills memory anew, lent the pool's table, makes the pool's head, whatever head it was brought
+pub fills-returns : (E : Engine) (q : Pool) (e : Event) → ownTable q e ≡ true → fills (e .call) ≡ true
+    → accepted (outcome E q e .answer) ≡ true → after E q e .head ≡ outcome E q e .pool .head
+unfolding after headReturns
+fills-returns E q e t f a = rw (t, f, a)
+
 -- the head that is handed back as the pool's: the pool brought whole; a head as it was brought
 pub whole-returns : (q : Pool) (e : Event) → isWhole q e ≡ true → headReturns q e ≡ true
 unfolding isWhole headReturns
 whole-returns q e h =
-    let same : sameHead (headOf q (e .head)) (q .head) ≡ true = search (and-l, and-r) in
-    rw (whole-table q e h, same) (or-true (isFormat (e .call)))
+    let same : sameHead (headBrought q (e .head)) (q .head) ≡ true = search (and-l, and-r) in
+    rw (whole-table q e h, same) (or-true (fills (e .call)))
 
-pub returned-head : (q : Pool) (e : Event) → headReturns q e ≡ true → isFormat (e .call) ≡ false
-    → headOf q (e .head) ≡ q .head
+pub returned-head : (q : Pool) (e : Event) → headReturns q e ≡ true → fills (e .call) ≡ false
+    → headBrought q (e .head) ≡ q .head
 unfolding headReturns
 returned-head q e h f =
-    let taken : sameHead (headOf q (e .head)) (q .head) ≡ true =
-    rw f at (and-r (ownTable q e) (isFormat (e .call) || sameHead (headOf q (e .head)) (q .head)) h) in
-    let root = sameWords-eq (headOf q (e .head) .root) (q .head .root) (search and-l) in
-    let next = eqb-eq (headOf q (e .head) .next) (q .head .next) (search (and-l, and-r)) in
+    let taken : sameHead (headBrought q (e .head)) (q .head) ≡ true =
+    rw f at (and-r (ownTable q e) (fills (e .call) || sameHead (headBrought q (e .head)) (q .head)) h) in
+    let root = sameWords-eq (headBrought q (e .head) .root) (q .head .root) (search and-l) in
+    let next = eqb-eq (headBrought q (e .head) .next) (q .head .next) (search (and-l, and-r)) in
     λ i. record { root = root i; next = next i }
 
-pub format-seen : (f : Lent → Words) (c : Call Lent) → isFormat (mapCall f c) ≡ isFormat c
-format-seen f format = refl
-format-seen f (allocate n) = refl
-format-seen f (release r) = refl
-format-seen f (find r) = refl
-format-seen f (look r hold) = refl
-format-seen f (list rs bs) = refl
+pub fills-seen : (f : Buffer → Words) (c : Call Buffer) → fills (mapCall f c) ≡ fills c
+fills-seen f format = refl
+fills-seen f (single a) = refl
+fills-seen f (look r hold) = refl
+fills-seen f (list rs bs) = refl
 
 pub outcome-is : (E : Engine) (q : Pool) (e : Event) → outcome E q e ≡ step E (mapCall (see q) (e .call)) (brought q e)
 unfolding outcome
@@ -147,23 +191,21 @@ outcome-is E q e = refl
 
 -- ---- the pool after an event
 
--- the buffers beside the pool: elsewhere, or as they were
-pub buffers-left : (c : Call Lent) (q : Pool) (xs : List Words)
-    → (all (all isOther) (buffersOf c) ≡ false → xs ≡ buffersOf (mapCall (see q) c)) → leaveAll (buffersOf c) xs q ≡ q
+-- the words written beside the pool: elsewhere, or as they were
+pub buffers-left : (c : Call Buffer) (q : Pool) (xs : List Words)
+    → (all (all isOther) (writtenBy c) ≡ false → xs ≡ buffersOf (mapCall (see q) c)) → leaveAll (writtenBy c) xs q ≡ q
 buffers-left format q xs h = refl
-buffers-left (allocate n) q xs h = refl
-buffers-left (release r) q xs h = refl
-buffers-left (find r) q xs h = refl
+buffers-left (single a) q xs h = refl
 buffers-left (look r hold) q xs h = refl
 buffers-left (list rs bs) q [] h = refl
-buffers-left (list rs bs) q (x ∷ xs) h = go (all isOther bs) refl
+buffers-left (list rs bs) q (x ∷ xs) h = go (all isOther (take (length rs) bs)) refl
   where
-    go : (b : Bool) → all isOther bs ≡ b → leave bs x q ≡ q
-    go true e = leave-other bs x q e
+    go : (b : Bool) → all isOther (take (length rs) bs) ≡ b → leave (take (length rs) bs) x q ≡ q
+    go true e = leave-other (take (length rs) bs) x q e
     go false e =
         let k : x ∷ xs ≡ see q bs ∷ [] = h (rw e) in
         let j : x ≡ see q bs = cc in
-        ap (λ (z : Words). leave bs z q) j ∙ leave-seen bs q
+        ap (λ (z : Words). leave (take (length rs) bs) z q) j ∙ leave-first (length rs) bs q
 
 -- What a call left, where it left every word that it was lent as it was. The head: see `after`.
 pub record Quiet (q : Pool) (e : Event) (o : Outcome) : Type 0 where
@@ -171,19 +213,19 @@ pub record Quiet (q : Pool) (e : Event) (o : Outcome) : Type 0 where
   pub table : o .pool .table ≡ see q (e .table)
   pub index : o .pool .index ≡ see q (e .index)
   pub head : (accepted (o .answer) && headReturns q e) ≡ true → o .pool .head ≡ q .head
-  pub buffers : all (all isOther) (buffersOf (e .call)) ≡ false → o .buffers ≡ buffersOf (mapCall (see q) (e .call))
+  pub buffers : all (all isOther) (writtenBy (e .call)) ≡ false → o .buffers ≡ buffersOf (mapCall (see q) (e .call))
 
 pub quiet-after : (E : Engine) (q : Pool) (e : Event) → Quiet q e (outcome E q e) → after E q e ≡ q
 unfolding after
 quiet-after E q e k =
     let o = outcome E q e in
-    let back : (l : Lent) (x : Words) (z : Pool) → z ≡ q → x ≡ see q l → leave l x z ≡ q =
+    let back : (l : Buffer) (x : Words) (z : Pool) → z ≡ q → x ≡ see q l → leave l x z ≡ q =
     λ l x z d j. ap₂ (λ (y : Words) (w : Pool). leave l y w) j d ∙ leave-seen l q in
     let a = back (e .arena) (o .pool .arena) q refl (k .arena) in
     let t = back (e .table) (o .pool .table) (leave (e .arena) (o .pool .arena) q) a (k .table) in
     let i = back (e .index) (o .pool .index) (leave (e .table) (o .pool .table)
     (leave (e .arena) (o .pool .arena) q)) t (k .index) in
-    ap₂ (λ (h : Head) (z : Pool). withHead h (leaveAll (buffersOf (e .call)) (o .buffers) z))
+    ap₂ (λ (h : Head) (z : Pool). withHead h (leaveAll (writtenBy (e .call)) (o .buffers) z))
     (go (accepted (o .answer) && headReturns q e) refl) i
     ∙ ap (λ (z : Pool). withHead (q .head) z) (buffers-left (e .call) q (o .buffers) (k .buffers))
   where
@@ -200,7 +242,7 @@ pub record Fits (q : Pool) (o : Outcome) : Type 0 where
   pub shape : o .pool .shape ≡ q .shape
 
 pub whole-after : (E : Engine) (q : Pool) (e : Event) → isWhole q e ≡ true → accepted (outcome E q e .answer) ≡ true
-    → all (all isOther) (buffersOf (e .call)) ≡ true → Fits q (outcome E q e) → after E q e ≡ outcome E q e .pool
+    → all (all isOther) (writtenBy (e .call)) ≡ true → Fits q (outcome E q e) → after E q e ≡ outcome E q e .pool
 unfolding after isWhole
 whole-after E q e w a b f =
     let o = outcome E q e in
@@ -213,14 +255,14 @@ whole-after E q e w a b f =
     leave-all inTable q₁ (e .table) (o .pool .table) (search (and-l, and-r)) (f .table) in
     let e₃ : leave (e .index) (o .pool .index) q₂ ≡ q₃ =
     leave-all inIndex q₂ (e .index) (o .pool .index) (search (and-l, and-r)) (f .index) in
-    let e₄ : leaveAll (buffersOf (e .call)) (o .buffers) q₃ ≡ q₃ =
+    let e₄ : leaveAll (writtenBy (e .call)) (o .buffers) q₃ ≡ q₃ =
     buffers-left (e .call) q₃ (o .buffers) (λ n. absurd (false≢true (sym n ∙ b))) in
-    let all-left : leaveAll (e .arena ∷ e .table ∷ e .index ∷ buffersOf (e .call))
+    let all-left : leaveAll (e .arena ∷ e .table ∷ e .index ∷ writtenBy (e .call))
     (o .pool .arena ∷ o .pool .table ∷ o .pool .index ∷ o .buffers) q ≡ q₃ =
-    ap (λ (z : Pool). leaveAll (buffersOf (e .call)) (o .buffers)
+    ap (λ (z : Pool). leaveAll (writtenBy (e .call)) (o .buffers)
     (leave (e .index) (o .pool .index) (leave (e .table) (o .pool .table) z))) e₁
-    ∙ ap (λ (z : Pool). leaveAll (buffersOf (e .call)) (o .buffers) (leave (e .index) (o .pool .index) z)) e₂
-    ∙ ap (λ (z : Pool). leaveAll (buffersOf (e .call)) (o .buffers) z) e₃
+    ∙ ap (λ (z : Pool). leaveAll (writtenBy (e .call)) (o .buffers) (leave (e .index) (o .pool .index) z)) e₂
+    ∙ ap (λ (z : Pool). leaveAll (writtenBy (e .call)) (o .buffers) z) e₃
     ∙ e₄ in
     let took : cond (accepted (o .answer) && headReturns q e) (o .pool .head) (q .head) ≡ o .pool .head =
     ap₂ (λ (c d : Bool). cond (c && d) (o .pool .head) (q .head)) a (whole-returns q e w) in

@@ -1,7 +1,7 @@
 -- The laws over any engine, the three demands, and their instances.
-pub mod BenchValues
 pub mod StoreLaws
 pub mod ActLaws
+pub mod GateLaws
 pub mod RowLaws
 pub mod GrantLaws
 pub mod HeldLaws
@@ -9,7 +9,7 @@ pub mod Demand1
 pub mod Demand2
 pub mod LentLaws
 pub mod CallLaws
-pub mod Standing
+pub mod ProgressLaws
 pub mod Strays
 pub mod WholeCalls
 pub mod Demand3

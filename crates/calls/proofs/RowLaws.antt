@@ -10,6 +10,7 @@ use mathlib.Core.List.{[], _∷_}
 use mathlib.Core.Option.{Option, none, some}
 use lib.Dec.{eqb, ltb}
 use lib.ListN.{length, getD}
+use Rattle.words.specs.Flags.{Says}
 use Rattle.words.proofs.ByPlace.{all-of}
 use Rattle.words.specs.Lists.{Words, all, pairwise}
 use Rattle.words.proofs.Tests.{eqb-ne, absurd-some, and-r, not-true, of-not, eqb-eq, eqb-same, lt-of, of-lt}
@@ -31,7 +32,7 @@ use Rattle.calls.specs.Demand2.{LowestFit}
 
 -- ---- 2, 3 and 4
 
-pub size-test : (E : Engine) (p : Pool) (n : ℕ) → ((eqb n 0 || ltb (E .limit (p .shape)) n) ≡ true) ↔ BadSize E p n
+pub size-test : (E : Engine) (p : Pool) (n : ℕ) → Says (eqb n 0 || ltb (E .limit (p .shape)) n) (BadSize E p n)
 size-test E p n = (
   go (eqb n 0) refl,
   ⊎-elim (λ z. rw z) (λ l. rw (of-lt (E .limit (p .shape)) n l) (or-true (eqb n 0))),
@@ -41,7 +42,7 @@ size-test E p n = (
     go true e h = inl (eqb-eq n 0 e)
     go false e h = inr (lt-of (E .limit (p .shape)) n h)
 
-pub record-test : (p : Pool) → (full (ledger p) ≡ true) ↔ NoRecord p
+pub record-test : (p : Pool) → Says (full (ledger p)) (NoRecord p)
 record-test p = (
   (λ h i l. not-true (isEmpty (recordAt t i))
       (ap isLive (sym (record-at t i l)) ∙ all-getD isLive emptyRow (ledger p) h i (inside i l))),
@@ -58,7 +59,7 @@ record-test p = (
     below : (i : ℕ) → i < length (recordsOf t) → i < slots t
     below i l = rw length-records at l
 
-pub ticket-test : (p : Pool) → (eqb (p .head .next) 0 ≡ true) ↔ NoTicket p
+pub ticket-test : (p : Pool) → Says (eqb (p .head .next) 0) (NoTicket p)
 ticket-test p = (eqb-eq (p .head .next) 0, λ z. rw z)
 
 -- ---- 5

@@ -3,11 +3,11 @@
 use Prim.Native.Nat.{ℕ, _%_}
 use native.Mathlib.Omega.{arith}
 use mathlib.Core.Path.{_≡_, refl, sym, ap, _∙_, subst}
-use mathlib.Core.Logic.{_↔_}
 use mathlib.Core.Bool.{true, _&&_}
 use mathlib.Core.List.{List, [], _∷_}
 use lib.Dec.{eqb, leb}
 use lib.ListN.{length, getD, length-replicate}
+use Rattle.words.specs.Flags.{Says}
 use Rattle.words.specs.Places.{stamp}
 use Rattle.words.proofs.Tests.{and-l, and-r, and-i, eqb-eq, eqb-same}
 use Rattle.words.proofs.ListLaws.{sameWords-eq, sameWords-same}
@@ -50,6 +50,11 @@ same-pool-same p =
     )
 
 module _ (E : Engine) where
+  pub arena-store : (L : Ledger) (n : ℕ) (p : Pool)
+      → store E L n p .arena ≡ stamp (owned (ruleOf E p) L) (E .word (p .shape) (wordCount p) L) (p .arena)
+  unfolding store
+  arena-store L n p = refl
+
   -- a second ledger whose holders own no more than the first's: only the second counts
   pub store-twice : (L₁ L₂ : Ledger) (n₁ n₂ : ℕ) (p : Pool)
       → ((i : ℕ) → owned (ruleOf E p) L₂ i ≡ true → owned (ruleOf E p) L₁ i ≡ true)
@@ -78,11 +83,6 @@ module _ (E : Engine) where
   pub words-store : (L : Ledger) (n : ℕ) (p : Pool) → wordCount (store E L n p) ≡ wordCount p
   unfolding store
   words-store L n p = length-stamp (owned (ruleOf E p) L) (E .word (p .shape) (wordCount p) L) (p .arena)
-
-  pub arena-store : (L : Ledger) (n : ℕ) (p : Pool)
-      → store E L n p .arena ≡ stamp (owned (ruleOf E p) L) (E .word (p .shape) (wordCount p) L) (p .arena)
-  unfolding store
-  arena-store L n p = refl
 
   -- what holders own stays
   pub store-keeps : (L : Ledger) (n : ℕ) (p : Pool) (i : ℕ) → owned (ruleOf E p) L i ≡ true
@@ -197,7 +197,7 @@ module _ (E : Engine) where
       (owned-more p m ms))
 
 -- Row 1, as 01 says it: a pool is sound exactly if its lengths are right and it is the stored form of some ledger.
-pub sound-form : (E : Engine) → Laws E → (p : Pool) → (sound E p ≡ true) ↔ StoredForm E p
+pub sound-form : (E : Engine) → Laws E → (p : Pool) → Says (sound E p) (StoredForm E p)
 sound-form E laws p = (
   (λ ok. record {
     of = ledger p;

@@ -1,28 +1,30 @@
 -- Calls on the pool whole: each act of a sequence carries out a plan of the set, or changes nothing. Assumes nothing.
 use Prim.Native.Nat.{ℕ}
+use native.Mathlib.Omega.{arith}
 use mathlib.Core.Path.{_≡_, refl, sym, ap, _∙_, subst}
-use mathlib.Core.Bool.{Bool, true, false, not, _||_, false≢true, true≢false, _&&_}
+use mathlib.Core.Bool.{Bool, true, false, not, _&&_, _||_, false≢true, true≢false}
 use mathlib.Core.List.{List, [], _∷_}
 use mathlib.Core.Option.{Option, none, some}
 use lib.Dec.{eqb}
-use Rattle.words.specs.Lists.{Words, any, isSome}
-use Rattle.words.proofs.Tests.{and-l, and-r, not-true, eqb-eq}
+use Rattle.words.specs.Lists.{Words, isSome}
+use Rattle.words.proofs.Tests.{and-l, and-r, not-true, eqb-eq, eqb-ne, false-of}
 use Rattle.ledger.specs.declared.Row.{Row}
 use Rattle.ledger.specs.Records.{Ledger, recordOf, Plan, vacate, Member, member, planFor, settle}
 use Rattle.ledger.proofs.RecordLaws.{record-gone, record-kept}
 use Rattle.calls.specs.declared.Answer.{Answer}
-use Rattle.calls.specs.Pool.{Pool, ledger, Engine, Laws, store, sound}
-use Rattle.calls.specs.Step.{Call, granted, accepted, Act, ask, give, query, bad, Counted, Outcome, named}
-use Rattle.calls.specs.Step.{answerTo, poolAfter, countedOf, poolAfterAll, actsOf, buffersOf, suits, perform}
-use Rattle.calls.specs.Step.{formatted, refusedWhole, step, format, allocate, release, find, look, list}
-use Rattle.calls.specs.Step.{isFormat}
-use Rattle.calls.specs.Demand3.{Brings, Standing, remove, live, isDue, isReplay, stands, Right, afterAct}
-use Rattle.calls.specs.Demand3.{standAll, RightAll, afterActs}
-use Rattle.calls.proofs.StoreLaws.{ledger-store, settled-sound, sound-lengths, settled, settled-more}
-use Rattle.calls.proofs.StoreLaws.{sound-stored}
-use Rattle.calls.proofs.ActLaws.{give-done, one, named-zero, way, Way, eight, runs}
-use Rattle.calls.proofs.Standing.{Inv, inv-carried, given, stays, NotDue}
-use Rattle.calls.proofs.CallLaws.{act-kept, give-six, own-refused, own-buffers, unsuited-whole, query-kept}
+use Rattle.calls.specs.Pool.{Pool, ledger, Engine, Laws, sound}
+use Rattle.calls.specs.Step.{Call, format, single, look, list, success, refusal, accepted, Act, query, Kind, plans}
+use Rattle.calls.specs.Step.{reads, others, kindOf, Counted, Outcome, named, carry, answerTo, poolAfter, countedOf}
+use Rattle.calls.specs.Step.{poolAfterAll, actsOf, buffersOf, suits, fills, ownAnswer, asOne, refusedBy, actsDone}
+use Rattle.calls.specs.Step.{perform, step}
+use Rattle.calls.specs.Demand3.{Brings, Progress, remove, isPlan, live, isDue, isReplay, standsAs, stands, RightAs}
+use Rattle.calls.specs.Demand3.{Right, afterAs, afterAct, standAll, RightAll, afterActs}
+use Rattle.calls.proofs.StoreLaws.{ledger-store, settled-sound, settled, settled-more}
+use Rattle.calls.proofs.ActLaws.{named-none, named-zero, plan-done, kind-plans}
+use Rattle.calls.proofs.GateLaws.{Way, stops, runs, way, gate-sound, perform-acts}
+use Rattle.calls.proofs.ProgressLaws.{Inv, inv-carried, is-plan, given, stays, NotDue}
+use Rattle.calls.proofs.CallLaws.{act-kept, reads-kept, plan-refused, own-refused, own-buffers, unsuited-whole}
+use Rattle.calls.proofs.Strays.{no-filling}
 
 -- ---- their acts
 
@@ -30,219 +32,269 @@ abbrev pub all-own : Brings
 all-own = record { whole = true; table = true }
 
 -- what a release of the set says
-module _ (start : Ledger) (s : Standing) (r : Row) (d : isDue start all-own s r ≡ true) where
-  due-has : isSome (planFor (r .ticket) (s .due)) ≡ true
+module _ (start : Ledger) (s : Progress) (x : Plan) (r : Row) (d : isDue start all-own s x r ≡ true) where
+  due-plan : planFor (r .ticket) (s .due) ≡ some x
   unfolding isDue
-  due-has = search and-l
+  due-plan = is-plan x (planFor (r .ticket) (s .due)) (search and-l)
 
-  due-named : named start r ≡ 0
+  due-held : recordOf (r .ticket) start ≡ some r
   unfolding isDue
-  due-named = eqb-eq (named start r) 0 (search and-r)
+  due-held = named-zero start r (eqb-eq (named start r) 0 (search and-r))
 
-  due-live : any (eqb (r .ticket)) (s .spent) ≡ false → isReplay start all-own s r ≡ false
+  due-live : planFor (r .ticket) (s .done) ≡ none → isReplay start all-own s r ≡ false
   unfolding isReplay live
-  due-live h = rw (named-zero start r due-named, h)
+  due-live h = rw (due-held, h)
 
-  pub due-after : (x : Answer) → accepted x ≡ true
-      → afterAct start all-own s (given (give r) x) ≡ record {
+  pub due-after : (a : Act) → kindOf a ≡ plans x r → (y : Answer) → accepted y ≡ true
+      → afterAct start all-own s (given a y) ≡ record {
         due = remove (r .ticket) (s .due);
-        spent = r .ticket ∷ s .spent;
+        done = member (r .ticket) x ∷ s .done;
       }
   unfolding afterAct
-  due-after x h = rw (d, h)
+  due-after a k y h = ap (λ (z : Kind). afterAs start all-own s z y) k ∙ rw (d, h)
 
 module _ (E : Engine) (laws : Laws E) (p : Pool) (ok : sound E p ≡ true) (ms : List Member) where
   -- what one act, and several, do to a sequence that has come to the pool q
-  pub record Acted (s : Standing) (q : Pool) (a : Act) : Type 0 where
-    pub past : List Member
-    pub pool : poolAfter E q a ≡ settled E p past
-    pub inv : Inv ms (afterAct (ledger p) all-own s (given a (answerTo E q a))) past
+  pub record Acted (s : Progress) (q : Pool) (a : Act) : Type 0 where
+    pub pool : poolAfter E q a ≡ settled E p (afterAct (ledger p) all-own s (given a (answerTo E q a)) .done)
+    pub inv : Inv ms (afterAct (ledger p) all-own s (given a (answerTo E q a)))
     pub right : Right (ledger p) all-own s (given a (answerTo E q a))
+    pub still : accepted (answerTo E q a) ≡ false → afterAct (ledger p) all-own s (given a (answerTo E q a)) ≡ s
 
-  pub record ActedAll (s : Standing) (q : Pool) (more : List Act) : Type 0 where
-    pub past : List Member
-    pub pool : poolAfterAll E q more ≡ settled E p past
-    pub inv : Inv ms (afterActs (ledger p) all-own s (countedOf E q more)) past
+  pub record ActedAll (s : Progress) (q : Pool) (more : List Act) : Type 0 where
+    pub pool : poolAfterAll E q more ≡ settled E p (afterActs (ledger p) all-own s (countedOf E q more) .done)
+    pub inv : Inv ms (afterActs (ledger p) all-own s (countedOf E q more))
     pub right : RightAll (ledger p) all-own s (countedOf E q more)
 
-  module _ (s : Standing) (past : List Member) (q : Pool) (e : q ≡ settled E p past) (v : Inv ms s past) where
-    records : ledger q ≡ settle past (ledger p)
+  module _ (s : Progress) (q : Pool) (e : q ≡ settled E p (s .done)) (v : Inv ms s) where
+    records : ledger q ≡ settle (s .done) (ledger p)
     unfolding settled
-    records = ap (λ (z : Pool). ledger z) e ∙ ledger-store E (settle past (ledger p)) (p .head .next) p
+    records = ap (λ (z : Pool). ledger z) e ∙ ledger-store E (settle (s .done) (ledger p)) (p .head .next) p
 
     -- a ticket whose release was accepted, and one that was never there, has no record
-    pub not-there : (t : ℕ) → live (ledger p) (s .spent) t ≡ false → recordOf t (ledger q) ≡ none
+    not-there : (t : ℕ) → live (ledger p) (s .done) t ≡ false → recordOf t (ledger q) ≡ none
     unfolding live
     not-there t h =
-        ap (λ (L : Ledger). recordOf t L) records ∙ go (planFor t past) refl (recordOf t (ledger p)) refl (v .spent t)
+        ap (λ (L : Ledger). recordOf t L) records
+        ∙ go (planFor t (s .done)) refl (recordOf t (ledger p)) refl h
       where
-        go : (o : Option Plan) → planFor t past ≡ o → (r : Option Row) → recordOf t (ledger p) ≡ r
-            → any (eqb t) (s .spent) ≡ isSome (planFor t past) → recordOf t (settle past (ledger p)) ≡ none
-        go (some k) x r y z = record-gone t past (ap (λ (o : Option Plan). isSome o) x) (ledger p)
-        go none x none y z = record-kept t past x (ledger p) ∙ y
-        go none x (some r) y z =
-            let a : any (eqb t) (s .spent) ≡ false = z ∙ ap (λ (o : Option Plan). isSome o) x in
-            absurd (true≢false (sym (rw (y, a)) ∙ h))
+        go : (o : Option Plan) → planFor t (s .done) ≡ o → (y : Option Row) → recordOf t (ledger p) ≡ y
+            → (isSome y && not (isPlan vacate o)) ≡ false → recordOf t (settle (s .done) (ledger p)) ≡ none
+        go (some k) x y z h = record-gone t (s .done) (ap (λ (o : Option Plan). isSome o) x) (ledger p)
+        go none x none z h = record-kept t (s .done) x (ledger p) ∙ z
+        go none x (some r) z h = absurd (true≢false h)
+
+    -- a replay names no record
+    pub replay-six : (b : Brings) (r : Row) → isReplay (ledger p) b s r ≡ true → named (ledger q) r ≡ 6
+    unfolding isReplay
+    replay-six b r h =
+        named-none (ledger q) r
+        (not-there (r .ticket) (not-true (live (ledger p) (s .done) (r .ticket)) (search and-r)))
 
     -- an act that is refused and is no release of the set
-    refused-act : (a : Act) → NotDue (ledger p) all-own s a → accepted (answerTo E q a) ≡ false
+    refused-act : (a : Act) → NotDue (ledger p) all-own s (kindOf a) → accepted (answerTo E q a) ≡ false
         → Right (ledger p) all-own s (given a (answerTo E q a)) → Acted s q a
-    refused-act a d f r = record {
-      past = past;
-      pool = act-kept E q a f ∙ e;
-      inv = subst (λ (z : Standing). Inv ms z past) (sym (stays (ledger p) all-own s a (answerTo E q a) d f)) v;
-      right = r;
-    }
+    refused-act a d f r =
+        let same = stays (ledger p) all-own s a (answerTo E q a) d f in
+        record {
+          pool = act-kept E q a f ∙ e ∙ ap (λ (z : Progress). settled E p (z .done)) (sym same);
+          inv = subst (λ (z : Progress). Inv ms z) (sym same) v;
+          right = r;
+          still = λ _. same;
+        }
 
     -- a release of the set
-    pub due-act : (r : Row) → isDue (ledger p) all-own s r ≡ true → Acted s q (give r)
-    due-act r d = record {
-      past = member (r .ticket) vacate ∷ past;
-      pool = did .1 ∙ ap (λ (z : Pool). store E (settle (member (r .ticket) vacate ∷ []) (ledger z))
-          (z .head .next) z) e
-          ∙ settled-more E p (member (r .ticket) vacate) past;
-      inv = subst (λ (z : Standing). Inv ms z (member (r .ticket) vacate ∷ past)) (sym moved)
-          (inv-carried ms past s (r .ticket) v has);
-      right = record {
-        accepts = λ _. did .0;
-        refuses = λ k. absurd (true≢false (sym k ∙ no-replay));
-        six = λ k _. absurd (true≢false (sym k ∙ no-replay));
-      };
-    }
+    pub due-act : (a : Act) (x : Plan) (r : Row) → kindOf a ≡ plans x r → isDue (ledger p) all-own s x r ≡ true
+        → (answerTo E q a ≡ success r) × Acted s q a
+    due-act a x r k d = (
+      did .0,
+      record {
+        pool = did .1 ∙ ap (λ (z : Pool). carry E z (r .ticket) x) e
+            ∙ settled-more E p (member (r .ticket) x) (s .done)
+            ∙ ap (λ (z : Progress). settled E p (z .done)) (sym moved);
+        inv = subst (λ (z : Progress). Inv ms z) (sym moved) (inv-carried ms s (r .ticket) x v plan);
+        right = subst (λ (z : Kind). RightAs (ledger p) all-own s z (answerTo E q a)) (sym k) (record {
+          accepts = λ _. did .0;
+          refuses = λ h. absurd (true≢false (sym h ∙ fresh));
+          six = λ h _. absurd (true≢false (sym h ∙ fresh));
+        });
+        still = λ f. absurd (true≢false (sym (ap accepted (did .0)) ∙ f));
+      },
+    )
       where
-        has : isSome (planFor (r .ticket) (s .due)) ≡ true
-        has = due-has (ledger p) s r d
+        plan : planFor (r .ticket) (s .due) ≡ some x
+        plan = due-plan (ledger p) s x r d
 
-        untouched : planFor (r .ticket) past ≡ none
-        untouched = v .fresh (r .ticket) has
+        untouched : planFor (r .ticket) (s .done) ≡ none
+        untouched = v .fresh (r .ticket) (rw plan)
 
-        did : (answerTo E q (give r) ≡ granted r)
-            × (poolAfter E q (give r) ≡ store E (settle (member (r .ticket) vacate ∷ []) (ledger q)) (q .head .next) q)
+        did : (answerTo E q a ≡ success r) × (poolAfter E q a ≡ carry E q (r .ticket) x)
         did =
-            give-done E q r
+            subst (λ (z : Act). (answerTo E q z ≡ success r) × (poolAfter E q z ≡ carry E q (r .ticket) x))
+            (sym (kind-plans a x r k))
+            (plan-done E q x r
             (ap (λ (L : Ledger). recordOf (r .ticket) L) records
-            ∙ record-kept (r .ticket) past untouched (ledger p) ∙ named-zero (ledger p) r (due-named (ledger p) s r d))
+            ∙ record-kept (r .ticket) (s .done) untouched (ledger p) ∙ due-held (ledger p) s x r d))
 
-        no-replay : isReplay (ledger p) all-own s r ≡ false
-        no-replay = due-live (ledger p) s r d (v .spent (r .ticket) ∙ ap (λ (o : Option Plan). isSome o) untouched)
+        fresh : isReplay (ledger p) all-own s r ≡ false
+        fresh = due-live (ledger p) s x r d untouched
 
-        moved : afterAct (ledger p) all-own s (given (give r) (answerTo E q (give r))) ≡ record {
+        moved : afterAct (ledger p) all-own s (given a (answerTo E q a)) ≡ record {
           due = remove (r .ticket) (s .due);
-          spent = r .ticket ∷ s .spent;
+          done = member (r .ticket) x ∷ s .done;
         }
-        moved = due-after (ledger p) s r d (answerTo E q (give r)) (ap accepted (did .0))
+        moved = due-after (ledger p) s x r d a k (answerTo E q a) (ap accepted (did .0))
 
-    replay-act : (r : Row) → isDue (ledger p) all-own s r ≡ false → isReplay (ledger p) all-own s r ≡ true
-        → Acted s q (give r)
-    unfolding isReplay
-    replay-act r d h =
-        let six = give-six E q r (not-there (r .ticket) (not-true (live (ledger p) (s .spent) (r .ticket)) h)) in
-        refused-act (give r) d (ap accepted six)
-        (record { accepts = λ k. absurd (true≢false (sym k ∙ d)); refuses = λ _. ap accepted six; six = λ _ _. six })
+    -- one that is not due: refused, whether it is a replay or another
+    other-plan : (a : Act) (x : Plan) (r : Row) → kindOf a ≡ plans x r → isDue (ledger p) all-own s x r ≡ false
+        → accepted (answerTo E q a) ≡ false → Acted s q a
+    other-plan a x r k d f =
+        refused-act a (subst (λ (z : Kind). NotDue (ledger p) all-own s z) (sym k) d) f
+        (subst (λ (z : Kind). RightAs (ledger p) all-own s z (answerTo E q a)) (sym k) (record {
+          accepts = λ h. absurd (true≢false (sym h ∙ d));
+          refuses = λ _. f;
+          six = λ h _. plan-refused E q a x r k 6 (replay-six all-own r h) (λ z. omega arith);
+        }))
 
-    other-give : (r : Row) → isDue (ledger p) all-own s r ≡ false → isReplay (ledger p) all-own s r ≡ false
-        → accepted (answerTo E q (give r)) ≡ false → Acted s q (give r)
-    other-give r d h f =
-        refused-act (give r) d f
-        (record {
-          accepts = λ k. absurd (true≢false (sym k ∙ d));
-          refuses = λ k. absurd (true≢false (sym k ∙ h));
-          six = λ k _. absurd (true≢false (sym k ∙ h));
-        })
+    -- an act that reads
+    reading : (a : Act) → kindOf a ≡ reads → Acted s q a
+    unfolding afterAct
+    reading a k =
+        let same : afterAct (ledger p) all-own s (given a (answerTo E q a)) ≡ s =
+        ap (λ (z : Kind). afterAs (ledger p) all-own s z (answerTo E q a)) k in
+        record {
+          pool = reads-kept E q a k ∙ e ∙ ap (λ (z : Progress). settled E p (z .done)) (sym same);
+          inv = subst (λ (z : Progress). Inv ms z) (sym same) v;
+          right = subst (λ (z : Kind). RightAs (ledger p) all-own s z (answerTo E q a)) (sym k) tt;
+          still = λ _. same;
+        }
 
     act-at : (a : Act) → stands (ledger p) all-own s (given a (answerTo E q a)) ≡ true → Acted s q a
-    unfolding stands afterAct
-    act-at (ask n) h = refused-act (ask n) tt (not-true (accepted (answerTo E q (ask n))) h) tt
-    act-at bad h = refused-act bad tt (not-true (accepted (answerTo E q bad)) h) tt
-    act-at (query r) h = record { past = past; pool = query-kept E q r ∙ e; inv = v; right = tt }
-    act-at (give r) h = go (isDue (ledger p) all-own s r) refl (isReplay (ledger p) all-own s r) refl h
+    unfolding stands
+    act-at a h = go (kindOf a) refl h
       where
-        go : (b : Bool) → isDue (ledger p) all-own s r ≡ b → (c : Bool) → isReplay (ledger p) all-own s r ≡ c
-            → (isDue (ledger p) all-own s r || isReplay (ledger p) all-own s r
-            || not (accepted (answerTo E q (give r)))) ≡ true → Acted s q (give r)
-        go true d c x h = due-act r d
-        go false d true x h = replay-act r d x
-        go false d false x h = other-give r d x (not-true (accepted (answerTo E q (give r))) (rw (d, x) at h))
+        plan : (x : Plan) (r : Row) → kindOf a ≡ plans x r → (b : Bool) → isDue (ledger p) all-own s x r ≡ b
+            → (c : Bool) → isReplay (ledger p) all-own s r ≡ c
+            → (b || c || not (accepted (answerTo E q a))) ≡ true → Acted s q a
+        plan x r k true d c y h = due-act a x r k d .1
+        plan x r k false d true y h =
+            other-plan a x r k d
+            (ap accepted (plan-refused E q a x r k 6 (replay-six all-own r y) (λ z. omega arith)))
+        plan x r k false d false y h = other-plan a x r k d (not-true (accepted (answerTo E q a)) h)
 
-  acts-at : (more : List Act) (s : Standing) (past : List Member) (q : Pool) → q ≡ settled E p past → Inv ms s past
+        go : (k : Kind) → kindOf a ≡ k → standsAs (ledger p) all-own s k (answerTo E q a) ≡ true → Acted s q a
+        go (plans x r) k h =
+            plan x r k (isDue (ledger p) all-own s x r) refl (isReplay (ledger p) all-own s r) refl h
+        go reads k h = reading a k
+        go others k h =
+            refused-act a (subst (λ (z : Kind). NotDue (ledger p) all-own s z) (sym k) tt)
+            (not-true (accepted (answerTo E q a)) h)
+            (subst (λ (z : Kind). RightAs (ledger p) all-own s z (answerTo E q a)) (sym k) tt)
+
+  acts-at : (more : List Act) (s : Progress) (q : Pool) → q ≡ settled E p (s .done) → Inv ms s
       → standAll (ledger p) all-own s (countedOf E q more) ≡ true → ActedAll s q more
-  acts-at [] s past q e v h = record { past = past; pool = e; inv = v; right = tt }
-  acts-at (a ∷ more) s past q e v h =
+  acts-at [] s q e v h = record { pool = e; inv = v; right = tt }
+  acts-at (a ∷ more) s q e v h =
       let c = given a (answerTo E q a) in
       let later = countedOf E (poolAfter E q a) more in
-      let one = act-at s past q e v a (and-l (stands (ledger p) all-own s c)
+      let one = act-at s q e v a (and-l (stands (ledger p) all-own s c)
       (standAll (ledger p) all-own (afterAct (ledger p) all-own s c) later) h) in
-      let rest = acts-at more (afterAct (ledger p) all-own s c) (one .past) (poolAfter E q a) (one .pool) (one .inv)
+      let rest = acts-at more (afterAct (ledger p) all-own s c) (poolAfter E q a) (one .pool) (one .inv)
       (and-r (stands (ledger p) all-own s c)
       (standAll (ledger p) all-own (afterAct (ledger p) all-own s c) later) h) in
-      record { past = rest .past; pool = rest .pool; inv = rest .inv; right = (one .right, rest .right) }
+      record { pool = rest .pool; inv = rest .inv; right = (one .right, rest .right) }
 
 -- ---- the calls
 
-module _ (E : Engine) (laws : Laws E) (p : Pool) (ok : sound E p ≡ true) (ms : List Member) where
-  pub record WholeCall (s : Standing) (q : Pool) (c : Call Words) (o : Outcome) : Type 0 where
-    pub past : List Member
-    pub pool : o .pool ≡ settled E p past
-    pub inv : Inv ms (afterActs (ledger p) all-own s (o .counted)) past
-    pub right : RightAll (ledger p) all-own s (o .counted)
-    pub kept : accepted (o .answer) ≡ false → o .pool ≡ q
-    pub buffers : accepted (o .answer) ≡ false → o .buffers ≡ buffersOf c
+-- every word that a call was lent is left as it was
+pub record Unmoved (q : Pool) (c : Call Words) (o : Outcome) : Type 0 where
+  pub arena : o .pool .arena ≡ q .arena
+  pub table : o .pool .table ≡ q .table
+  pub index : o .pool .index ≡ q .index
+  pub buffers : o .buffers ≡ buffersOf c
 
-  module _ (s : Standing) (past : List Member) (q : Pool) (e : q ≡ settled E p past) (v : Inv ms s past) where
+module _ (E : Engine) (laws : Laws E) (p : Pool) (ok : sound E p ≡ true) (ms : List Member) where
+  pub record WholeCall (s : Progress) (q : Pool) (c : Call Words) (o : Outcome) : Type 0 where
+    pub pool : accepted (o .answer) ≡ true
+        → o .pool ≡ settled E p (afterActs (ledger p) all-own s (o .counted) .done)
+    pub inv : Inv ms (afterActs (ledger p) all-own s (o .counted))
+    pub right : RightAll (ledger p) all-own s (o .counted)
+    -- refused, it leaves every word, and the sequence where it stands
+    pub kept : accepted (o .answer) ≡ false → Unmoved q c o × (afterActs (ledger p) all-own s (o .counted) ≡ s)
+
+  module _ (s : Progress) (q : Pool) (e : q ≡ settled E p (s .done)) (v : Inv ms s) where
     pub whole-sound : sound E q ≡ true
     unfolding settled
-    whole-sound = ap (λ (z : Pool). sound E z) e ∙ settled-sound E laws p ok past
+    whole-sound = ap (λ (z : Pool). sound E z) e ∙ settled-sound E laws p ok (s .done)
 
-    -- a format of a sound pool is accepted, so it stands in no sequence
-    no-format : standAll (ledger p) all-own s (formatted E q .counted) ≡ true → ⊥
-    unfolding formatted stands
-    no-format h = false≢true (rw (sound-lengths E laws q whole-sound) at h)
-
-    whole-unsuited : (c : Call Words) → suits c ≡ false → WholeCall s q c (refusedWhole c q 8)
+    -- the gate of a sound pool stops only a list call that does not suit its buffers; it counts as a whole
+    whole-stopped : (c : Call Words) (n : ℕ) → eqb n 0 ≡ false → suits c ≡ false → WholeCall s q c (refusedBy E c q n)
     unfolding afterAct
-    whole-unsuited c u = record {
-      past = past;
-      pool = e;
-      inv = subst (λ (k : Counted). Inv ms (afterActs (ledger p) all-own s (k ∷ [])) past)
-          (sym (unsuited-whole c 8 u)) v;
-      right = subst (λ (k : Counted). RightAll (ledger p) all-own s (k ∷ [])) (sym (unsuited-whole c 8 u)) (tt, tt);
-      kept = λ _. refl;
-      buffers = λ _. refl;
-    }
-
-    whole-performed : (c : Call Words) → isFormat c ≡ false
-        → standAll (ledger p) all-own s (perform E c q .counted) ≡ true
-        → WholeCall s q c (perform E c q)
-    unfolding perform
-    whole-performed c n h =
-        let a = acts-at E laws p ok ms (actsOf c) s past q e v h in
+    whole-stopped c n z u =
+        let k : refusedBy E c q n .counted ≡ asOne (refusal n) ∷ [] =
+        ap (λ (x : Counted). x ∷ []) (unsuited-whole c n u) in
         record {
-          past = a .past;
-          pool = a .pool;
-          inv = a .inv;
-          right = a .right;
-          kept = own-refused E c q n;
-          buffers = own-buffers c (countedOf E q (actsOf c));
+          pool = λ h. absurd (false≢true (sym z ∙ h));
+          inv = subst (λ (cs : List Counted). Inv ms (afterActs (ledger p) all-own s cs)) (sym k) v;
+          right = subst (λ (cs : List Counted). RightAll (ledger p) all-own s cs) (sym k) (tt, tt);
+          kept = λ _. (
+            record { arena = refl; table = refl; index = refl; buffers = refl },
+            ap (λ (cs : List Counted). afterActs (ledger p) all-own s cs) k,
+          );
         }
 
-    by-way : (c : Call Words) → isFormat c ≡ false → (o : Outcome) → Way E c q o
-        → standAll (ledger p) all-own s (o .counted) ≡ true
-        → WholeCall s q c o
-    unfolding sound
-    by-way c f o (eight x e) h =
-        subst (λ (z : Outcome). WholeCall s q c z) (sym e)
-        (whole-unsuited c (ap (λ (b : Bool). b && suits c) (sym (sound-lengths E laws q whole-sound)) ∙ x))
-    by-way c f o (one x y e) h = absurd (true≢false (sym (sound-stored E laws q whole-sound) ∙ y))
-    by-way c f o (runs x y e) h =
-        subst (λ (z : Outcome). WholeCall s q c z) (sym e)
-        (whole-performed c f (subst (λ (z : Outcome). standAll (ledger p) all-own s (z .counted) ≡ true) e h))
+    whole-acted : (c : Call Words) → fills c ≡ false → standAll (ledger p) all-own s (actsDone E c q .counted) ≡ true
+        → WholeCall s q c (actsDone E c q)
+    unfolding actsDone
+    whole-acted c n h =
+        let a = acts-at E laws p ok ms (actsOf c) s q e v h in
+        record { pool = λ _. a .pool; inv = a .inv; right = a .right; kept = λ f. (left f, still c n h f) }
+      where
+        left : accepted (ownAnswer c (countedOf E q (actsOf c))) ≡ false → Unmoved q c (actsDone E c q)
+        left f =
+            let k = own-refused E c q n f in
+            record {
+              arena = ap (λ (z : Pool). z .arena) k;
+              table = ap (λ (z : Pool). z .table) k;
+              index = ap (λ (z : Pool). z .index) k;
+              buffers = own-buffers c (countedOf E q (actsOf c)) f;
+            }
+
+        one : (a : Act) → standAll (ledger p) all-own s (countedOf E q (a ∷ [])) ≡ true
+            → accepted (answerTo E q a) ≡ false → afterAct (ledger p) all-own s (given a (answerTo E q a)) ≡ s
+        one a h f =
+            act-at E laws p ok ms s q e v a
+            (and-l (stands (ledger p) all-own s (given a (answerTo E q a))) true h) .still f
+
+        still : (c : Call Words) → fills c ≡ false
+            → standAll (ledger p) all-own s (countedOf E q (actsOf c)) ≡ true
+            → accepted (ownAnswer c (countedOf E q (actsOf c))) ≡ false
+            → afterActs (ledger p) all-own s (countedOf E q (actsOf c)) ≡ s
+        still format n h f = absurd (true≢false n)
+        still (single a) n h f = one a h f
+        still (look r hold) n h f = one (query r) h f
+        still (list rs bs) n h f = absurd (true≢false f)
 
     pub whole-step : (c : Call Words) → standAll (ledger p) all-own s (step E c q .counted) ≡ true
         → WholeCall s q c (step E c q)
-    unfolding step
-    whole-step format h = absurd (no-format h)
-    whole-step (allocate n) h = by-way (allocate n) refl (step E (allocate n) q) (way E (allocate n) q refl) h
-    whole-step (release r) h = by-way (release r) refl (step E (release r) q) (way E (release r) q refl) h
-    whole-step (find r) h = by-way (find r) refl (step E (find r) q) (way E (find r) q refl) h
-    whole-step (look r hold) h = by-way (look r hold) refl (step E (look r hold) q) (way E (look r hold) q refl) h
-    whole-step (list rs bs) h = by-way (list rs bs) refl (step E (list rs bs) q) (way E (list rs bs) q refl) h
+    whole-step c h = by (step E c q) (way E c q) h
+      where
+        at : (o z : Outcome) → o ≡ z → WholeCall s q c z → WholeCall s q c o
+        at o z i k = subst (λ (y : Outcome). WholeCall s q c y) (sym i) k
+
+        acts : (f : Bool) → fills c ≡ f → standAll (ledger p) all-own s (perform E c q .counted) ≡ true
+            → WholeCall s q c (perform E c q)
+        acts true f h = absurd (no-filling E (ledger p) all-own s c q f h)
+        acts false f h =
+            let i = perform-acts E c q f in
+            at (perform E c q) (actsDone E c q) i
+            (whole-acted c f (subst (λ (z : Outcome). standAll (ledger p) all-own s (z .counted) ≡ true) i h))
+
+        by : (o : Outcome) → Way E c q o → standAll (ledger p) all-own s (o .counted) ≡ true → WholeCall s q c o
+        by o (stops n g z i) h =
+            at o (refusedBy E c q n) i
+            (whole-stopped c n (eqb-ne n 0 z)
+            (false-of (suits c) (λ u. z (sym g ∙ gate-sound E c q u whole-sound))))
+        by o (runs g i) h =
+            at o (perform E c q) i
+            (acts (fills c) refl (subst (λ (z : Outcome). standAll (ledger p) all-own s (z .counted) ≡ true) i h))

@@ -7,9 +7,8 @@ use Rattle.ledger.specs.Runs.{freeRuns}
 use Rattle.stored_forms.specs.Tree.{formOne, treeRange, freeTree}
 use Rattle.stored_forms.specs.Segments.{controlWord, segmentWord, segmentSize, indexWord, segmentIndex, segmentRange}
 use Rattle.calls.specs.Pool.{store, samePool, lengths, stored, sound}
-use Rattle.calls.specs.Step.{named, fitOf, numberOf, grant, answerOf, poolOf, answerTo, poolAfter, perform}
-use Rattle.calls.specs.Step.{checked}
-use Rattle.calls.specs.Step.{formatted, step}
+use Rattle.calls.specs.Step.{named, fitOf, numberOf, grant, answerDone, poolDone, answerTo, poolAfter, behind}
+use Rattle.calls.specs.Step.{gate, actsDone, perform, step}
 use Rattle.calls.specs.Engines.{treeEngineOf, treeEngine, segmentEngine}
 use Rattle.calls.specs.Lent.{isWhole, ownTable, headReturns, outcome, after}
 use Rattle.calls.specs.Demand3.{live, isDue, isReplay, stands, afterAct}
@@ -19,8 +18,8 @@ unfolding wiped recordsOf span addressAt first past fits apart valid covers free
 ledgerOpened = tt
 
 unfoldable pub stepOpened : Unit {0}
-unfolding store samePool lengths stored sound named fitOf numberOf grant answerOf poolOf answerTo poolAfter perform
-    checked formatted step
+unfolding store samePool lengths stored sound named fitOf numberOf grant answerDone poolDone answerTo poolAfter behind
+    gate actsDone perform step
 stepOpened = tt
 
 unfoldable pub sequenceOpened : Unit {0}

@@ -7,17 +7,17 @@ use Prim.Native.Nat.{ℕ, _+_, _/_, _%_, _≤_, _<_}
 use mathlib.Core.Path.{_≡_}
 use mathlib.Core.Logic.{_≢_, _↔_, _⊎_}
 use mathlib.Core.Bool.{true, false, _&&_}
+use mathlib.Core.List.{List, _++_}
 use lib.ListN.{length}
+use Rattle.words.specs.Flags.{Says}
 use Rattle.words.specs.Lists.{Words}
 use Rattle.ledger.specs.declared.Row.{Row}
 use Rattle.ledger.specs.Records.{row, slots, recordAt, isEmpty}
 use Rattle.ledger.specs.Units.{span, free}
-use Rattle.calls.specs.Pool.{Head, Pool, ledger, wordCount, Engine, ruleOf, lengths, sound, StoredForm}
-pub use Rattle.calls.specs.Step.{isFormat}
-use Rattle.calls.specs.Step.{Call, format, allocate, release, find, look, list, refusal, accepted, arenaPart}
-use Rattle.calls.specs.Step.{placeholder, Act, ask, give, query, bad, Outcome, request, listSuits, countedOf}
-use Rattle.calls.specs.Step.{poolAfterAll, answerTo, poolAfter, actsOf, buffersOf, suits, ownAnswer, sliceOf}
-use Rattle.calls.specs.Step.{buffersAfter, zeroHead, step}
+use Rattle.calls.specs.Pool.{Pool, ledger, wordCount, Engine, ruleOf, lengths, sound, StoredForm}
+use Rattle.calls.specs.Step.{Call, format, find, look, refusal, accepted, arenaPart, placeholder, Act, ask, give}
+use Rattle.calls.specs.Step.{query, bad, Outcome, request, listSuits, countedOf, poolAfterAll, answerTo, poolAfter}
+use Rattle.calls.specs.Step.{actsOf, buffersOf, suits, fills, ownAnswer, shownBy, buffersAfter, refusedHead, step}
 
 -- ---- the rows of the table, each said of the records, units and words themselves
 
@@ -69,16 +69,8 @@ ActNumbers E p bad x = x ≡ 9
 
 -- ---- a refused call
 
--- a refused format alone hands back another head than it got: zeros
-abbrev pub refusedHead : Engine → Call Words → Pool → Head
-refusedHead E format p = zeroHead E
-refusedHead E (allocate n) p = p .head
-refusedHead E (release r) p = p .head
-refusedHead E (find r) p = p .head
-refusedHead E (look r hold) p = p .head
-refusedHead E (list rs bs) p = p .head
-
--- its number with ticket, address and words 0; head, S, arena, table, index and answer buffer as they were
+-- its number with ticket, address and words 0; head (but for format's zeros), S, arena, table, index and answer
+-- buffer as they were
 pub record Refused (E : Engine) (c : Call Words) (p : Pool) (o : Outcome) : Type 0 where
   pub answer : o .answer ≡ refusal (o .answer .number)
   pub head : o .pool .head ≡ refusedHead E c p
@@ -88,7 +80,7 @@ pub record Refused (E : Engine) (c : Call Words) (p : Pool) (o : Outcome) : Type
   pub index : o .pool .index ≡ p .index
   pub buffers : o .buffers ≡ buffersOf c
   -- look hands back the placeholder
-  pub shown : o .shown ≡ sliceOf c (refusal (o .answer .number))
+  pub shown : o .shown ≡ shownBy c (refusal (o .answer .number))
 
 -- a call on a sound pool and lengths that suit does its acts, one after another: each act's answer is `answerTo` on
 -- the pool as the one before left it
@@ -96,11 +88,11 @@ pub record Performed (E : Engine) (c : Call Words) (p : Pool) (o : Outcome) : Ty
   pub counted : o .counted ≡ countedOf E p (actsOf c)
   pub pool : o .pool ≡ poolAfterAll E p (actsOf c)
   pub answer : o .answer ≡ ownAnswer c (o .counted)
-  pub shown : o .shown ≡ sliceOf c (o .answer)
+  pub shown : o .shown ≡ shownBy c (o .answer)
   pub buffers : o .buffers ≡ buffersAfter c (o .counted)
 
 -- Row 9: "1, words, 0, 0 to allocate; 2, ticket, address, words to release"; every other four words are a bad request.
-pub record Kinds : Type 0 where
+pub record RequestForms : Type 0 where
   pub asks : (n : ℕ) → request 1 n 0 0 ≡ ask n
   pub gives : (t a w : ℕ) → request 2 t a w ≡ give (row t a w)
   pub others : (k x y z : ℕ) → ((k ≡ 1) × (y ≡ 0) × (z ≡ 0) → ⊥) → (k ≡ 2 → ⊥) → request k x y z ≡ bad
@@ -115,15 +107,19 @@ pub record Demand1 (E : Engine) : Type 0 where
   -- 8 and 1, exactly when their rows say; format gives 8 or succeeds
   pub eight : (c : Call Words) (p : Pool) → (step E c p .answer .number ≡ 8) ↔ ((lengths E p && suits c) ≡ false)
   pub one : (c : Call Words) (p : Pool) → (step E c p .answer .number ≡ 1)
-      ↔ ((isFormat c ≡ false) × ((lengths E p && suits c) ≡ true) × (StoredForm E p → ⊥))
+      ↔ ((fills c ≡ false) × ((lengths E p && suits c) ≡ true) × (StoredForm E p → ⊥))
   pub formats : (p : Pool) → lengths E p ≡ true → step E format p .answer .number ≡ 0
   -- else the call does its acts, and every act's number is the one whose row holds
-  pub performed : (c : Call Words) (p : Pool) → isFormat c ≡ false → suits c ≡ true → sound E p ≡ true
+  pub performed : (c : Call Words) (p : Pool) → fills c ≡ false → suits c ≡ true → sound E p ≡ true
       → Performed E c p (step E c p)
   pub numbers : (p : Pool) (a : Act) → sound E p ≡ true → ActNumbers E p a (answerTo E p a .number)
-  -- Find and look change nothing. Look's number is find's; it hands back "the part of the arena that begins at the
+  -- and each is answered on the pool as the one before left it
+  pub inTurn : (p : Pool) (xs ys : List Act)
+      → countedOf E p (xs ++ ys) ≡ countedOf E p xs ++ countedOf E (poolAfterAll E p xs) ys
+  -- "Find and look change nothing." Look's number is find's; it hands back "the part of the arena that begins at the
   -- named record's address and has exactly its words asked, or, the caller's own placeholder slice, whole, when find
   -- would refuse".
+  pub finds : (p : Pool) (r : Row) → step E (find r) p .pool ≡ p
   pub looks : (p : Pool) (r : Row) (hold : Words)
       → (step E (look r hold) p .answer ≡ step E (find r) p .answer)
       × (step E (look r hold) p .pool ≡ p)
@@ -132,6 +128,6 @@ pub record Demand1 (E : Engine) : Type 0 where
       × (accepted (step E (find r) p .answer) ≡ false → step E (look r hold) p .shown ≡ placeholder)
   -- lists: 9 by the four words of a request; 8 by "a multiple of four long", 0 to 1,024 requests, and the answer
   -- buffer at least as long
-  pub kinds : Kinds
+  pub requestForms : RequestForms
   pub listLengths : (rs bs : Words)
-      → (listSuits rs bs ≡ true) ↔ ((length rs % 4 ≡ 0) × (length rs ≤ 4096) × (length rs ≤ length bs))
+      → Says (listSuits rs bs) ((length rs % 4 ≡ 0) × (length rs ≤ 4096) × (length rs ≤ length bs))

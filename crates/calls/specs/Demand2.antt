@@ -14,8 +14,8 @@ use Rattle.ledger.specs.Records.{recordOf, enter, vacate, member, settle}
 use Rattle.ledger.specs.Units.{span, first, past, covers, free}
 use Rattle.ledger.specs.Runs.{AreRuns, freeRuns}
 use Rattle.calls.specs.Pool.{Pool, ledger, wordCount, Engine, firstTicket, nextAfter, ruleOf, sound}
-use Rattle.calls.specs.Step.{Call, format, granted, done, refusal, accepted, Act, ask, give, query, bad, newRow}
-use Rattle.calls.specs.Step.{answerTo, poolAfter, actsOf, isFormat, blank, step}
+use Rattle.calls.specs.Step.{Call, format, success, zeroAnswer, refusal, accepted, Act, ask, give, query, Kind}
+use Rattle.calls.specs.Step.{plans, reads, others, kindOf, newRow, answerTo, poolAfter, actsOf, fills, blank, step}
 use Rattle.calls.specs.Demand1.{BadSize, NoRecord, NoTicket, NoRoom}
 
 -- unit k is the lowest from which the units for n words are free
@@ -28,7 +28,7 @@ pub record LowestFit (E : Engine) (p : Pool) (n k : ℕ) : Type 0 where
 -- The grant at unit k: the answer, the record in the lowest empty slot, the next ticket, and exactly its units no
 -- longer free; the words from its address to the end of its last unit, spare words included, read zero.
 pub record Granted (E : Engine) (p : Pool) (n k : ℕ) : Type 0 where
-  pub answer : answerTo E p (ask n) ≡ granted (newRow E p n k)
+  pub answer : answerTo E p (ask n) ≡ success (newRow E p n k)
   pub holds : ledger (poolAfter E p (ask n)) ≡ enter (newRow E p n k) (ledger p)
   pub next : poolAfter E p (ask n) .head .next ≡ nextAfter (p .head .next)
   pub units : (u : ℕ) → free (ruleOf E p) (ledger (poolAfter E p (ask n))) u
@@ -39,7 +39,7 @@ pub record Granted (E : Engine) (p : Pool) (n k : ℕ) : Type 0 where
 -- The release of the live record r: its slot is empty, the others' stay, the next ticket stays, and exactly its units
 -- become free.
 pub record Released (E : Engine) (p : Pool) (r : Row) : Type 0 where
-  pub answer : answerTo E p (give r) ≡ granted r
+  pub answer : answerTo E p (give r) ≡ success r
   pub holds : ledger (poolAfter E p (give r)) ≡ settle (member (r .ticket) vacate ∷ []) (ledger p)
   pub next : poolAfter E p (give r) .head .next ≡ p .head .next
   pub units : (u : ℕ) → free (ruleOf E p) (ledger (poolAfter E p (give r))) u
@@ -47,11 +47,13 @@ pub record Released (E : Engine) (p : Pool) (r : Row) : Type 0 where
 
 -- The release of exactly r. One that names r's ticket with another address or other words is refused, and r's words
 -- stay.
+abbrev pub NamesAs : Row → Kind → Type 0
+NamesAs r (plans q s) = s ≡ r
+NamesAs r reads = ⊥
+NamesAs r others = ⊥
+
 abbrev pub Names : Row → Act → Type 0
-Names r (ask n) = ⊥
-Names r (give s) = s ≡ r
-Names r (query s) = ⊥
-Names r bad = ⊥
+Names r a = NamesAs r (kindOf a)
 
 abbrev pub Spares : Row → List Act → Type 0
 Spares r [] = Unit {0}
@@ -83,7 +85,7 @@ pub record Demand2 (E : Engine) : Type 0 where
       → accepted (answerTo E p (give r)) ≡ false
   -- find echoes the three of a live record, and changes nothing
   pub finds : (p : Pool) → sound E p ≡ true → (r : Row) → recordOf (r .ticket) (ledger p) ≡ some r
-      → (answerTo E p (query r) ≡ granted r) × (poolAfter E p (query r) ≡ p)
+      → (answerTo E p (query r) ≡ success r) × (poolAfter E p (query r) ≡ p)
   -- what is stored after every act is the stored form of the ledger, whose free runs are the longest possible
   pub stays : (p : Pool) (a : Act) → sound E p ≡ true → sound E (poolAfter E p a) ≡ true
   -- every act of a call is answered on a sound pool: a list's requests too
@@ -93,7 +95,7 @@ pub record Demand2 (E : Engine) : Type 0 where
       → (sound E (step E format p .pool) ≡ true)
       × (ledger (step E format p .pool) ≡ blank E p)
       × (step E format p .pool .head .next ≡ firstTicket)
-      × (step E format p .answer ≡ done)
+      × (step E format p .answer ≡ zeroAnswer)
   -- no act changes the arena's length or S
   pub keeps : (p : Pool) (a : Act) → (wordCount (poolAfter E p a) ≡ wordCount p) × (poolAfter E p a .shape ≡ p .shape)
   pub merged : (p : Pool)
@@ -102,5 +104,5 @@ pub record Demand2 (E : Engine) : Type 0 where
   -- words of held blocks: an act that is not the block's release, and a call none of whose acts is, leave them
   pub spares : (p : Pool) (a : Act) → sound E p ≡ true → (r : Row) → recordOf (r .ticket) (ledger p) ≡ some r
       → (Names r a → ⊥) → Untouched E p (poolAfter E p a) r
-  pub sparesCall : (p : Pool) (c : Call Words) → sound E p ≡ true → isFormat c ≡ false → (r : Row)
+  pub sparesCall : (p : Pool) (c : Call Words) → sound E p ≡ true → fills c ≡ false → (r : Row)
       → recordOf (r .ticket) (ledger p) ≡ some r → Spares r (actsOf c) → Untouched E p (step E c p .pool) r

@@ -4,19 +4,20 @@ use Prim.Native.Nat.{ℕ}
 use mathlib.Core.Path.{_≡_}
 use mathlib.Core.Bool.{Bool, true, false, cond, not, _&&_, _||_}
 use mathlib.Core.List.{List, [], _∷_, _++_}
-use mathlib.Core.Option.{none, some}
+use mathlib.Core.Option.{Option, none, some}
 use lib.Dec.{eqb}
 use lib.ListN.{length, getD, drop}
-use Rattle.words.specs.Lists.{Words, all, any, isSome}
+use Rattle.words.specs.Lists.{all, isSome}
 use Rattle.ledger.specs.declared.Row.{Row}
-use Rattle.ledger.specs.Records.{Ledger, recordOf, Member, planFor, settle}
+use Rattle.ledger.specs.Records.{Ledger, recordOf, Plan, vacate, Member, member, planFor, settle}
 use Rattle.ledger.specs.Units.{owned}
 use Rattle.calls.specs.declared.Answer.{Answer}
 use Rattle.calls.specs.Pool.{Pool, ledger, Engine, ruleOf, store, sound}
-use Rattle.calls.specs.Step.{Call, list, granted, done, refusal, accepted, ask, give, query, bad, Counted}
-use Rattle.calls.specs.Step.{Outcome, named, buffersOf, listSuits, answerWords, answersOf}
-use Rattle.calls.specs.Lent.{Lent, see, isOther, Event, isWhole, ownTable, outcome, after, Later, laterEnd}
-use Rattle.calls.specs.Lent.{laterOutcomes}
+use Rattle.calls.specs.Step.{Call, format, single, look, list, success, zeroAnswer, refusal, accepted, Act, Kind}
+use Rattle.calls.specs.Step.{plans, reads, others, kindOf, Counted, Outcome, named, listSuits, answerWords}
+use Rattle.calls.specs.Step.{answersOf}
+use Rattle.calls.specs.Lent.{Buffer, see, isOther, Event, isWhole, ownTable, writtenBy, outcome, after, Later}
+use Rattle.calls.specs.Lent.{laterEnd, laterOutcomes}
 
 -- ---- one act of a sequence
 
@@ -25,89 +26,87 @@ pub record Brings : Type 0 where
   pub whole : Bool
   pub table : Bool
 
--- Where a sequence stands: the members of the set that are still to be released, and the tickets whose release was
--- accepted.
-pub record Standing : Type 0 where
+-- Where a sequence stands: the members of the set that are still due, and the plans that were carried out, each by a
+-- release that was accepted.
+pub record Progress : Type 0 where
   pub due : List Member
-  pub spent : Words
+  pub done : List Member
 
 abbrev pub remove : ℕ → List Member → List Member
 remove t [] = []
 remove t (m ∷ ms) = cond (eqb (m .ticket) t) (remove t ms) (m ∷ remove t ms)
 
+-- a ticket has this plan
+abbrev pub isPlan : Plan → Option Plan → Bool
+isPlan q none = false
+isPlan vacate (some vacate) = true
+
 -- `start` is the ledger at the start. A ticket is live at a call if it has it and no release of it was accepted
 -- earlier.
-unfoldable pub live : Ledger → Words → ℕ → Bool
-live start spent t = isSome (recordOf t start) && not (any (eqb t) spent)
+unfoldable pub live : Ledger → List Member → ℕ → Bool
+live start did t = isSome (recordOf t start) && not (isPlan vacate (planFor t did))
 
 -- a release of the set: brings the pool whole, and names ticket, address and words as the ledger at the start has them
-unfoldable pub isDue : Ledger → Brings → Standing → Row → Bool
-isDue start b s r = b .whole && isSome (planFor (r .ticket) (s .due)) && eqb (named start r) 0
+unfoldable pub isDue : Ledger → Brings → Progress → Plan → Row → Bool
+isDue start b s q r = b .whole && isPlan q (planFor (r .ticket) (s .due)) && eqb (named start r) 0
 
 -- a replay: a release whose ticket is not live there. It may bring any head, S, arena and index with the pool's own
 -- table.
-unfoldable pub isReplay : Ledger → Brings → Standing → Row → Bool
-isReplay start b s r = b .table && not (live start (s .spent) (r .ticket))
+unfoldable pub isReplay : Ledger → Brings → Progress → Row → Bool
+isReplay start b s r = b .table && not (live start (s .done) (r .ticket))
 
--- What is assumed of an act and its answer: nothing of a release of the set, of a replay, and of a find or look that
--- brings the pool whole; every other act is refused.
-unfoldable pub stands : Ledger → Brings → Standing → Counted → Bool
-stands start b s c =
-    elim (c .act) [
-      | none ↦ not (accepted (c .answer))
-      | some a ↦ elim a [
-        | ask n ↦ not (accepted (c .answer))
-        | give r ↦ isDue start b s r || isReplay start b s r || not (accepted (c .answer))
-        | query r ↦ b .whole || not (accepted (c .answer))
-        | bad ↦ not (accepted (c .answer))
-      ]
-    ]
+-- What is assumed of an act and its answer, by its kind: nothing of a release of the set, of a replay, and of a find
+-- or look that brings the pool whole; every other act is refused.
+abbrev pub standsAs : Ledger → Brings → Progress → Kind → Answer → Bool
+standsAs start b s (plans q r) x = isDue start b s q r || isReplay start b s r || not (accepted x)
+standsAs start b s reads x = b .whole || not (accepted x)
+standsAs start b s others x = not (accepted x)
 
 -- What is claimed: a release of the set is accepted, with its three echoed; a replay is refused, by 6 where it brings
 -- the pool whole.
-pub record RightRelease (start : Ledger) (b : Brings) (s : Standing) (r : Row) (x : Answer) : Type 0 where
-  pub accepts : isDue start b s r ≡ true → x ≡ granted r
+pub record RightPlan (start : Ledger) (b : Brings) (s : Progress) (q : Plan) (r : Row) (x : Answer) : Type 0 where
+  pub accepts : isDue start b s q r ≡ true → x ≡ success r
   pub refuses : isReplay start b s r ≡ true → accepted x ≡ false
   pub six : isReplay start b s r ≡ true → b .whole ≡ true → x ≡ refusal 6
 
-abbrev pub Right : Ledger → Brings → Standing → Counted → Type 0
-Right start b s c =
-    elim (c .act) [
-      | none ↦ Unit {0}
-      | some a ↦ elim a [
-        | ask n ↦ Unit {0}
-        | give r ↦ RightRelease start b s r (c .answer)
-        | query r ↦ Unit {0}
-        | bad ↦ Unit {0}
-      ]
-    ]
+abbrev pub RightAs : Ledger → Brings → Progress → Kind → Answer → Type 0
+RightAs start b s (plans q r) x = RightPlan start b s q r x
+RightAs start b s reads x = Unit {0}
+RightAs start b s others x = Unit {0}
 
 -- where the sequence stands after an act
-unfoldable pub afterAct : Ledger → Brings → Standing → Counted → Standing
-afterAct start b s c =
-    elim (c .act) [
-      | none ↦ s
-      | some a ↦ elim a [
-        | ask n ↦ s
-        | give r ↦ record {
-          due = cond (isDue start b s r) (remove (r .ticket) (s .due)) (s .due);
-          spent = cond (accepted (c .answer)) (r .ticket ∷ s .spent) (s .spent);
-        }
-        | query r ↦ s
-        | bad ↦ s
-      ]
-    ]
+abbrev pub afterAs : Ledger → Brings → Progress → Kind → Answer → Progress
+afterAs start b s (plans q r) x = record {
+  due = cond (isDue start b s q r) (remove (r .ticket) (s .due)) (s .due);
+  done = cond (accepted x) (member (r .ticket) q ∷ s .done) (s .done);
+}
+afterAs start b s reads x = s
+afterAs start b s others x = s
+
+-- a call that counts as a whole is no act: it makes a pool or fails
+abbrev pub asKind : Option Act → Kind
+asKind none = others
+asKind (some a) = kindOf a
+
+unfoldable pub stands : Ledger → Brings → Progress → Counted → Bool
+stands start b s c = standsAs start b s (asKind (c .act)) (c .answer)
+
+abbrev pub Right : Ledger → Brings → Progress → Counted → Type 0
+Right start b s c = RightAs start b s (asKind (c .act)) (c .answer)
+
+unfoldable pub afterAct : Ledger → Brings → Progress → Counted → Progress
+afterAct start b s c = afterAs start b s (asKind (c .act)) (c .answer)
 
 -- the acts of one call, one after another
-abbrev pub standAll : Ledger → Brings → Standing → List Counted → Bool
+abbrev pub standAll : Ledger → Brings → Progress → List Counted → Bool
 standAll start b s [] = true
 standAll start b s (c ∷ cs) = stands start b s c && standAll start b (afterAct start b s c) cs
 
-abbrev pub RightAll : Ledger → Brings → Standing → List Counted → Type 0
+abbrev pub RightAll : Ledger → Brings → Progress → List Counted → Type 0
 RightAll start b s [] = Unit {0}
 RightAll start b s (c ∷ cs) = Right start b s c × RightAll start b (afterAct start b s c) cs
 
-abbrev pub afterActs : Ledger → Brings → Standing → List Counted → Standing
+abbrev pub afterActs : Ledger → Brings → Progress → List Counted → Progress
 afterActs start b s [] = s
 afterActs start b s (c ∷ cs) = afterActs start b (afterAct start b s c) cs
 
@@ -116,26 +115,24 @@ afterActs start b s (c ∷ cs) = afterActs start b (afterAct start b s c) cs
 abbrev pub brings : Pool → Event → Brings
 brings q e = record { whole = isWhole q e; table = ownTable q e }
 
--- nobody else writes into the pool: a list call that ran has its answer buffer elsewhere
-abbrev pub elsewhere : Call Lent → Bool
-elsewhere c = all (all isOther) (buffersOf c)
+-- nobody else writes into the pool: a list call that ran wrote its answers elsewhere
+abbrev pub elsewhere : Call Buffer → Bool
+elsewhere c = all (all isOther) (writtenBy c)
 
 -- A list call that brings the pool whole and suits its buffer runs: it answers 0 and zeros, and leaves its answers in
 -- the buffer, whose words beyond the list stay.
-abbrev pub RightList : Pool → Call Lent → Outcome → Type 0
+abbrev pub RightList : Pool → Call Buffer → Outcome → Type 0
 RightList q (list rs bs) o =
     listSuits (see q rs) (see q bs) ≡ true
-    → (o .answer ≡ done)
+    → (o .answer ≡ zeroAnswer)
     × (o .buffers ≡ (answerWords (answersOf (o .counted)) ++ drop (length (see q rs)) (see q bs)) ∷ [])
-RightList q Call.format o = Unit {0}
-RightList q (Call.allocate n) o = Unit {0}
-RightList q (Call.release r) o = Unit {0}
-RightList q (Call.find r) o = Unit {0}
-RightList q (Call.look r hold) o = Unit {0}
+RightList q format o = Unit {0}
+RightList q (single a) o = Unit {0}
+RightList q (look r hold) o = Unit {0}
 
 module _ (E : Engine) (start : Ledger) where
   -- From the pool q on: every act of every call stands as it should, and at the end nothing is due.
-  abbrev pub follows : Standing → Pool → List Event → Bool
+  abbrev pub follows : Progress → Pool → List Event → Bool
   follows s q [] = elim (s .due) [ [] ↦ true | m ∷ ms ↦ false ]
   follows s q (e ∷ es) =
       let o = outcome E q e in
@@ -143,7 +140,7 @@ module _ (E : Engine) (start : Ledger) where
       && (not (accepted (o .answer)) || elsewhere (e .call))
       && follows (afterActs start (brings q e) s (o .counted)) (after E q e) es
 
-  abbrev pub Answered : Standing → Pool → List Event → Type 0
+  abbrev pub Answered : Progress → Pool → List Event → Type 0
   Answered s q [] = Unit {0}
   Answered s q (e ∷ es) =
       let o = outcome E q e in
@@ -156,8 +153,8 @@ module _ (E : Engine) where
   endOf q [] = q
   endOf q (e ∷ es) = endOf (after E q e) es
 
-  abbrev pub atStart : List Member → Standing
-  atStart ms = record { due = ms; spent = [] }
+  abbrev pub atStart : List Member → Progress
+  atStart ms = record { due = ms; done = [] }
 
   -- a sequence of calls on the pool p that carries out the plans of the set
   abbrev pub Sequence : Pool → List Member → List Event → Type 0

@@ -2,29 +2,29 @@
 -- pool after it. 01, "Calls and numbers", demand 3: "Each call gets head, arena, table and, in the segment pool,
 -- index as the one before left them; format takes no head. A refused call may bring a wrong head, S, length or buffer
 -- instead; the pool keeps the head it had." Assumes nothing.
-use Prim.Native.Nat.{ℕ, _+_}
+use Prim.Native.Nat.{ℕ, suc}
 use mathlib.Core.Bool.{Bool, true, false, cond, _&&_, _||_}
-use mathlib.Core.List.{List, [], _∷_, _++_}
+use mathlib.Core.List.{List, [], _∷_, map}
 use mathlib.Core.Option.{Option, none, some}
 use lib.Dec.{eqb}
-use lib.ListN.{length, take, drop, set}
-use Rattle.words.specs.Lists.{Words, sameWords}
-use Rattle.calls.specs.Pool.{Head, Pool, Engine}
-use Rattle.calls.specs.Step.{Call, format, allocate, release, find, look, list, accepted, Outcome, buffersOf}
-use Rattle.calls.specs.Step.{isFormat, step}
+use lib.ListN.{length, getD, take, set}
+use Rattle.words.specs.Lists.{Words, sameWords, listFrom}
+use Rattle.calls.specs.Pool.{Head, Pool, withHead, Engine}
+use Rattle.calls.specs.Step.{Call, format, single, look, list, accepted, Outcome, fills, step}
 
 -- ---- lent buffers
 
 pub data Part : Type 0 where
   inArena inTable inIndex : Part
 
--- A lent buffer, piece by piece: n words from place f on of a part of the pool, or other memory.
-pub data Piece : Type 0 where
-  own : Part → ℕ → ℕ → Piece
-  other : Words → Piece
+-- Where a word of a lent buffer lies: word i of a part of the pool, or other memory, where it holds v.
+pub data Spot : Type 0 where
+  own : Part → ℕ → Spot
+  other : ℕ → Spot
 
-abbrev pub Lent : Type 0
-Lent = List Piece
+-- a lent buffer, word by word
+abbrev pub Buffer : Type 0
+Buffer = List Spot
 
 abbrev pub partOf : Part → Pool → Words
 partOf inArena p = p .arena
@@ -36,37 +36,32 @@ withPart inArena x p = record { head = p .head; shape = p .shape; arena = x; tab
 withPart inTable x p = record { head = p .head; shape = p .shape; arena = p .arena; table = x; index = p .index }
 withPart inIndex x p = record { head = p .head; shape = p .shape; arena = p .arena; table = p .table; index = x }
 
-abbrev pub withHead : Head → Pool → Pool
-withHead h p = record { head = h; shape = p .shape; arena = p .arena; table = p .table; index = p .index }
-
 -- the words that a call sees in a lent buffer
-abbrev pub seePiece : Pool → Piece → Words
-seePiece p (own q f n) = take n (drop f (partOf q p))
-seePiece p (other x) = x
+abbrev pub seeAt : Pool → Spot → ℕ
+seeAt p (own q i) = getD (partOf q p) i 0
+seeAt p (other v) = v
 
-abbrev pub see : Pool → Lent → Words
-see p [] = []
-see p (l ∷ ls) = seePiece p l ++ see p ls
+abbrev pub see : Pool → Buffer → Words
+see p l = map (seeAt p) l
 
--- the pool after a call has left the words x in a lent buffer
-abbrev pub leavePiece : Piece → Words → Pool → Pool
-leavePiece (own q f n) x p = withPart q (take f (partOf q p) ++ x ++ drop (f + n) (partOf q p)) p
-leavePiece (other _) x p = p
+-- the pool after the words x were written to a lent buffer, from its first word on
+abbrev pub leaveAt : Spot → ℕ → Pool → Pool
+leaveAt (own q i) v p = withPart q (set (partOf q p) i v) p
+leaveAt (other _) v p = p
 
-abbrev pub leave : Lent → Words → Pool → Pool
+abbrev pub leave : Buffer → Words → Pool → Pool
 leave [] x p = p
-leave (l ∷ ls) x p = let k = length (seePiece p l) in leave ls (drop k x) (leavePiece l (take k x) p)
+leave (l ∷ ls) [] p = p
+leave (l ∷ ls) (v ∷ x) p = leave ls x (leaveAt l v p)
 
-abbrev pub leaveAll : List Lent → List Words → Pool → Pool
+abbrev pub leaveAll : List Buffer → List Words → Pool → Pool
 leaveAll [] xs p = p
 leaveAll (l ∷ ls) [] p = p
 leaveAll (l ∷ ls) (x ∷ xs) p = leaveAll ls xs (leave l x p)
 
--- other memory alone; all of a part of the pool, whose words are x, and nothing else (a buffer with no piece is all of
--- a part with no words, such as the tree pool's index)
-abbrev pub isOther : Piece → Bool
-isOther (own q f n) = false
-isOther (other x) = true
+abbrev pub isOther : Spot → Bool
+isOther (own q i) = false
+isOther (other v) = true
 
 abbrev pub samePart : Part → Part → Bool
 samePart inArena inArena = true
@@ -79,11 +74,17 @@ samePart inIndex inArena = false
 samePart inIndex inTable = false
 samePart inIndex inIndex = true
 
-abbrev pub isAllOf : Part → Words → Lent → Bool
-isAllOf q x [] = eqb (length x) 0
-isAllOf q x (other y ∷ ls) = false
-isAllOf q x (own r f n ∷ []) = samePart q r && eqb f 0 && eqb n (length x)
-isAllOf q x (own r f n ∷ l ∷ ls) = false
+abbrev pub isOwn : Part → ℕ → Spot → Bool
+isOwn q i (own r j) = samePart q r && eqb i j
+isOwn q i (other v) = false
+
+-- words i, i + 1, and so on of a part; all of a part, whose words are x, from its first to its last
+abbrev pub areOwn : Part → ℕ → Buffer → Bool
+areOwn q i [] = true
+areOwn q i (l ∷ ls) = isOwn q i l && areOwn q (suc i) ls
+
+abbrev pub isAllOf : Part → Words → Buffer → Bool
+isAllOf q x l = eqb (length l) (length x) && areOwn q 0 l
 
 -- ---- events
 
@@ -92,27 +93,25 @@ isAllOf q x (own r f n ∷ l ∷ ls) = false
 pub record Event : Type 0 where
   pub head : Option Head
   pub shape : ℕ
-  pub arena : Lent
-  pub table : Lent
-  pub index : Lent
-  pub call : Call Lent
+  pub arena : Buffer
+  pub table : Buffer
+  pub index : Buffer
+  pub call : Call Buffer
 
 abbrev pub mapCall : {A B : Type 0} → (A → B) → Call A → Call B
 mapCall f format = format
-mapCall f (allocate n) = allocate n
-mapCall f (release r) = release r
-mapCall f (find r) = find r
+mapCall f (single a) = single a
 mapCall f (look r hold) = look r (f hold)
 mapCall f (list rs bs) = list (f rs) (f bs)
 
-abbrev pub headOf : Pool → Option Head → Head
-headOf p none = p .head
-headOf p (some h) = h
+abbrev pub headBrought : Pool → Option Head → Head
+headBrought p none = p .head
+headBrought p (some h) = h
 
 -- the memory that the call gets
 abbrev pub brought : Pool → Event → Pool
 brought p e = record {
-  head = headOf p (e .head);
+  head = headBrought p (e .head);
   shape = e .shape;
   arena = see p (e .arena);
   table = see p (e .table);
@@ -125,7 +124,7 @@ sameHead h k = sameWords (h .root) (k .root) && eqb (h .next) (k .next)
 
 unfoldable pub isWhole : Pool → Event → Bool
 isWhole p e =
-    sameHead (headOf p (e .head)) (p .head) && eqb (e .shape) (p .shape)
+    sameHead (headBrought p (e .head)) (p .head) && eqb (e .shape) (p .shape)
     && isAllOf inArena (p .arena) (e .arena) && isAllOf inTable (p .table) (e .table)
     && isAllOf inIndex (p .index) (e .index)
 
@@ -134,16 +133,16 @@ unfoldable pub ownTable : Pool → Event → Bool
 ownTable p e = isAllOf inTable (p .table) (e .table)
 
 -- the head handed back belongs to the pool whose table the call got, where it got that pool's head too or, a format,
--- takes none
+-- takes none (`refused-keeps` and `fills-returns` in proofs/LentLaws)
 unfoldable pub headReturns : Pool → Event → Bool
-headReturns p e = ownTable p e && (isFormat (e .call) || sameHead (headOf p (e .head)) (p .head))
+headReturns p e = ownTable p e && (fills (e .call) || sameHead (headBrought p (e .head)) (p .head))
 
 -- the call c on the pool whole
-abbrev pub allOf : Part → Pool → Lent
-allOf q p = own q 0 (length (partOf q p)) ∷ []
+abbrev pub allOf : Part → Pool → Buffer
+allOf q p = listFrom (own q) 0 (length (partOf q p))
 
-abbrev pub whole : Pool → Call Lent → Event
-whole p c = record {
+abbrev pub onWhole : Pool → Call Buffer → Event
+onWhole p c = record {
   head = none;
   shape = p .shape;
   arena = allOf inArena p;
@@ -151,6 +150,14 @@ whole p c = record {
   index = allOf inIndex p;
   call = c;
 }
+
+-- the words that a call writes beside the pool: a list call four for the answer to each request, "Answer words beyond
+-- the list stay"
+abbrev pub writtenBy : Call Buffer → List Buffer
+writtenBy format = []
+writtenBy (single a) = []
+writtenBy (look r hold) = []
+writtenBy (list rs bs) = take (length rs) bs ∷ []
 
 module _ (E : Engine) where
   unfoldable pub outcome : Pool → Event → Outcome
@@ -165,7 +172,7 @@ module _ (E : Engine) where
   after p e =
       let o = outcome p e in
       withHead (cond (accepted (o .answer) && headReturns p e) (o .pool .head) (p .head))
-      (leaveAll (e .arena ∷ e .table ∷ e .index ∷ buffersOf (e .call))
+      (leaveAll (e .arena ∷ e .table ∷ e .index ∷ writtenBy (e .call))
       (o .pool .arena ∷ o .pool .table ∷ o .pool .index ∷ o .buffers) p)
 
 -- ---- what comes later: any calls, and writing by callers into any part of the pool
@@ -177,7 +184,7 @@ pub data Later : Type 0 where
 module _ (E : Engine) where
   abbrev pub laterPool : Pool → Later → Pool
   laterPool p (calls e) = after E p e
-  laterPool p (writes q i v) = withPart q (set (partOf q p) i v) p
+  laterPool p (writes q i v) = leaveAt (own q i) v p
 
   -- the pool at the end, and all that the calls handed back and left, call by call
   abbrev pub laterEnd : Pool → List Later → Pool

@@ -26,6 +26,9 @@ pub record Pool : Type 0 where
   pub table : Words
   pub index : Words
 
+abbrev pub withHead : Head → Pool → Pool
+withHead h p = record { head = h; shape = p .shape; arena = p .arena; table = p .table; index = p .index }
+
 -- A table, a next ticket and an arena's length name at most one ledger.
 abbrev pub ledger : Pool → Ledger
 ledger p = recordsOf (p .table)

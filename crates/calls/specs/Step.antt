@@ -1,6 +1,7 @@
 -- Calls, answers, numbers in their order, and one total step over an engine. 01, "Calls and numbers". Assumes nothing.
 use Prim.Native.Nat.{ℕ, _*_, _/_, _%_}
-use mathlib.Core.Bool.{Bool, true, false, cond, not, _&&_, _||_}
+use mathlib.Core.Path.{_≡_}
+use mathlib.Core.Bool.{Bool, true, false, cond, _&&_, _||_}
 use mathlib.Core.List.{List, [], _∷_, _++_, map}
 use mathlib.Core.Option.{Option, none, some}
 use lib.Dec.{eqb, leb, ltb}
@@ -8,31 +9,64 @@ use lib.ListN.{length, drop, replicate}
 use Rattle.words.specs.Lists.{Words}
 use Rattle.words.specs.Places.{wiped}
 use Rattle.ledger.specs.declared.Row.{Row}
-use Rattle.ledger.specs.Records.{Ledger, row, emptyRow, slots, recordOf, sameBlock, full, enter, vacate, member}
+use Rattle.ledger.specs.Records.{Ledger, row, emptyRow, slots, recordOf, sameBlock, full, enter, Plan, vacate, member}
 use Rattle.ledger.specs.Records.{settle}
 use Rattle.ledger.specs.Units.{span, addressAt, past, free, lowestFit}
 use Rattle.calls.specs.declared.Answer.{Answer}
-use Rattle.calls.specs.Pool.{Head, Pool, ledger, wordCount, Engine, firstTicket, nextAfter, ruleOf, store}
-use Rattle.calls.specs.Pool.{lengths, stored}
+use Rattle.calls.specs.Pool.{Head, Pool, withHead, ledger, wordCount, Engine, firstTicket, nextAfter, ruleOf}
+use Rattle.calls.specs.Pool.{store, lengths, stored}
+
+-- ---- acts
+
+-- What a call does on a sound pool: a list call does its requests, one after another, and every other call but format
+-- one such act.
+pub data Act : Type 0 where
+  ask : ℕ → Act
+  give : Row → Act
+  query : Row → Act
+  -- a listed request of unknown kind or with spare words not zero
+  bad : Act
+
+-- What an act is to the records: a release carries out a plan on the record that it names, a find or look changes
+-- nothing, and every other act makes a record or fails.
+pub data Kind : Type 0 where
+  plans : Plan → Row → Kind
+  reads : Kind
+  others : Kind
+
+abbrev pub kindOf : Act → Kind
+kindOf (ask n) = others
+kindOf (give r) = plans vacate r
+kindOf (query r) = reads
+kindOf bad = others
 
 -- ---- calls and answers
 
--- The six calls, with all arguments but the pool. `B` is what a lent buffer is: its words, or where they lie.
+-- The calls, with all arguments but the pool. `B` is what a lent buffer is: its words, or where they lie.
 pub data Call (B : Type 0) : Type 0 where
   format : Call B
-  allocate : ℕ → Call B
-  release : Row → Call B
-  find : Row → Call B
+  -- a call that is one act: allocate, release, find
+  single : Act → Call B
   -- with the placeholder
   look : Row → B → Call B
   -- the requests, and the answer buffer
   list : B → B → Call B
 
-abbrev pub granted : Row → Answer
-granted r = record { number = 0; ticket = r .ticket; address = r .address; words = r .words }
+abbrev pub allocate : {B : Type 0} → ℕ → Call B
+allocate n = single (ask n)
 
-abbrev pub done : Answer
-done = granted emptyRow
+abbrev pub release : {B : Type 0} → Row → Call B
+release r = single (give r)
+
+abbrev pub find : {B : Type 0} → Row → Call B
+find r = single (query r)
+
+-- "Success is 0 with ticket, address, words", or with zeros
+abbrev pub success : Row → Answer
+success r = record { number = 0; ticket = r .ticket; address = r .address; words = r .words }
+
+abbrev pub zeroAnswer : Answer
+zeroAnswer = success emptyRow
 
 abbrev pub refusal : ℕ → Answer
 refusal n = record { number = n; ticket = 0; address = 0; words = 0 }
@@ -46,15 +80,6 @@ pub data Slice : Type 0 where
   arenaPart : ℕ → ℕ → Slice
   placeholder : Slice
   nothing : Slice
-
--- What a call does on a sound pool: a list call does its requests, one after another, and every other call but format
--- one such act.
-pub data Act : Type 0 where
-  ask : ℕ → Act
-  give : Row → Act
-  query : Row → Act
-  -- a listed request of unknown kind or with spare words not zero
-  bad : Act
 
 -- An act with its answer; no act where a call counts as a whole: format, and a list call that is refused.
 pub record Counted : Type 0 where
@@ -128,25 +153,29 @@ module _ (E : Engine) where
       store E (enter new (ledger p)) (nextAfter (p .head .next))
       (record { head = p .head; shape = p .shape; arena = zeroed; table = p .table; index = p .index })
 
-  -- a successful act's answer, and the pool after it: a release empties the record's slot
-  unfoldable pub answerOf : Pool → Act → Answer
-  answerOf p (ask n) = elim (fitOf p n) [ none ↦ refusal 5 | some k ↦ granted (newRow p n k) ]
-  answerOf p (give r) = granted r
-  answerOf p (query r) = granted r
-  answerOf p bad = refusal 9
+  -- the plan of one ticket carried out
+  abbrev pub carry : Pool → ℕ → Plan → Pool
+  carry p t q = store E (settle (member t q ∷ []) (ledger p)) (p .head .next) p
 
-  unfoldable pub poolOf : Pool → Act → Pool
-  poolOf p (ask n) = elim (fitOf p n) [ none ↦ p | some k ↦ grant p n k ]
-  poolOf p (give r) = store E (settle (member (r .ticket) vacate ∷ []) (ledger p)) (p .head .next) p
-  poolOf p (query r) = p
-  poolOf p bad = p
+  -- a successful act's answer, and the pool after it: a release empties the record's slot
+  unfoldable pub answerDone : Pool → Act → Answer
+  answerDone p (ask n) = elim (fitOf p n) [ none ↦ refusal 5 | some k ↦ success (newRow p n k) ]
+  answerDone p (give r) = success r
+  answerDone p (query r) = success r
+  answerDone p bad = refusal 9
+
+  unfoldable pub poolDone : Pool → Act → Pool
+  poolDone p (ask n) = elim (fitOf p n) [ none ↦ p | some k ↦ grant p n k ]
+  poolDone p (give r) = carry p (r .ticket) vacate
+  poolDone p (query r) = p
+  poolDone p bad = p
 
   -- a refused act leaves the pool as it was
   unfoldable pub answerTo : Pool → Act → Answer
-  answerTo p a = cond (eqb (numberOf p a) 0) (answerOf p a) (refusal (numberOf p a))
+  answerTo p a = cond (eqb (numberOf p a) 0) (answerDone p a) (refusal (numberOf p a))
 
   unfoldable pub poolAfter : Pool → Act → Pool
-  poolAfter p a = cond (eqb (numberOf p a) 0) (poolOf p a) p
+  poolAfter p a = cond (eqb (numberOf p a) 0) (poolDone p a) p
 
   -- ---- several acts, one after another
 
@@ -166,138 +195,131 @@ answersOf cs = map (λ c. c .answer) cs
 -- its acts, the buffers that it is lent to write, and whether its list suits them
 abbrev pub actsOf : Call Words → List Act
 actsOf format = []
-actsOf (allocate n) = ask n ∷ []
-actsOf (release r) = give r ∷ []
-actsOf (find r) = query r ∷ []
+actsOf (single a) = a ∷ []
 actsOf (look r hold) = query r ∷ []
 actsOf (list rs bs) = requests rs
 
 abbrev pub buffersOf : {B : Type 0} → Call B → List B
 buffersOf format = []
-buffersOf (allocate n) = []
-buffersOf (release r) = []
-buffersOf (find r) = []
+buffersOf (single a) = []
 buffersOf (look r hold) = []
 buffersOf (list rs bs) = bs ∷ []
 
--- format alone takes no head
-abbrev pub isFormat : {B : Type 0} → Call B → Bool
-isFormat format = true
-isFormat (allocate n) = false
-isFormat (release r) = false
-isFormat (find r) = false
-isFormat (look r hold) = false
-isFormat (list rs bs) = false
-
 abbrev pub suits : Call Words → Bool
 suits format = true
-suits (allocate n) = true
-suits (release r) = true
-suits (find r) = true
+suits (single a) = true
 suits (look r hold) = true
 suits (list rs bs) = listSuits rs bs
 
+-- a call that fills head, arena and table anew, whatever lay there: "Format takes no head and any contents"
+abbrev pub fills : {B : Type 0} → Call B → Bool
+fills format = true
+fills (single a) = false
+fills (look r hold) = false
+fills (list rs bs) = false
+
 -- its own answer, look's slice, and the buffers, from the answers to its acts
 abbrev pub firstAnswer : List Counted → Answer
-firstAnswer [] = done
+firstAnswer [] = zeroAnswer
 firstAnswer (c ∷ cs) = c .answer
 
 abbrev pub ownAnswer : Call Words → List Counted → Answer
-ownAnswer format cs = done
-ownAnswer (allocate n) cs = firstAnswer cs
-ownAnswer (release r) cs = firstAnswer cs
-ownAnswer (find r) cs = firstAnswer cs
+ownAnswer format cs = zeroAnswer
+ownAnswer (single a) cs = firstAnswer cs
 ownAnswer (look r hold) cs = firstAnswer cs
-ownAnswer (list rs bs) cs = done
+ownAnswer (list rs bs) cs = zeroAnswer
 
-abbrev pub sliceOf : Call Words → Answer → Slice
-sliceOf format x = nothing
-sliceOf (allocate n) x = nothing
-sliceOf (release r) x = nothing
-sliceOf (find r) x = nothing
-sliceOf (look r hold) x = cond (accepted x) (arenaPart (r .address) (r .words)) placeholder
-sliceOf (list rs bs) x = nothing
+abbrev pub shownBy : Call Words → Answer → Slice
+shownBy format x = nothing
+shownBy (single a) x = nothing
+shownBy (look r hold) x = cond (accepted x) (arenaPart (r .address) (r .words)) placeholder
+shownBy (list rs bs) x = nothing
 
 abbrev pub buffersAfter : Call Words → List Counted → List Words
 buffersAfter format cs = []
-buffersAfter (allocate n) cs = []
-buffersAfter (release r) cs = []
-buffersAfter (find r) cs = []
+buffersAfter (single a) cs = []
 buffersAfter (look r hold) cs = []
 -- answer words beyond the list stay
 buffersAfter (list rs bs) cs = (answerWords (answersOf cs) ++ drop (length rs) bs) ∷ []
 
--- what a call that is refused by 8 or 1 counts as: its act, or a list call as a whole
+-- a call that counts as a whole: format, and a list call that is refused
+abbrev pub asOne : Answer → Counted
+asOne x = record { act = none; answer = x }
+
+-- what a call that the gate refuses by n counts as: its act, or as a whole
 abbrev pub countedWhole : Call Words → ℕ → Counted
-countedWhole format n = record { act = none; answer = refusal n }
-countedWhole (allocate m) n = record { act = some (ask m); answer = refusal n }
-countedWhole (release r) n = record { act = some (give r); answer = refusal n }
-countedWhole (find r) n = record { act = some (query r); answer = refusal n }
+countedWhole format n = asOne (refusal n)
+countedWhole (single a) n = record { act = some a; answer = refusal n }
 countedWhole (look r hold) n = record { act = some (query r); answer = refusal n }
-countedWhole (list rs bs) n = record { act = none; answer = refusal n }
+countedWhole (list rs bs) n = asOne (refusal n)
 
 -- ---- the step
 
--- a call refused by n: nothing changes
-abbrev pub refusedWhole : Call Words → Pool → ℕ → Outcome
-refusedWhole c p n = record {
-  answer = refusal n;
-  counted = countedWhole c n ∷ [];
-  shown = sliceOf c (refusal n);
-  pool = p;
-  buffers = buffersOf c;
-}
-
 module _ (E : Engine) where
-  -- the call on a sound pool
-  unfoldable pub perform : Call Words → Pool → Outcome
-  perform c p =
-      let cs = countedOf E p (actsOf c) in
-      record {
-        answer = ownAnswer c cs;
-        counted = cs;
-        shown = sliceOf c (ownAnswer c cs);
-        pool = poolAfterAll E p (actsOf c);
-        buffers = buffersAfter c cs;
-      }
+  -- The gate, before anything is done: 8 by the lengths; behind it 1, if the call needs a sound pool; 0 lets it pass.
+  unfoldable pub behind : Call Words → Pool → ℕ
+  behind format p = 0
+  behind (single a) p = cond (stored E p) 0 1
+  behind (look r hold) p = cond (stored E p) 0 1
+  behind (list rs bs) p = cond (stored E p) 0 1
 
-  -- 8, then 1, then what the call does
-  unfoldable pub checked : Call Words → Pool → Outcome
-  checked c p =
-      cond (lengths E p && suits c) (cond (stored E p) (perform c p) (refusedWhole c p 1)) (refusedWhole c p 8)
+  unfoldable pub gate : Call Words → Pool → ℕ
+  gate c p = cond (lengths E p && suits c) (behind c p) 8
 
-  -- Format takes no head and any contents: no records, next ticket 1; refused, it hands back a head of zeros.
-  abbrev pub blank : Pool → Ledger
-  blank p = replicate (slots (p .table)) emptyRow
+  -- x is the gate's number for every call that is one act, and for every other that fills nothing and suits its buffers
+  abbrev pub GateIs : Pool → ℕ → Type 0
+  GateIs p x = (a : Act) → x ≡ gate (single a) p
 
+  -- "A refused call .. leaves head, arena, table, index and answer buffer unchanged"; format "writes nothing and hands
+  -- back a head of zeros".
   abbrev pub zeroHead : Head
   zeroHead = record { root = replicate (E .links) 0; next = 0 }
 
+  abbrev pub refusedHead : Call Words → Pool → Head
+  refusedHead format p = zeroHead
+  refusedHead (single a) p = p .head
+  refusedHead (look r hold) p = p .head
+  refusedHead (list rs bs) p = p .head
+
+  abbrev pub refusedBy : Call Words → Pool → ℕ → Outcome
+  refusedBy c p n = record {
+    answer = refusal n;
+    counted = countedWhole c n ∷ [];
+    shown = shownBy c (refusal n);
+    pool = withHead (refusedHead c p) p;
+    buffers = buffersOf c;
+  }
+
+  -- "Formatting makes a pool with no records, all words as below, next ticket 1."
+  abbrev pub blank : Pool → Ledger
+  blank p = replicate (slots (p .table)) emptyRow
+
   abbrev pub formatDone : Pool → Outcome
   formatDone p = record {
-    answer = done;
-    counted = record { act = none; answer = done } ∷ [];
+    answer = zeroAnswer;
+    counted = asOne zeroAnswer ∷ [];
     shown = nothing;
     pool = store E (blank p) firstTicket p;
     buffers = [];
   }
 
-  abbrev pub formatRefused : Pool → Outcome
-  formatRefused p = record {
-    answer = refusal 8;
-    counted = record { act = none; answer = refusal 8 } ∷ [];
-    shown = nothing;
-    pool = record { head = zeroHead; shape = p .shape; arena = p .arena; table = p .table; index = p .index };
-    buffers = [];
-  }
+  -- every other call does its acts on a sound pool, one after another
+  unfoldable pub actsDone : Call Words → Pool → Outcome
+  actsDone c p =
+      let cs = countedOf E p (actsOf c) in
+      record {
+        answer = ownAnswer c cs;
+        counted = cs;
+        shown = shownBy c (ownAnswer c cs);
+        pool = poolAfterAll E p (actsOf c);
+        buffers = buffersAfter c cs;
+      }
 
-  unfoldable pub formatted : Pool → Outcome
-  formatted p = cond (lengths E p) (formatDone p) (formatRefused p)
+  unfoldable pub perform : Call Words → Pool → Outcome
+  perform format p = formatDone p
+  perform (single a) p = actsDone (single a) p
+  perform (look r hold) p = actsDone (look r hold) p
+  perform (list rs bs) p = actsDone (list rs bs) p
 
   unfoldable pub step : Call Words → Pool → Outcome
-  step format p = formatted p
-  step (allocate n) p = checked (allocate n) p
-  step (release r) p = checked (release r) p
-  step (find r) p = checked (find r) p
-  step (look r hold) p = checked (look r hold) p
-  step (list rs bs) p = checked (list rs bs) p
+  step c p = cond (eqb (gate c p) 0) (perform c p) (refusedBy c p (gate c p))

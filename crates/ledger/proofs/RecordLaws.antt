@@ -3,13 +3,14 @@ use Prim.Native.Nat.{ℕ, zero, suc, _+_, _*_, _%_, _<_}
 use native.Mathlib.Nat.{zero-add, le-of-suc-le-suc}
 use native.Mathlib.Omega.{arith}
 use mathlib.Core.Path.{_≡_, refl, sym, ap, ap₂, _∙_}
-use mathlib.Core.Logic.{_≢_, _↔_}
+use mathlib.Core.Logic.{_≢_}
 use mathlib.Core.Bool.{Bool, true, false, cond, not, false≢true, and-false}
 use mathlib.Core.List.{List, [], _∷_}
 use mathlib.Core.Option.{Option, none, some}
 use lib.Dec.{eqb}
 use lib.ListN.{length, getD, set, length-map}
 use Rattle.words.proofs.ByPlace.{all-of, firstThat-at, listFrom-shift}
+use Rattle.words.specs.Flags.{Says}
 use Rattle.words.specs.Lists.{Words, all, pairwise, listFrom, isSome}
 use Rattle.words.specs.Counted.{lowest}
 use Rattle.words.proofs.Tests.{and-l, and-r, not-true, of-not, eqb-eq, eqb-same, eqb-ne, eqb-false, absurd-some}
@@ -135,7 +136,18 @@ pub record-zero : (L : Ledger) → recordOf 0 L ≡ none
 record-zero [] = refl
 record-zero (r ∷ L) = record-zero L
 
-pub has-ticket : (t : ℕ) (r : Row) → (hasTicket t r ≡ true) ↔ ((t ≢ 0) × (r .ticket ≡ t))
+-- "an empty record is three zeros": ticket 0 with an address or words is none
+pub empty-row : (r : Row) → Says (isEmpty r) (r ≡ emptyRow)
+empty-row r = (
+  (λ h.
+      let t = eqb-eq (r .ticket) 0 (search (and-l, and-r)) in
+      let a = eqb-eq (r .address) 0 (search (and-l, and-r)) in
+      let w = eqb-eq (r .words) 0 (search (and-l, and-r)) in
+      λ i. record { ticket = t i; address = a i; words = w i }),
+  (λ e. ap isEmpty e),
+)
+
+pub has-ticket : (t : ℕ) (r : Row) → Says (hasTicket t r) ((t ≢ 0) × (r .ticket ≡ t))
 has-ticket t r = (
   (λ h. (
     eqb-false t 0 (not-true (eqb t 0) (and-l (not (eqb t 0)) (eqb (r .ticket) t) h)),
@@ -236,7 +248,7 @@ enter-slot r L i e =
     let l = lowest-some (emptyAt L) 0 (length L) i e in
     enter-at r L i (l .passes) (λ j h. l .least j (omega arith) h)
 
-pub full-none : (L : Ledger) → (full L ≡ true) ↔ (lowest (emptyAt L) 0 (length L) ≡ none)
+pub full-none : (L : Ledger) → Says (full L) (lowest (emptyAt L) 0 (length L) ≡ none)
 full-none L = (
   (λ h. lowest-nothing (emptyAt L) 0 (length L)
       (λ k a b. not-true (emptyAt L k) (all-getD isLive emptyRow L h k (omega arith)))),

@@ -15,7 +15,7 @@ use Rattle.ledger.specs.Units.{owned}
 use Rattle.stored_forms.specs.Tree.{formOne, formRule}
 use Rattle.calls.specs.Pool.{Pool, firstTicket, lengths, store, sound}
 use Rattle.calls.specs.Step as machine
-use Rattle.calls.specs.Step.{format, formatted, formatDone, step, blank, accepted}
+use Rattle.calls.specs.Step.{format, behind, gate, perform, formatDone, step, blank, accepted}
 use Rattle.calls.specs.Engines.{treeEngine, treeEngineOf}
 use Rattle.calls.proofs.Engines.{tree-demand2}
 use Rattle.tree_check.specs.Gate.{treePool}
@@ -66,11 +66,11 @@ module _ (a b t u : Words) (ea : length a ≡ length b) (et : length t ≡ lengt
 -- format succeeds exactly where the lengths are right
 module _ (p : Pool) where
   right-done : lengths treeEngine p ≡ true → step treeEngine format p ≡ formatDone treeEngine p
-  unfolding step formatted
+  unfolding step gate behind perform
   right-done e = rw e
 
   wrong-eight : lengths treeEngine p ≡ false → step treeEngine format p .answer .number ≡ 8
-  unfolding step formatted
+  unfolding step gate behind perform
   wrong-eight e = rw e
 
   by-lengths : (b : Bool) → lengths treeEngine p ≡ b → step treeEngine format p .answer .number ≡ 0 → b ≡ true

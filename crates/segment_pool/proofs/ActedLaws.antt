@@ -9,12 +9,12 @@ use Prim.Native.Nat.{ℕ, _/_}
 use Rattle.words.specs.Lists.{Words}
 use Rattle.ledger.specs.declared.Row.{Row}
 use Rattle.calls.specs.Pool.{Pool, sound}
-use Rattle.calls.specs.Step.{Call, allocate, release, Act, ask, give, isFormat}
-use Rattle.calls.specs.Step.{answerTo, poolAfter, suits, buffersOf, perform, step}
-use Rattle.calls.proofs.ActLaws.{step-sound}
+use Rattle.calls.specs.Step.{Call, allocate, release, refusal, Act, ask, give, fills, GateIs, refusedBy}
+use Rattle.calls.specs.Step.{answerTo, poolAfter, suits, buffersOf, actsDone, step}
 use Rattle.calls.specs.Engines.{segmentEngine}
+use Rattle.calls.proofs.GateLaws.{gate-refuses, step-sound}
+use Rattle.calls.proofs.CallLaws.{refused-pool}
 use Rattle.call_parts.proofs.AskLaws.{RefusedBy}
-use Rattle.call_parts.proofs.GateLaws.{gate, gate-refuses}
 use Rattle.segment_pool.specs.declared.Head.{Head}
 use Rattle.segment_pool.specs.declared.Outcome.{Outcome}
 use Rattle.segment_pool.specs.Promises.{segmentPool, Left, handed, left, acted, refusedWith, granted, vacated}
@@ -60,18 +60,28 @@ module _ (h : Head) (S : ℕ) (v : List ℤ) (t x : Words) where
   -- ---- whole calls
 
   -- refused by the gate: nothing changes
-  pub gate-left : (o : Outcome) (n : ℕ) → n ≡ gate segmentEngine p → n ≢ 0
-      → (c : Call Words) → isFormat c ≡ false → suits c ≡ true → o ≡ refusedWith h n
+  pub gate-left : (o : Outcome) (n : ℕ) → GateIs segmentEngine p n → n ≢ 0
+      → (c : Call Words) → fills c ≡ false → suits c ≡ true → o ≡ refusedWith h n
       → handed o v t x (buffersOf c) ≡ left (step segmentEngine c p)
   gate-left o n is z c f s e =
-      ap (λ (y : Outcome). handed y v t x (buffersOf c)) e
+      let kept = sym (refused-pool segmentEngine c p n f) in
+      let same : handed (refusedWith h n) v t x (buffersOf c) ≡ left (refusedBy segmentEngine c p n) =
+      λ i. record {
+        answer = refusal n;
+        head = kept i .head;
+        arena = p .arena;
+        table = t;
+        index = x;
+        buffers = buffersOf c;
+      } in
+      ap (λ (y : Outcome). handed y v t x (buffersOf c)) e ∙ same
       ∙ ap left (sym (gate-refuses segmentEngine p n is z c f s))
 
 -- a call of one act
 pub one-left : (p : Pool) → sound segmentEngine p ≡ true → (l : Left)
     → ((n : ℕ) → l ≡ acted (ask n) p → l ≡ left (step segmentEngine (allocate n) p))
     × ((r : Row) → l ≡ acted (give r) p → l ≡ left (step segmentEngine (release r) p))
-unfolding perform
+unfolding actsDone
 one-left p ok l = (
   (λ n e. e ∙ ap left (sym (step-sound segmentEngine (allocate n) p refl refl ok))),
   (λ r e. e ∙ ap left (sym (step-sound segmentEngine (release r) p refl refl ok))),

@@ -14,7 +14,7 @@ use Rattle.segment_places.specs.Stores.{Unheld, Becomes}
 use Rattle.segment_places.proofs.BlankLaws.{blank-unheld}
 use Rattle.calls.specs.declared.Answer.{Answer}
 use Rattle.calls.specs.Pool.{Pool, firstTicket, lengths}
-use Rattle.calls.specs.Step.{refusal, done, format, formatted, step}
+use Rattle.calls.specs.Step.{refusal, zeroAnswer, format, behind, gate, perform, step}
 use Rattle.calls.specs.Engines.{segmentEngine}
 use Rattle.segment_pool.specs.Promises.{segmentPool, Left, handed, left}
 use Rattle.segment_pool.proofs.GateLaws.{InRange, in-range}
@@ -33,7 +33,7 @@ module _ (S : ℕ) (v : List ℤ) (t x : Words) where
 
   pub format-refused : (w : Answer) → false ≡ lengths segmentEngine lent → w ≡ refusal 8
       → handed (record { head = record { next = 0 }; answer = w }) v t x [] ≡ left (step segmentEngine format lent)
-  unfolding step formatted segmentEngine
+  unfolding step gate behind segmentEngine
   format-refused w e h = rw (← e, h)
 
   module _ (right : true ≡ lengths segmentEngine lent) where
@@ -50,9 +50,9 @@ module _ (S : ℕ) (v : List ℤ) (t x : Words) where
         ap (λ (n : ℕ). replicate n 0) e ∙ blank-table (slots t)
 
     pub format-done : (b : List ℤ) (u y : Words) (w : Answer)
-        → ((L : Ledger) → Unheld L (length v) → Becomes L v S b y) → u ≡ replicate (length t) 0 → w ≡ done
+        → ((L : Ledger) → Unheld L (length v) → Becomes L v S b y) → u ≡ replicate (length t) 0 → w ≡ zeroAnswer
         → handed (record { head = record { next = 1 }; answer = w }) b u y [] ≡ left (step segmentEngine format lent)
-    unfolding step formatted
+    unfolding step gate behind perform
     format-done b u y w laid e h =
         let L = replicate (slots t) emptyRow in
         let pool = stored-pool lent L firstTicket v b u y refl (laid L (blank-unheld (slots t) (length v)))
@@ -61,4 +61,4 @@ module _ (S : ℕ) (v : List ℤ) (t x : Words) where
       where
         leftOf : Pool → Left
         leftOf p =
-            record { answer = done; head = p .head; arena = p .arena; table = p .table; index = p .index; buffers = [] }
+            record { answer = zeroAnswer; head = p .head; arena = p .arena; table = p .table; index = p .index; buffers = [] }

@@ -28,7 +28,7 @@ use Rattle.segment_places.proofs.CallLaws.{granting}
 use Rattle.segment_places.proofs.UnitLaws.{span-words, address-after}
 use Rattle.segment_cores.specs.Cores.{unitOr}
 use Rattle.calls.specs.Pool.{Pool, nextAfter}
-use Rattle.calls.specs.Step.{ask, granted, fitOf, answerTo, poolAfter}
+use Rattle.calls.specs.Step.{ask, success, fitOf, answerTo, poolAfter}
 use Rattle.calls.specs.Engines.{segmentEngine}
 use Rattle.calls.proofs.ActLaws.{Asked, ask-done}
 use Rattle.calls.proofs.GrantLaws.{over, zeroed, grant-store, next-above}
@@ -106,10 +106,10 @@ module _ (h : Head) (S : ℕ) (v : List ℤ) (t x : Words) (n slot at : ℕ) (f 
       granting L v x S (segmentSize (length v) S) form (nextAfter (h .next)) n at (asked .slot) (f .ticket)
       (next-above (h .next)) (some-words n (f .size)) (f .fit)
 
-  pub place-answer : granted (row (h .next) (at + 1) n) ≡ answerTo segmentEngine lent (ask n)
+  pub place-answer : success (row (h .next) (at + 1) n) ≡ answerTo segmentEngine lent (ask n)
   unfolding segmentEngine
   place-answer =
-      ap (λ (y : ℕ). granted (row (h .next) y n)) (sym (address-after at))
+      ap (λ (y : ℕ). success (row (h .next) y n)) (sym (address-after at))
       ∙ sym (ask-done segmentEngine lent n at asked .0)
 
   -- the words that a grant zeroes

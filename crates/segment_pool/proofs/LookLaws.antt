@@ -11,7 +11,7 @@ use Rattle.calls.specs.declared.Answer.{Answer}
 use Rattle.calls.specs.Pool.{Pool}
 use Rattle.calls.specs.Step.{find, look, step, accepted, Slice, arenaPart, placeholder}
 use Rattle.calls.specs.Engines.{segmentEngine}
-use Rattle.call_parts.proofs.GateLaws.{look-shows}
+use Rattle.call_parts.proofs.FindLaws.{look-shows}
 use Rattle.segment_pool.specs.Promises.{asWords, whole, part, sliceOf}
 
 module _ (p : Pool) (r : Row) (arena hold : RefT (List ℤ)) (x : Answer)

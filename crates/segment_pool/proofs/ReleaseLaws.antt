@@ -15,14 +15,14 @@ use Rattle.stored_forms.specs.Segments.{segmentRule, segmentSize, depth}
 use Rattle.segment_places.specs.Stores.{Releasing, Becomes}
 use Rattle.segment_places.proofs.CallLaws.{releasing}
 use Rattle.calls.specs.Pool.{Pool, sound}
-use Rattle.calls.specs.Step.{give, granted, answerTo, poolAfter}
+use Rattle.calls.specs.Step.{give, success, answerTo, poolAfter}
 use Rattle.calls.specs.Engines.{segmentEngine}
-use Rattle.calls.proofs.ActLaws.{named-zero, give-done}
+use Rattle.calls.proofs.ActLaws.{named-zero, plan-done}
 use Rattle.record_table.proofs.SlotLaws.{ticket-found, ticket-settle}
 use Rattle.call_parts.specs.declared.Named.the-variants.{Slot}
 use Rattle.call_parts.specs.Parts.{namedIn}
 use Rattle.call_parts.proofs.NamedLaws.{named-at}
-use Rattle.call_parts.proofs.GateLaws.{slot-number}
+use Rattle.call_parts.proofs.FindLaws.{slot-number}
 use Rattle.segment_pool.specs.declared.Head.{Head}
 use Rattle.segment_pool.specs.Promises.{segmentPool, Ranged}
 use Rattle.segment_pool.proofs.GateLaws.{InRange}
@@ -53,8 +53,8 @@ module _ (h : Head) (S : ℕ) (v : List ℤ) (t x : Words) (r : Row) (slot : ℕ
   release-releasing fits d power few =
       releasing L v x S (segmentSize (length v) S) (sound-form S (h .next) v t x ok fits) d (r .ticket) r power few held
 
-  pub release-answer : granted r ≡ answerTo segmentEngine lent (give r)
-  release-answer = sym (give-done segmentEngine lent r held .0)
+  pub release-answer : success r ≡ answerTo segmentEngine lent (give r)
+  release-answer = sym (plan-done segmentEngine lent vacate r held .0)
 
   pub release-pool : (b : List ℤ) (u y : Words) → Becomes rest v S b y → u ≡ tableOf (set L slot emptyRow)
       → segmentPool S (h .next) b u y ≡ poolAfter segmentEngine lent (give r)
@@ -62,4 +62,4 @@ module _ (h : Head) (S : ℕ) (v : List ℤ) (t x : Words) (r : Row) (slot : ℕ
       stored-pool lent rest (h .next) v b u y refl becomes
       (e ∙ ap tableOf (sym (ticket-settle (r .ticket) t segmentRule (length v) (h .next)
       (sound-good S (h .next) v t x ok) slot (named-at t r slot found))))
-      ∙ sym (give-done segmentEngine lent r held .1)
+      ∙ sym (plan-done segmentEngine lent vacate r held .1)

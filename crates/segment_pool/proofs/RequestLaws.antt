@@ -7,10 +7,10 @@ use mathlib.Core.List.{List, [], _∷_}
 use Rattle.words.specs.Lists.{Words}
 use lib.IntN.{ℤ}
 use Rattle.calls.specs.Pool.{Pool, sound}
-use Rattle.calls.specs.Step.{Act, list, done, poolAfter}
-use Rattle.calls.specs.Step.{listSuits, perform, step}
+use Rattle.calls.specs.Step.{Act, list, zeroAnswer, poolAfter}
+use Rattle.calls.specs.Step.{listSuits, actsDone, step}
 use Rattle.calls.specs.Engines.{segmentEngine}
-use Rattle.calls.proofs.ActLaws.{step-sound}
+use Rattle.calls.proofs.GateLaws.{step-sound}
 use Rattle.calls.proofs.Demand2.{act-sound}
 use Rattle.calls.proofs.Engines.{segment-laws}
 use Rattle.call_parts.proofs.WholeLists.{unsuited-list, same-shape}
@@ -44,10 +44,10 @@ module _ (h : Head) (S : ℕ) (v : List ℤ) (t x rs bs : Words) where
       ap (λ (y : code.Outcome). handed y v t x (bs ∷ [])) is ∙ ap left (sym (unsuited-list segmentEngine lent rs bs e))
 
   pub list-left : listSuits rs bs ≡ true → sound segmentEngine lent ≡ true
-      → (o : code.Outcome) (b : List ℤ) (u y c : Words) → o .answer ≡ done
+      → (o : code.Outcome) (b : List ℤ) (u y c : Words) → o .answer ≡ zeroAnswer
       → (segmentPool S (o .head .next) b u y, c) ≡ ran rs bs lent
       → handed o b u y (c ∷ []) ≡ left (step segmentEngine (list rs bs) lent)
-  unfolding perform
+  unfolding actsDone
   list-left s ok o b u y c w e =
       (λ i. record {
         answer = w i;

@@ -12,7 +12,7 @@ use mir.Syntax.{w32}
 use mir.Val.{ofZ}
 use Rattle.words.specs.Lists.{Words}
 use Rattle.ledger.specs.declared.Row.{Row}
-use Rattle.calls.specs.Pool.{Pool, lengths, stored, nextAfter}
+use Rattle.calls.specs.Pool.{Pool, lengths, nextAfter}
 use Rattle.calls.specs.declared.Answer.{Answer}
 use Rattle.calls.specs.Step.{Slice, arenaPart, placeholder, nothing, Act, refusal, answerTo, poolAfter}
 use Rattle.calls.specs.Step.{requests, answerWords, answersOf, countedOf, poolAfterAll}
@@ -43,10 +43,6 @@ RightLengths S arena table index b = (next : ℕ) → b ≡ lengths segmentEngin
 -- every word is one of 32 bits with a sign
 abbrev pub Ranged : List ℤ → Type 0
 Ranged v = (i : ℕ) → mag (getD v i (pos 0)) < 2 ^ 31
-
--- 8, then 1; 0 for a sound pool
-abbrev pub gateOf : Pool → ℕ
-gateOf p = cond (lengths segmentEngine p) (cond (stored segmentEngine p) 0 1) 8
 
 -- All that a call hands back and leaves: answer, head, arena, table, index, and the answer buffer of a list call.
 pub record Left : Type 0 where
@@ -108,13 +104,13 @@ granted h n e =
     cond (eqb (e / 65536) 0)
     (record {
       head = record { next = nextAfter (h .next) };
-      answer = machine.granted (record { ticket = h .next; address = e % 65536; words = n });
+      answer = machine.success (record { ticket = h .next; address = e % 65536; words = n });
     })
     (refusedWith h (e / 65536))
 
 -- what a release comes to by its number: a refusal, or the named record once more; no ticket is used up
 abbrev pub vacated : Head → Row → ℕ → Outcome
-vacated h r n = cond (eqb n 0) (record { head = h; answer = machine.granted r }) (refusedWith h n)
+vacated h r n = cond (eqb n 0) (record { head = h; answer = machine.success r }) (refusedWith h n)
 
 -- ---- slices
 

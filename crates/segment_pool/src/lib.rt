@@ -15,12 +15,12 @@ ghost use Prim.Native.Nat.{_+_, _*_, _/_, _%_, _<_, _≤_};
 ghost use lib.ListN.{length};
 ghost use Rattle.calls.specs.Pool.{lengths, stored, sound};
 ghost use Rattle.calls.specs.Step.{format, allocate, release, find, look, list, step};
-ghost use Rattle.calls.specs.Step.{ask, give, answerTo, poolAfter};
+ghost use Rattle.calls.specs.Step.{ask, give, answerTo, poolAfter, GateIs};
 ghost use Rattle.calls.specs.Engines.{segmentEngine};
 ghost use Rattle.call_parts.specs.Parts.{namedIn, actOf, requestAt, withAnswer};
 ghost use Rattle.segment_pool.specs.Granting.{Found};
 ghost use Rattle.segment_pool.specs.Promises.{handed, left, acted, ran, refusedWith, granted, vacated};
-ghost use Rattle.segment_pool.specs.Promises.{asWords, segmentPool, gateOf, RightLengths, Ranged, sliceOf, whole};
+ghost use Rattle.segment_pool.specs.Promises.{asWords, segmentPool, RightLengths, Ranged, sliceOf, whole};
 
 // What a call is passed and hands back: the next ticket, 0 when none is left.
 pub struct Head {
@@ -74,8 +74,8 @@ fn is_stored(s: u32, next: u32, arena: &[i32], table: &[u32], index: &[u32]) -> 
 
 // The number of the tests that stand before every call: 8, 1, or 0 for a sound pool.
 fn gate_number(s: u32, next: u32, arena: &[i32], table: &[u32], index: &[u32]) -> u32
-    ensures { λ r. ⌜ r
-        ≡ gateOf (segmentPool s next (now (arena .entry)) (now (table .entry)) (now (index .entry))) ⌝ }
+    ensures { λ r. ⌜ GateIs segmentEngine
+        (segmentPool s next (now (arena .entry)) (now (table .entry)) (now (index .entry))) r ⌝ }
 {
     if !right_lengths(s, &*arena, &*table, &*index) {
         return 8;

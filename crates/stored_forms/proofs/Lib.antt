@@ -1,5 +1,4 @@
 -- Laws of what each engine stores of a ledger.
-pub mod BenchValues
 pub mod TreeLaws
 pub mod SegmentLaws
 pub mod NodeLaws

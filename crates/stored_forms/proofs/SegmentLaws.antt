@@ -18,6 +18,7 @@ use lib.Signed.{mag}
 use mir.Syntax.{w32}
 use mir.Val.{Fits, SFits, toZ}
 use mir.Facts.{fits-ofZ, toZ-ofZ}
+use Rattle.words.specs.Flags.{Says}
 use Rattle.words.specs.Lists.{firstThat}
 use Rattle.words.proofs.Tests.{and-l, and-r, and-i, not-true, eqb-eq, eqb-same, eqb-ne, of-le, of-lt, of-gt, of-ge}
 use Rattle.words.proofs.CountedLaws.{lowest-nothing, lowest-is}
@@ -55,7 +56,7 @@ power-to S (suc d) e h q = go (ℕ-discrete e (suc d)) (λ l. power-to S d e l q
     go (no z) ih = rw (ih (omega arith)) (or-true (eqb S (2 ^ suc d)))
 
 -- the test of S says that it is one of 2 ^ 0 to 2 ^ 8
-pub power-is : (S d : ℕ) → (isPower S d ≡ true) ↔ ((e : ℕ) × (e ≤ d) × (S ≡ 2 ^ e))
+pub power-is : (S d : ℕ) → Says (isPower S d) ((e : ℕ) × (e ≤ d) × (S ≡ 2 ^ e))
 power-is S d = (power-from S d, λ (e, h, q). power-to S d e h q)
 
 pub power-range : (S d : ℕ) → isPower S d ≡ true → (1 ≤ S) × (S ≤ 2 ^ d)
@@ -94,6 +95,12 @@ twice : (i d : ℕ) → i * 2 ^ suc d ≡ 2 * i * 2 ^ d
 twice i d = rw (pow-suc 2 d, mul-comm (2 ^ d) 2) (sym (mul-assoc i 2 (2 ^ d)) ∙ rw (mul-comm i 2))
 
 module _ (leaf : ℕ → ℕ) (S : ℕ) where
+  -- an inner word is the larger of its two sons
+  treeWord-step : (d i : ℕ) → i < S
+      → treeWord leaf S (suc d) i ≡ max (treeWord leaf S d (2 * i)) (treeWord leaf S d (2 * i + 1))
+  treeWord-step d i h =
+      ap (leafOr (leaf (i - S)) (max (treeWord leaf S d (2 * i)) (treeWord leaf S d (2 * i + 1)))) (of-gt S i h)
+
   treeWord-leaf : (d k : ℕ) → treeWord leaf S d (S + k) ≡ leaf k
   treeWord-leaf zero k = rw (add-sub-cancel-left S k)
   treeWord-leaf (suc d) k =
@@ -113,9 +120,7 @@ module _ (leaf : ℕ → ℕ) (S : ℕ) where
   treeWord-node : S ≤ 2 ^ depth → (i : ℕ) → 0 < i → i < S
       → treeWord leaf S depth i ≡ max (treeWord leaf S depth (2 * i)) (treeWord leaf S depth (2 * i + 1))
   treeWord-node few i l h =
-      let x = treeWord leaf S 7 (2 * i) in
-      let y = treeWord leaf S 7 (2 * i + 1) in
-      ap (leafOr (leaf (i - S)) (max x y)) (of-gt S i h)
+      treeWord-step 7 i h
       ∙ ap₂ max (treeWord-more 7 (2 * i) (omega arith)) (treeWord-more 7 (2 * i + 1) (omega arith))
 
 -- 01's lines, over control words c

@@ -21,6 +21,12 @@ use Rattle.stored_forms.specs.Blocks.{rootFits, leftmost}
 
 -- ---- the runs of the tree, from left to right
 
+-- a run no shorter than all of a tree stands on top
+addLeft-top : (q : Run) (t : Tree) → all (noLonger q) (inorder t) ≡ true → addLeft q t ≡ node leaf q t
+addLeft-top q leaf h = refl
+addLeft-top q (node a r b) h =
+    rw (and-l (noLonger q r) (all (noLonger q) (inorder b)) (all-append-r (noLonger q) (inorder a) (r ∷ inorder b) h))
+
 inorder-addLeft : (r : Run) (t : Tree) → inorder (addLeft r t) ≡ r ∷ inorder t
 inorder-addLeft r leaf = refl
 inorder-addLeft r (node a q b) = go (leb (q .size) (r .size)) (inorder-addLeft r a)
@@ -35,12 +41,6 @@ inorder-treeOf [] = refl
 inorder-treeOf (r ∷ rs) = inorder-addLeft r (treeOf rs) ∙ ap (λ (l : List Run). r ∷ l) (inorder-treeOf rs)
 
 -- ---- no other tree
-
--- a run no shorter than all of a tree stands on top
-addLeft-top : (q : Run) (t : Tree) → all (noLonger q) (inorder t) ≡ true → addLeft q t ≡ node leaf q t
-addLeft-top q leaf h = refl
-addLeft-top q (node a r b) h =
-    rw (and-l (noLonger q r) (all (noLonger q) (inorder b)) (all-append-r (noLonger q) (inorder a) (r ∷ inorder b) h))
 
 -- a longest run, the first of these, is the root, and the runs on its two sides are its sons' trees
 pub treeOf-split : (xs : List Run) (q : Run) (ys : List Run) → all (shorter q) xs ≡ true → all (noLonger q) ys ≡ true

@@ -1,11 +1,10 @@
--- The tree pool as a call is lent it, and the tests before every call. 01, "Calls and numbers", rows 8 and 1.
--- Assumes nothing.
+-- The tree pool as a call is lent it. 01, "Calls and numbers", rows 8 and 1. Assumes nothing.
 use Prim.Native.Nat.{ℕ}
 use mathlib.Core.Path.{_≡_}
-use mathlib.Core.Bool.{Bool, cond}
+use mathlib.Core.Bool.{Bool}
 use mathlib.Core.List.{[], _∷_}
 use Rattle.words.specs.Lists.{Words}
-use Rattle.calls.specs.Pool.{Pool, Engine, lengths, stored}
+use Rattle.calls.specs.Pool.{Pool, lengths}
 use Rattle.calls.specs.Engines.{treeEngine}
 
 -- root link and next ticket, with the lent arena and table; the tree pool has no other argument
@@ -21,7 +20,3 @@ treePool root next arena table = record {
 -- the flag says that the lent lengths are right, whatever the head
 abbrev pub RightLengths : Words → Words → Bool → Type 0
 RightLengths arena table b = (root next : ℕ) → b ≡ lengths treeEngine (treePool root next arena table)
-
--- 8, then 1; 0 for a sound pool
-abbrev pub gateOf : Engine → Pool → ℕ
-gateOf E p = cond (lengths E p) (cond (stored E p) 0 1) 8

@@ -12,11 +12,13 @@ ghost use mathlib.Core.Bool.{true};
 ghost use Prim.Native.Nat.{_/_, _<_, _≤_};
 ghost use lib.ListN.{length};
 ghost use Rattle.words.specs.Lists.{all, isZero};
+ghost use Rattle.words.specs.Flags.{Says};
 ghost use Rattle.ledger.specs.Records.{slots};
 ghost use Rattle.calls.specs.Pool.{lengths, stored};
+ghost use Rattle.calls.specs.Step.{GateIs};
 ghost use Rattle.calls.specs.Engines.{treeEngine};
-ghost use Rattle.tree_check.specs.Maps.{Says, Roomy, most, Shown};
-ghost use Rattle.tree_check.specs.Gate.{treePool, RightLengths, gateOf};
+ghost use Rattle.tree_check.specs.Maps.{Roomy, most, Shown};
+ghost use Rattle.tree_check.specs.Gate.{treePool, RightLengths};
 
 // ---- the stored form
 
@@ -167,7 +169,7 @@ fn is_stored(root: u32, next: u32, arena: &[u32], table: &[u32]) -> bool
 
 // The number of the tests that stand before every call: 8, 1, or 0 for a sound pool.
 pub fn gate_number(root: u32, next: u32, arena: &[u32], table: &[u32]) -> u32
-    ensures { λ r. ⌜ r ≡ gateOf treeEngine (treePool root next (now (arena .entry)) (now (table .entry))) ⌝ }
+    ensures { λ r. ⌜ GateIs treeEngine (treePool root next (now (arena .entry)) (now (table .entry))) r ⌝ }
 {
     if !right_lengths(&*arena, &*table) {
         return 8;

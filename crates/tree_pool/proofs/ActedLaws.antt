@@ -8,13 +8,12 @@ use lib.Dec.{eqb}
 use Rattle.words.specs.Lists.{Words}
 use Rattle.ledger.specs.declared.Row.{Row}
 use Rattle.calls.specs.Pool.{Pool, sound}
-use Rattle.calls.specs.Step.{Call, allocate, release, Act, ask, give, answerTo, poolAfter, suits, buffersOf, perform}
-use Rattle.calls.specs.Step.{step}
-use Rattle.calls.specs.Demand1.{isFormat}
-use Rattle.calls.proofs.ActLaws.{step-sound}
+use Rattle.calls.specs.Step.{Call, allocate, release, refusal, Act, ask, give, answerTo, poolAfter, suits, buffersOf}
+use Rattle.calls.specs.Step.{fills, GateIs, refusedBy, actsDone, step}
 use Rattle.calls.specs.Engines.{treeEngine}
+use Rattle.calls.proofs.GateLaws.{gate-refuses, step-sound}
+use Rattle.calls.proofs.CallLaws.{refused-pool}
 use Rattle.call_parts.proofs.AskLaws.{RefusedBy}
-use Rattle.call_parts.proofs.GateLaws.{gate, gate-refuses}
 use Rattle.tree_pool.specs.declared.Head.{Head}
 use Rattle.tree_pool.specs.declared.Outcome.{Outcome}
 use Rattle.tree_pool.specs.declared.Effect.{Effect}
@@ -52,18 +51,22 @@ module _ (h : Head) (a t : Words) (e : Effect) (x : ℕ) (is : e .number ≡ x) 
 -- ---- whole calls
 
 -- refused by the gate: nothing changes
-pub gate-left : (h : Head) (a t : Words) (o : Outcome) (x : ℕ) → x ≡ gate treeEngine (poolOf h a t) → x ≢ 0
-    → (c : Call Words) → isFormat c ≡ false → suits c ≡ true → o ≡ refusedWith h x
+pub gate-left : (h : Head) (a t : Words) (o : Outcome) (x : ℕ) → GateIs treeEngine (poolOf h a t) x → x ≢ 0
+    → (c : Call Words) → fills c ≡ false → suits c ≡ true → o ≡ refusedWith h x
     → handed o a t (buffersOf c) ≡ left (step treeEngine c (poolOf h a t))
 gate-left h a t o x is n c f s e =
-    ap (λ (y : Outcome). handed y a t (buffersOf c)) e
-    ∙ ap left (sym (gate-refuses treeEngine (poolOf h a t) x is n c f s))
+    let p = poolOf h a t in
+    let kept = sym (refused-pool treeEngine c p x f) in
+    let same : handed (refusedWith h x) a t (buffersOf c) ≡ left (refusedBy treeEngine c p x) =
+    λ i. record { answer = refusal x; head = kept i .head; arena = a; table = t; buffers = buffersOf c } in
+    ap (λ (y : Outcome). handed y a t (buffersOf c)) e ∙ same
+    ∙ ap left (sym (gate-refuses treeEngine p x is n c f s))
 
 -- a call of one act
 pub one-left : (p : Pool) → sound treeEngine p ≡ true → (l : Left)
     → ((n : ℕ) → l ≡ acted (ask n) p → l ≡ left (step treeEngine (allocate n) p))
     × ((r : Row) → l ≡ acted (give r) p → l ≡ left (step treeEngine (release r) p))
-unfolding perform
+unfolding actsDone
 one-left p ok l = (
   (λ n e. e ∙ ap left (sym (step-sound treeEngine (allocate n) p refl refl ok))),
   (λ r e. e ∙ ap left (sym (step-sound treeEngine (release r) p refl refl ok))),

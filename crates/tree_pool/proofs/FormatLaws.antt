@@ -18,7 +18,7 @@ use Rattle.stored_forms.specs.Blocks.{Holds, Zeros}
 use Rattle.free_tree.specs.Held.{NodePut}
 use Rattle.calls.specs.declared.Answer.{Answer}
 use Rattle.calls.specs.Pool.{Pool, firstTicket, lengths}
-use Rattle.calls.specs.Step.{refusal, done, format, formatted, step}
+use Rattle.calls.specs.Step.{zeroAnswer, format, behind, gate, perform, step}
 use Rattle.calls.specs.Engines.{treeEngineOf, treeEngine}
 use Rattle.tree_check.specs.Gate.{treePool}
 use Rattle.tree_check.proofs.GateLaws.{InRange, in-range}
@@ -81,7 +81,7 @@ blankPool a t = treePool 0 0 a t
 pub format-refused : (a t : Words) (x : Outcome) → false ≡ lengths treeEngine (blankPool a t)
     → x ≡ refusedWith (record { root = 0; next = 0 }) 8
     → handed x a t [] ≡ left (step treeEngine format (blankPool a t))
-unfolding step formatted treeEngine treeEngineOf
+unfolding step gate behind treeEngine treeEngineOf
 format-refused a t x e h = rw (← e, h)
 
 module _ (a t : Words) (right : true ≡ lengths treeEngine (blankPool a t)) where
@@ -95,10 +95,10 @@ module _ (a t : Words) (right : true ≡ lengths treeEngine (blankPool a t)) whe
       ap (λ (n : ℕ). replicate n 0) e ∙ blank-table (slots t)
 
   pub format-done : (b z : Words) (x : Answer) → NodePut formOne (replicate (length a) 0) b 0 (length a / 2) 0 0
-      → z ≡ replicate (length t) 0 → x ≡ done
+      → z ≡ replicate (length t) 0 → x ≡ zeroAnswer
       → handed (record { head = record { root = 1; next = 1 }; answer = x }) b z []
       ≡ left (step treeEngine format (blankPool a t))
-  unfolding step formatted
+  unfolding step gate behind perform
   format-done b z x put e h =
       let L = replicate (slots t) emptyRow in
       let pool = stored-pool (blankPool a t) L firstTicket firstTicket 1 b z refl (fit .even)
@@ -108,4 +108,4 @@ module _ (a t : Words) (right : true ≡ lengths treeEngine (blankPool a t)) whe
       rw (← right, h) (ap (λ (p : Pool). leftOf p) pool)
     where
       leftOf : Pool → Left
-      leftOf p = record { answer = done; head = p .head; arena = p .arena; table = p .table; buffers = [] }
+      leftOf p = record { answer = zeroAnswer; head = p .head; arena = p .arena; table = p .table; buffers = [] }

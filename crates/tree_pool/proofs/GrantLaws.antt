@@ -32,7 +32,7 @@ use Rattle.free_tree.specs.Held.{links, cells, LeftmostFound}
 use Rattle.free_blocks.proofs.TakeLaws.{take-in}
 use Rattle.free_blocks.specs.Blocks.{Lies, Takes, TakenFrom, Taken}
 use Rattle.calls.specs.Pool.{Pool, nextAfter, sound}
-use Rattle.calls.specs.Step.{ask, granted, fitOf, answerTo, poolAfter}
+use Rattle.calls.specs.Step.{ask, success, fitOf, answerTo, poolAfter}
 use Rattle.calls.specs.Engines.{treeEngineOf, treeEngine}
 use Rattle.calls.proofs.ActLaws.{Asked, ask-done}
 use Rattle.calls.proofs.GrantLaws.{over, start, end, zeroed, length-zeroed, grant-store, grant-valid, zeroed-keeps}
@@ -287,10 +287,10 @@ module _ (h : Head) (a t : Words) (n slot block over : ℕ) (f : granting.Found 
   unfolding formOne addressAt
   address = omega arith
 
-  pub place-answer : granted (row (h .next) (2 * cell) n) ≡ answerTo treeEngine lent (ask n)
+  pub place-answer : success (row (h .next) (2 * cell) n) ≡ answerTo treeEngine lent (ask n)
   unfolding treeEngine treeEngineOf
   place-answer =
-      ap (λ (x : ℕ). granted (row (h .next) x n)) (sym address) ∙ sym (ask-done treeEngine lent n cell asked .0)
+      ap (λ (x : ℕ). success (row (h .next) x n)) (sym address) ∙ sym (ask-done treeEngine lent n cell asked .0)
 
   module _ (b u : Words) (root′ : ℕ) (taken : Taken a b (h .root) block over (span (formRule formOne) n) root′) where
     pub place-root : root′ < 65536

@@ -24,14 +24,14 @@ use Rattle.stored_forms.proofs.NodeLaws.{link-within}
 use Rattle.free_tree.specs.Held.{cells}
 use Rattle.free_blocks.specs.Blocks.{Changed, Gives, Given}
 use Rattle.calls.specs.Pool.{Pool, sound}
-use Rattle.calls.specs.Step.{give, granted, answerTo, poolAfter}
+use Rattle.calls.specs.Step.{give, success, answerTo, poolAfter}
 use Rattle.calls.specs.Engines.{treeEngineOf, treeEngine}
-use Rattle.calls.proofs.ActLaws.{named-zero, give-done}
+use Rattle.calls.proofs.ActLaws.{named-zero, plan-done}
 use Rattle.record_table.proofs.SlotLaws.{ticket-found, ticket-settle}
 use Rattle.call_parts.specs.declared.Named.the-variants.{Slot}
 use Rattle.call_parts.specs.Parts.{namedIn}
 use Rattle.call_parts.proofs.NamedLaws.{named-at}
-use Rattle.call_parts.proofs.GateLaws.{slot-number}
+use Rattle.call_parts.proofs.FindLaws.{slot-number}
 use Rattle.tree_check.specs.Gate.{treePool}
 use Rattle.tree_check.proofs.GateLaws.{InRange}
 use Rattle.tree_pool.specs.declared.Head.{Head}
@@ -79,8 +79,8 @@ module _ (h : Head) (a t : Words) (r : Row) (slot : ℕ) (ok : sound treeEngine 
         ∙ free-not ρ (r .ticket) L r held u (covers-in ρ u r (facts .live) x y);
   }
 
-  pub release-answer : granted r ≡ answerTo treeEngine lent (give r)
-  release-answer = sym (give-done treeEngine lent r held .0)
+  pub release-answer : success r ≡ answerTo treeEngine lent (give r)
+  release-answer = sym (plan-done treeEngine lent vacate r held .0)
 
   module _ (b u : Words) (root′ : ℕ) (given : Given a b (h .root) (first ρ r) (past ρ r) root′) where
     change : Changed a b (freeRuns ρ (length a) L)
@@ -131,4 +131,4 @@ module _ (h : Head) (a t : Words) (r : Row) (slot : ℕ) (ok : sound treeEngine 
     release-pool e =
         stored-pool lent rest (h .next) (h .next) root′ b u refl (release-range .even) rest-good shows
         (e ∙ ap tableOf (sym (ticket-settle (r .ticket) t ρ (length a) (h .next) good slot (named-at t r slot found))))
-        ∙ sym (give-done treeEngine lent r held .1)
+        ∙ sym (plan-done treeEngine lent vacate r held .1)

@@ -5,10 +5,11 @@ use mathlib.Core.Bool.{true, false}
 use mathlib.Core.List.{[], _∷_}
 use Rattle.words.specs.Lists.{Words}
 use Rattle.calls.specs.Pool.{Pool, store, sound}
-use Rattle.calls.specs.Step.{Act, list, done, grant, poolAfter, listSuits}
-use Rattle.calls.specs.Step.{perform, step}
+use Rattle.calls.specs.Step.{Act, list, zeroAnswer, grant, poolAfter, listSuits}
+use Rattle.calls.specs.Step.{actsDone, step}
 use Rattle.calls.specs.Engines.{treeEngineOf, treeEngine}
-use Rattle.calls.proofs.ActLaws.{act-by, step-sound}
+use Rattle.calls.proofs.ActLaws.{act-by}
+use Rattle.calls.proofs.GateLaws.{step-sound}
 use Rattle.calls.proofs.Demand2.{act-sound}
 use Rattle.calls.proofs.Engines.{tree-laws}
 use Rattle.call_parts.proofs.WholeLists.{unsuited-list}
@@ -24,7 +25,7 @@ same-rest : (p : Pool) (a : Act)
 unfolding treeEngineOf treeEngine store grant
 same-rest =
     act-by treeEngine (λ (p : Pool) (a : Act) (q : Pool). (q .shape ≡ p .shape) × (p .index ≡ [] → q .index ≡ []))
-    (λ p a. (refl, λ e. e)) (λ p n k h. (refl, λ e. refl)) (λ p r h. (refl, λ e. refl))
+    (λ p a. (refl, λ e. e)) (λ p n k h. (refl, λ e. refl)) (λ p x r h. (refl, λ e. refl))
 
 pub acted-pool : (act : Act) (h : Head) (a t : Words) (o : code.Outcome) (b u : Words)
     → handed o b u [] ≡ acted act (poolOf h a t) → poolOf (o .head) b u ≡ poolAfter treeEngine (poolOf h a t) act
@@ -48,9 +49,9 @@ module _ (h : Head) (a t rs bs : Words) where
       ap (λ (y : code.Outcome). handed y a t (bs ∷ [])) is ∙ ap left (sym (unsuited-list treeEngine (poolOf h a t) rs bs e))
 
   pub list-left : listSuits rs bs ≡ true → sound treeEngine (poolOf h a t) ≡ true
-      → (o : code.Outcome) (b u c : Words) → o .answer ≡ done → (poolOf (o .head) b u, c) ≡ ran rs bs (poolOf h a t)
+      → (o : code.Outcome) (b u c : Words) → o .answer ≡ zeroAnswer → (poolOf (o .head) b u, c) ≡ ran rs bs (poolOf h a t)
       → handed o b u (c ∷ []) ≡ left (step treeEngine (list rs bs) (poolOf h a t))
-  unfolding perform
+  unfolding actsDone
   list-left s ok o b u c x e =
       (λ i. record {
         answer = x i;

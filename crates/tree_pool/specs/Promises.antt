@@ -78,7 +78,7 @@ granted h n e =
     cond (eqb (e .number) 0)
     (record {
       head = record { root = e .root; next = nextAfter (h .next) };
-      answer = machine.granted (record { ticket = h .next; address = e .address; words = n });
+      answer = machine.success (record { ticket = h .next; address = e .address; words = n });
     })
     (refusedWith h (e .number))
 
@@ -86,7 +86,7 @@ granted h n e =
 abbrev pub vacated : Head → Row → Effect → Outcome
 vacated h r e =
     cond (eqb (e .number) 0)
-    (record { head = record { root = e .root; next = h .next }; answer = machine.granted r })
+    (record { head = record { root = e .root; next = h .next }; answer = machine.success r })
     (refusedWith h (e .number))
 
 -- ---- slices

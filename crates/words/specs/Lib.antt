@@ -1,4 +1,5 @@
 -- What is said of words and lists, with nothing of pools in it.
+pub mod Flags
 pub mod Lists
 pub mod Counted
 pub mod Places

@@ -1,4 +1,3 @@
 -- The worked cases hold.
 pub mod BenchSheet
 pub mod Sequences
-pub mod Edges

@@ -1,4 +1,4 @@
--- The sequences of specs/Sequences are such as demand 3 speaks of. Assumes nothing.
+-- The sequences of specs/Sequences are such as demand 3 speaks of: its condition is not empty. Assumes nothing.
 use mathlib.Core.Path.{_≡_, refl}
 use mathlib.Core.Bool.{true}
 use Rattle.calls.specs.Pool.{sound}

@@ -1,13 +1,13 @@
 -- The bench sheet of document 01: the calls of T1 to T14, and every answer, head, arena, table and index along the
 -- way. Between T13 and T14 stands the sheet's A 12, which is refused. Assumes nothing.
 use Prim.Native.Nat.{ℕ}
-use mathlib.Core.List.{List, [], _∷_, _++_}
+use mathlib.Core.List.{List, [], _∷_}
 use lib.ListN.{replicate}
 use Rattle.words.specs.Lists.{Words}
 use Rattle.ledger.specs.Records.{row}
 use Rattle.calls.specs.declared.Answer.{Answer}
 use Rattle.calls.specs.Pool.{Pool, Engine}
-use Rattle.calls.specs.Step.{Call, format, allocate, release, Outcome, granted, done, refusal, step}
+use Rattle.calls.specs.Step.{Call, format, allocate, release, Outcome, success, zeroAnswer, refusal, step}
 
 -- An answer, and the pool after it.
 pub record State : Type 0 where
@@ -60,28 +60,28 @@ segmentCalls = format ∷ allocate 3 ∷ allocate 12 ∷ allocate 11 ∷ []
 
 abbrev pub treeStates : List State
 treeStates =
-    (state (done) (1 ∷ []) 1
+    (state (zeroAnswer) (1 ∷ []) 1
     (12 ∷ 0 ∷ 0 ∷ 0 ∷ 0 ∷ 0 ∷ 0 ∷ 0 ∷ 0 ∷ 0 ∷ 0 ∷ 0 ∷ 0 ∷ 0 ∷ 0 ∷ 0 ∷ 0 ∷ 0 ∷ 0 ∷ 0 ∷ 0 ∷ 0 ∷ 0 ∷ 0 ∷ [])
     (0 ∷ 0 ∷ 0 ∷ 0 ∷ 0 ∷ 0 ∷ 0 ∷ 0 ∷ 0 ∷ 0 ∷ 0 ∷ 0 ∷ []) ([])) ∷
-    (state (granted (row 1 0 5)) (4 ∷ []) 2
+    (state (success (row 1 0 5)) (4 ∷ []) 2
     (0 ∷ 0 ∷ 0 ∷ 0 ∷ 0 ∷ 0 ∷ 9 ∷ 0 ∷ 0 ∷ 0 ∷ 0 ∷ 0 ∷ 0 ∷ 0 ∷ 0 ∷ 0 ∷ 0 ∷ 0 ∷ 0 ∷ 0 ∷ 0 ∷ 0 ∷ 0 ∷ 0 ∷ [])
     (1 ∷ 0 ∷ 5 ∷ 0 ∷ 0 ∷ 0 ∷ 0 ∷ 0 ∷ 0 ∷ 0 ∷ 0 ∷ 0 ∷ []) ([])) ∷
-    (state (granted (row 2 6 4)) (6 ∷ []) 3
+    (state (success (row 2 6 4)) (6 ∷ []) 3
     (0 ∷ 0 ∷ 0 ∷ 0 ∷ 0 ∷ 0 ∷ 0 ∷ 0 ∷ 0 ∷ 0 ∷ 7 ∷ 0 ∷ 0 ∷ 0 ∷ 0 ∷ 0 ∷ 0 ∷ 0 ∷ 0 ∷ 0 ∷ 0 ∷ 0 ∷ 0 ∷ 0 ∷ [])
     (1 ∷ 0 ∷ 5 ∷ 2 ∷ 6 ∷ 4 ∷ 0 ∷ 0 ∷ 0 ∷ 0 ∷ 0 ∷ 0 ∷ []) ([])) ∷
-    (state (granted (row 3 10 6)) (9 ∷ []) 4
+    (state (success (row 3 10 6)) (9 ∷ []) 4
     (0 ∷ 0 ∷ 0 ∷ 0 ∷ 0 ∷ 0 ∷ 0 ∷ 0 ∷ 0 ∷ 0 ∷ 0 ∷ 0 ∷ 0 ∷ 0 ∷ 0 ∷ 0 ∷ 4 ∷ 0 ∷ 0 ∷ 0 ∷ 0 ∷ 0 ∷ 0 ∷ 0 ∷ [])
     (1 ∷ 0 ∷ 5 ∷ 2 ∷ 6 ∷ 4 ∷ 3 ∷ 10 ∷ 6 ∷ 0 ∷ 0 ∷ 0 ∷ []) ([])) ∷
-    (state (granted (row 1 0 5)) (9 ∷ []) 4
+    (state (success (row 1 0 5)) (9 ∷ []) 4
     (3 ∷ 0 ∷ 0 ∷ 0 ∷ 0 ∷ 0 ∷ 0 ∷ 0 ∷ 0 ∷ 0 ∷ 0 ∷ 0 ∷ 0 ∷ 0 ∷ 0 ∷ 0 ∷ 4 ∷ 1 ∷ 0 ∷ 0 ∷ 0 ∷ 0 ∷ 0 ∷ 0 ∷ [])
     (0 ∷ 0 ∷ 0 ∷ 2 ∷ 6 ∷ 4 ∷ 3 ∷ 10 ∷ 6 ∷ 0 ∷ 0 ∷ 0 ∷ []) ([])) ∷
     (state (refusal 6) (9 ∷ []) 4
     (3 ∷ 0 ∷ 0 ∷ 0 ∷ 0 ∷ 0 ∷ 0 ∷ 0 ∷ 0 ∷ 0 ∷ 0 ∷ 0 ∷ 0 ∷ 0 ∷ 0 ∷ 0 ∷ 4 ∷ 1 ∷ 0 ∷ 0 ∷ 0 ∷ 0 ∷ 0 ∷ 0 ∷ [])
     (0 ∷ 0 ∷ 0 ∷ 2 ∷ 6 ∷ 4 ∷ 3 ∷ 10 ∷ 6 ∷ 0 ∷ 0 ∷ 0 ∷ []) ([])) ∷
-    (state (granted (row 4 16 7)) (1 ∷ []) 5
+    (state (success (row 4 16 7)) (1 ∷ []) 5
     (3 ∷ 0 ∷ 0 ∷ 0 ∷ 0 ∷ 0 ∷ 0 ∷ 0 ∷ 0 ∷ 0 ∷ 0 ∷ 0 ∷ 0 ∷ 0 ∷ 0 ∷ 0 ∷ 0 ∷ 0 ∷ 0 ∷ 0 ∷ 0 ∷ 0 ∷ 0 ∷ 0 ∷ [])
     (4 ∷ 16 ∷ 7 ∷ 2 ∷ 6 ∷ 4 ∷ 3 ∷ 10 ∷ 6 ∷ 0 ∷ 0 ∷ 0 ∷ []) ([])) ∷
-    (state (granted (row 3 10 6)) (1 ∷ []) 5
+    (state (success (row 3 10 6)) (1 ∷ []) 5
     (3 ∷ 393216 ∷ 0 ∷ 0 ∷ 0 ∷ 0 ∷ 0 ∷ 0 ∷ 0 ∷ 0 ∷ 3 ∷ 0 ∷ 0 ∷ 0 ∷ 0 ∷ 0 ∷ 0 ∷ 0 ∷ 0 ∷ 0 ∷ 0 ∷ 0 ∷ 0 ∷ 0 ∷ [])
     (4 ∷ 16 ∷ 7 ∷ 2 ∷ 6 ∷ 4 ∷ 0 ∷ 0 ∷ 0 ∷ 0 ∷ 0 ∷ 0 ∷ []) ([])) ∷
     (state (refusal 5) (1 ∷ []) 5
@@ -90,30 +90,23 @@ treeStates =
     (state (refusal 7) (1 ∷ []) 5
     (3 ∷ 393216 ∷ 0 ∷ 0 ∷ 0 ∷ 0 ∷ 0 ∷ 0 ∷ 0 ∷ 0 ∷ 3 ∷ 0 ∷ 0 ∷ 0 ∷ 0 ∷ 0 ∷ 0 ∷ 0 ∷ 0 ∷ 0 ∷ 0 ∷ 0 ∷ 0 ∷ 0 ∷ [])
     (4 ∷ 16 ∷ 7 ∷ 2 ∷ 6 ∷ 4 ∷ 0 ∷ 0 ∷ 0 ∷ 0 ∷ 0 ∷ 0 ∷ []) ([])) ∷
-    (state (granted (row 2 6 4)) (1 ∷ []) 5
+    (state (success (row 2 6 4)) (1 ∷ []) 5
     (8 ∷ 0 ∷ 0 ∷ 0 ∷ 0 ∷ 0 ∷ 0 ∷ 0 ∷ 0 ∷ 0 ∷ 0 ∷ 0 ∷ 0 ∷ 0 ∷ 0 ∷ 0 ∷ 0 ∷ 0 ∷ 0 ∷ 0 ∷ 0 ∷ 0 ∷ 0 ∷ 0 ∷ [])
     (4 ∷ 16 ∷ 7 ∷ 0 ∷ 0 ∷ 0 ∷ 0 ∷ 0 ∷ 0 ∷ 0 ∷ 0 ∷ 0 ∷ []) ([]))
     ∷ []
 
 abbrev pub segmentStates : List State
 segmentStates =
-    (state (done) ([]) 1
+    (state (zeroAnswer) ([]) 1
     (16 ∷ 0 ∷ 0 ∷ 0 ∷ 0 ∷ 0 ∷ 0 ∷ 0 ∷ 0 ∷ 0 ∷ 0 ∷ 0 ∷ 0 ∷ 0 ∷ 0 ∷ 0 ∷ [])
     (0 ∷ 0 ∷ 0 ∷ 0 ∷ 0 ∷ 0 ∷ 0 ∷ 0 ∷ 0 ∷ 0 ∷ 0 ∷ 0 ∷ []) (0 ∷ 16 ∷ 16 ∷ 0 ∷ 16 ∷ 0 ∷ 0 ∷ 0 ∷ 0 ∷ 16 ∷ 16 ∷ 16 ∷ [])) ∷
-    (state (granted (row 1 1 3)) ([]) 2
+    (state (success (row 1 1 3)) ([]) 2
     (4294967292 ∷ 0 ∷ 0 ∷ 0 ∷ 12 ∷ 0 ∷ 0 ∷ 0 ∷ 0 ∷ 0 ∷ 0 ∷ 0 ∷ 0 ∷ 0 ∷ 0 ∷ 0 ∷ [])
     (1 ∷ 1 ∷ 3 ∷ 0 ∷ 0 ∷ 0 ∷ 0 ∷ 0 ∷ 0 ∷ 0 ∷ 0 ∷ 0 ∷ []) (0 ∷ 12 ∷ 12 ∷ 0 ∷ 1 ∷ 12 ∷ 0 ∷ 0 ∷ 0 ∷ 4 ∷ 16 ∷ 16 ∷ [])) ∷
     (state (refusal 5) ([]) 2
     (4294967292 ∷ 0 ∷ 0 ∷ 0 ∷ 12 ∷ 0 ∷ 0 ∷ 0 ∷ 0 ∷ 0 ∷ 0 ∷ 0 ∷ 0 ∷ 0 ∷ 0 ∷ 0 ∷ [])
     (1 ∷ 1 ∷ 3 ∷ 0 ∷ 0 ∷ 0 ∷ 0 ∷ 0 ∷ 0 ∷ 0 ∷ 0 ∷ 0 ∷ []) (0 ∷ 12 ∷ 12 ∷ 0 ∷ 1 ∷ 12 ∷ 0 ∷ 0 ∷ 0 ∷ 4 ∷ 16 ∷ 16 ∷ [])) ∷
-    (state (granted (row 2 5 11)) ([]) 3
+    (state (success (row 2 5 11)) ([]) 3
     (4294967292 ∷ 0 ∷ 0 ∷ 0 ∷ 4294967284 ∷ 0 ∷ 0 ∷ 0 ∷ 0 ∷ 0 ∷ 0 ∷ 0 ∷ 0 ∷ 0 ∷ 0 ∷ 0 ∷ [])
     (1 ∷ 1 ∷ 3 ∷ 2 ∷ 5 ∷ 11 ∷ 0 ∷ 0 ∷ 0 ∷ 0 ∷ 0 ∷ 0 ∷ []) (0 ∷ 1 ∷ 1 ∷ 0 ∷ 1 ∷ 1 ∷ 0 ∷ 0 ∷ 0 ∷ 4 ∷ 16 ∷ 16 ∷ []))
     ∷ []
-
--- The sheet's other lines, on the tree pool that T11 leaves: A 0 and A 16,385 are 2, A 16,384 is 5.
-abbrev pub otherCalls : List (Call Words)
-otherCalls = treeCalls ++ (allocate 0 ∷ allocate 16385 ∷ allocate 16384 ∷ [])
-
-abbrev pub otherAnswers : List Answer
-otherAnswers = refusal 2 ∷ refusal 2 ∷ refusal 5 ∷ []

@@ -1,4 +1,3 @@
 -- What the worked cases are: calls and what each leaves.
 pub mod BenchSheet
 pub mod Sequences
-pub mod Edges

@@ -1,13 +1,13 @@
 -- A sequence of demand 3 for each engine, with everything mixed in that 01 allows. Assumes nothing.
 use Prim.Native.Nat.{ℕ}
-use mathlib.Core.List.{List, [], _∷_}
+use mathlib.Core.List.{List, [], _∷_, _++_, map}
 use mathlib.Core.Option.{none, some}
-use lib.ListN.{replicate}
+use lib.ListN.{take, replicate}
 use Rattle.words.specs.Lists.{Words}
 use Rattle.ledger.specs.Records.{row, Member, vacate, member}
 use Rattle.calls.specs.Pool.{Head, Pool}
 use Rattle.calls.specs.Step.{Call, format, allocate, release, find, look, list}
-use Rattle.calls.specs.Lent.{inArena, inTable, inIndex, own, other, Lent, allOf, Event, whole}
+use Rattle.calls.specs.Lent.{inArena, inTable, inIndex, own, other, Buffer, allOf, Event, onWhole}
 
 -- ---- the tree pool of T4: tickets 1, 2 and 3 are live
 
@@ -23,8 +23,12 @@ treeStart = record {
 abbrev pub treeSet : List Member
 treeSet = member 1 vacate ∷ member 3 vacate ∷ []
 
+-- a buffer of other memory, with these words
+abbrev pub otherWords : Words → Buffer
+otherWords x = map other x
+
 -- a call with the pool's memory, but another head
-abbrev pub otherHead : Pool → Head → Call Lent → Event
+abbrev pub otherHead : Pool → Head → Call Buffer → Event
 otherHead p h c = record {
   head = some h;
   shape = p .shape;
@@ -35,7 +39,7 @@ otherHead p h c = record {
 }
 
 -- a call with the pool's head and table, but other buffers
-abbrev pub otherArena : Pool → ℕ → Lent → Lent → Call Lent → Event
+abbrev pub otherArena : Pool → ℕ → Buffer → Buffer → Call Buffer → Event
 otherArena p s a i c = record { head = none; shape = s; arena = a; table = allOf inTable p; index = i; call = c }
 
 -- the pool's arena after both releases, as a copy
@@ -45,26 +49,30 @@ treeCopy = 3 ∷ 0 ∷ 0 ∷ 0 ∷ 0 ∷ 0 ∷ 7 ∷ 8 ∷ 9 ∷ 10 ∷ 7 ∷ 1 
 abbrev pub treeEvents : List Event
 treeEvents =
     -- a release of the set, and its replay
-    whole treeStart (release (row 3 10 6)) ∷ whole treeStart (release (row 3 10 6))
+    onWhole treeStart (release (row 3 10 6)) ∷ onWhole treeStart (release (row 3 10 6))
     -- finds and a look, which may show a part of the arena as its placeholder
-    ∷ whole treeStart (find (row 2 6 4)) ∷ whole treeStart (find (row 3 10 6))
-    ∷ whole treeStart (look (row 2 6 4) (own inArena 3 2 ∷ []))
+    ∷ onWhole treeStart (find (row 2 6 4)) ∷ onWhole treeStart (find (row 3 10 6))
+    ∷ onWhole treeStart (look (row 2 6 4) (own inArena 3 ∷ own inArena 4 ∷ []))
     -- refused where they stand: no room; a list one word long; a live ticket wrongly named
-    ∷ whole treeStart (allocate 25) ∷ whole treeStart (list (other (1 ∷ []) ∷ []) (other [] ∷ []))
-    ∷ whole treeStart (release (row 1 0 6))
+    ∷ onWhole treeStart (allocate 25) ∷ onWhole treeStart (list (other 1 ∷ []) [])
+    ∷ onWhole treeStart (release (row 1 0 6))
     -- a rightly named release with a wrong head, and a replay with one
     ∷ otherHead treeStart (record { root = 9 ∷ []; next = 1 }) (release (row 1 0 5))
     ∷ otherHead treeStart (record { root = 77 ∷ []; next = 4 }) (release (row 3 10 6))
     -- a format of the pool's arena with a word beside it, and a replay with half of the arena
-    ∷ otherArena treeStart 0 (own inArena 0 24 ∷ other (5 ∷ []) ∷ []) (allOf inIndex treeStart) format
-    ∷ otherArena treeStart 0 (own inArena 0 12 ∷ []) (allOf inIndex treeStart) (release (row 3 10 6))
+    ∷ otherArena treeStart 0 (allOf inArena treeStart ++ (other 5 ∷ [])) (allOf inIndex treeStart) format
+    ∷ otherArena treeStart 0 (take 12 (allOf inArena treeStart)) (allOf inIndex treeStart) (release (row 3 10 6))
     -- a list with a refusal, a release of the set, its replay and a wrong name, and words beyond it
-    ∷ whole treeStart (list
-    (other (1 ∷ 0 ∷ 0 ∷ 0 ∷ 2 ∷ 1 ∷ 0 ∷ 5 ∷ 2 ∷ 1 ∷ 0 ∷ 5 ∷ 2 ∷ 2 ∷ 6 ∷ 5 ∷ []) ∷ []) (other (replicate 20 8) ∷ []))
-    ∷ whole treeStart (release (row 1 0 5))
+    ∷ onWhole treeStart (list
+    (otherWords (1 ∷ 0 ∷ 0 ∷ 0 ∷ 2 ∷ 1 ∷ 0 ∷ 5 ∷ 2 ∷ 1 ∷ 0 ∷ 5 ∷ 2 ∷ 2 ∷ 6 ∷ 5 ∷ [])) (otherWords (replicate 20 8)))
+    ∷ onWhole treeStart (release (row 1 0 5))
+    -- a list whose answer is written elsewhere, and the words beyond it are the pool's; an empty list
+    ∷ onWhole treeStart (list (otherWords (2 ∷ 1 ∷ 0 ∷ 5 ∷ []))
+    (otherWords (replicate 4 8) ++ allOf inArena treeStart))
+    ∷ onWhole treeStart (list [] (allOf inTable treeStart))
     -- a list on a copy of the arena that runs, every request refused
-    ∷ otherArena treeStart 0 (other treeCopy ∷ []) (allOf inIndex treeStart)
-    (list (other (2 ∷ 3 ∷ 10 ∷ 6 ∷ 7 ∷ 0 ∷ 0 ∷ 0 ∷ []) ∷ []) (other (replicate 8 8) ∷ []))
+    ∷ otherArena treeStart 0 (otherWords treeCopy) (allOf inIndex treeStart)
+    (list (otherWords (2 ∷ 3 ∷ 10 ∷ 6 ∷ 7 ∷ 0 ∷ 0 ∷ 0 ∷ [])) (otherWords (replicate 8 8)))
     ∷ []
 
 -- ---- the segment pool of T14: tickets 1 and 2 are live, W 16, S 4
@@ -86,17 +94,17 @@ segmentEvents =
     -- a rightly named release with a wrong S and the pool's own parts; a format with a wrong S
     otherArena segmentStart 8 (allOf inArena segmentStart) (allOf inIndex segmentStart) (release (row 2 5 11))
     ∷ otherArena segmentStart 3 (allOf inArena segmentStart) (allOf inIndex segmentStart) format
-    ∷ whole segmentStart (look (row 1 1 3) (other (9 ∷ []) ∷ []))
+    ∷ onWhole segmentStart (look (row 1 1 3) (otherWords (9 ∷ [])))
     -- a list with a release of the set, its replay, and a request for which there is no room
-    ∷ whole segmentStart (list
-    (other (2 ∷ 2 ∷ 5 ∷ 11 ∷ 2 ∷ 2 ∷ 5 ∷ 11 ∷ 1 ∷ 12 ∷ 0 ∷ 0 ∷ []) ∷ []) (other (replicate 13 8) ∷ []))
-    ∷ whole segmentStart (release (row 2 5 11)) ∷ whole segmentStart (find (row 2 5 11))
+    ∷ onWhole segmentStart (list
+    (otherWords (2 ∷ 2 ∷ 5 ∷ 11 ∷ 2 ∷ 2 ∷ 5 ∷ 11 ∷ 1 ∷ 12 ∷ 0 ∷ 0 ∷ [])) (otherWords (replicate 13 8)))
+    ∷ onWhole segmentStart (release (row 2 5 11)) ∷ onWhole segmentStart (find (row 2 5 11))
     -- replays with a wrong S, and with other words for the index; ticket 0
     ∷ otherArena segmentStart 2 (allOf inArena segmentStart) (allOf inIndex segmentStart) (release (row 2 5 11))
-    ∷ otherArena segmentStart 4 (allOf inArena segmentStart) (other (replicate 12 0) ∷ []) (release (row 2 5 11))
-    ∷ whole segmentStart (release (row 0 0 0))
+    ∷ otherArena segmentStart 4 (allOf inArena segmentStart) (otherWords (replicate 12 0)) (release (row 2 5 11))
+    ∷ onWhole segmentStart (release (row 0 0 0))
     -- a list on a copy of the index that runs, every request refused
     ∷ otherArena segmentStart 4 (allOf inArena segmentStart)
-    (other (0 ∷ 12 ∷ 12 ∷ 0 ∷ 1 ∷ 12 ∷ 0 ∷ 0 ∷ 0 ∷ 4 ∷ 16 ∷ 16 ∷ []) ∷ [])
-    (list (other (1 ∷ 12 ∷ 0 ∷ 0 ∷ 3 ∷ 0 ∷ 0 ∷ 0 ∷ []) ∷ []) (other (replicate 8 8) ∷ []))
+    (otherWords (0 ∷ 12 ∷ 12 ∷ 0 ∷ 1 ∷ 12 ∷ 0 ∷ 0 ∷ 0 ∷ 4 ∷ 16 ∷ 16 ∷ []))
+    (list (otherWords (1 ∷ 12 ∷ 0 ∷ 0 ∷ 3 ∷ 0 ∷ 0 ∷ 0 ∷ [])) (otherWords (replicate 8 8)))
     ∷ []

@@ -7,7 +7,7 @@ use Rattle.calls.specs.Pool.{Pool}
 use Rattle.calls.specs.Engines.{segmentEngine}
 use Rattle.segment_pool.specs.Promises.{segmentPool, handed}
 use Rattle.calls.specs.Step.{allocate, ask}
-use Rattle.call_parts.proofs.GateLaws.{gate-sound}
+use Rattle.calls.proofs.GateLaws.{gate-opens}
 use Rattle.segment_pool.proofs.ActedLaws.{same-left, gate-left, one-left}
 use Rattle.segment_pool.proofs.allocate.Statement.{statement}
 use Rattle.segment_pool.proofs.allocate.Tie as tie
@@ -43,7 +43,7 @@ grant-requires : tie.Need-grant-requires
 grant-requires c κs =
     let g = c .before .before .before .before in
     let s = g .before .before .before .before .before .before in
-    gate-sound segmentEngine (pool s) (g .gate-number .result) (g .gate-number .ensures)
+    gate-opens segmentEngine (pool s) (g .gate-number .result) (g .gate-number .ensures)
     (c .before .before .before .if1 .left)
 
 outcome-of-grant-requires : tie.Need-outcome-of-grant-requires
@@ -66,7 +66,7 @@ returns-2 c =
     let b = q .grant .last .1 .1 .0 in
     let u = q .grant .last .1 .1 .1 .0 in
     let x = q .grant .last .1 .1 .1 .1 .0 in
-    let ok = gate-sound segmentEngine (pool s) (g .gate-number .result) (g .gate-number .ensures)
+    let ok = gate-opens segmentEngine (pool s) (g .gate-number .result) (g .gate-number .ensures)
     (q .before .before .before .before .if1 .left) in
     one-left (pool s) ok (handed (c .outcome-of-grant .result) b u x []) .0 (s .args .words)
     (same-left (ask (s .args .words)) (pool s) b u x (c .outcome-of-grant .ensures) (q .grant .ensures))

@@ -4,7 +4,8 @@ use borrow.Author.Needs.{needs}
 use denote.Ref.{now}
 use Rattle.calls.specs.Step.{Outcome, find}
 use Rattle.calls.specs.Engines.{segmentEngine}
-use Rattle.call_parts.proofs.GateLaws.{gate-refuses, gate-sound, find-slot, find-refused}
+use Rattle.calls.proofs.GateLaws.{gate-refuses, gate-opens}
+use Rattle.call_parts.proofs.FindLaws.{find-slot, find-refused}
 use Rattle.segment_pool.specs.Promises.{segmentPool}
 use Rattle.segment_pool.proofs.find.Statement.{statement}
 use Rattle.segment_pool.proofs.find.Tie as tie
@@ -48,7 +49,7 @@ returns-2 c =
     let s = g .before .before .before in
     let p = segmentPool (s .args .s) (s .args .head .next) (now (s .args .arena)) (now (s .args .table))
     (now (s .args .index)) in
-    let ok = gate-sound segmentEngine p (g .gate-number .result) (g .gate-number .ensures) (n .before .if1 .left) in
+    let ok = gate-opens segmentEngine p (g .gate-number .result) (g .gate-number .ensures) (n .before .if1 .left) in
     let t = c .before .enum-told .given in
     c .succeeded .ensures ∙ sym (find-slot segmentEngine p (s .args .named) ok (t .0 .0)
     (sym (n .named-slot .ensures) ∙ t .1))
@@ -60,7 +61,7 @@ returns-3 c =
     let s = g .before .before .before in
     let p = segmentPool (s .args .s) (s .args .head .next) (now (s .args .arena)) (now (s .args .table))
     (now (s .args .index)) in
-    let ok = gate-sound segmentEngine p (g .gate-number .result) (g .gate-number .ensures) (n .before .if1 .left) in
+    let ok = gate-opens segmentEngine p (g .gate-number .result) (g .gate-number .ensures) (n .before .if1 .left) in
     let t = c .before .before .n .given in
     c .refused2 .ensures ∙ sym (find-refused segmentEngine p (s .args .named) ok (t .0 .0)
     (sym (n .named-slot .ensures) ∙ t .1))

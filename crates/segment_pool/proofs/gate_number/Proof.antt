@@ -4,8 +4,9 @@ use mathlib.Core.Path.{_≡_, _∙_, sym}
 use borrow.Author.Needs.{needs}
 use denote.Ref.{now}
 use Rattle.words.proofs.Tests.{not-true, not-false}
-use Rattle.calls.specs.Pool.{lengths}
+use Rattle.calls.specs.Pool.{Pool, lengths}
 use Rattle.calls.specs.Engines.{segmentEngine}
+use Rattle.calls.proofs.GateLaws.{is-eight, is-one, is-zero}
 use Rattle.segment_pool.specs.Promises.{segmentPool}
 use Rattle.segment_pool.proofs.gate_number.Statement.{statement}
 use Rattle.segment_pool.proofs.gate_number.Tie as tie
@@ -17,12 +18,15 @@ returns : tie.Need-returns
 returns c =
     let a = c .before .before .before .before .args in
     let bad = sym (c .before .right-lengths .ensures (a .next)) ∙ not-true _ (c .if1 .taken) in
-    rw bad
+    is-eight segmentEngine (segmentPool (a .s) (a .next) (now (a .arena)) (now (a .table)) (now (a .index))) bad
 
 -- the lengths are right
-right : (c : tie.Else1) → (let a = c .before .before .before .before .args in
-    lengths segmentEngine
-    (segmentPool (a .s) (a .next) (now (a .arena)) (now (a .table)) (now (a .index))) ≡ true)
+abbrev lent : tie.Else1 → Pool
+lent c =
+    let a = c .before .before .before .before .args in
+    segmentPool (a .s) (a .next) (now (a .arena)) (now (a .table)) (now (a .index))
+
+right : (c : tie.Else1) → lengths segmentEngine (lent c) ≡ true
 right c =
     let a = c .before .before .before .before .args in
     sym (c .before .right-lengths .ensures (a .next)) ∙ not-false _ (c .if1 .left)
@@ -34,13 +38,13 @@ returns-2 : tie.Need-returns-2
 returns-2 c =
     let lengths-right = right (c .before .before) in
     let bad = sym (c .before .is-stored .ensures) ∙ not-true _ (c .if2 .taken) in
-    rw (lengths-right, bad)
+    is-one segmentEngine (lent (c .before .before)) lengths-right bad
 
 returns-3 : tie.Need-returns-3
 returns-3 c =
     let lengths-right = right (c .before .before) in
     let good = sym (c .before .is-stored .ensures) ∙ not-false _ (c .if2 .left) in
-    rw (lengths-right, good)
+    is-zero segmentEngine (lent (c .before .before)) lengths-right good
 
 pub gate-number-spec : {M : Type 1} → statement M
 gate-number-spec =

@@ -7,7 +7,7 @@ use Rattle.calls.specs.Pool.{Pool}
 use Rattle.calls.specs.Engines.{segmentEngine}
 use Rattle.segment_pool.specs.Promises.{segmentPool}
 use Rattle.calls.specs.Step.{list}
-use Rattle.call_parts.proofs.GateLaws.{gate-sound}
+use Rattle.calls.proofs.GateLaws.{gate-opens}
 use Rattle.segment_pool.proofs.ActedLaws.{gate-left}
 use Rattle.segment_pool.proofs.RequestLaws.{list-unsuited, list-left}
 use Rattle.call_parts.proofs.WholeLists.{suited-lengths}
@@ -73,7 +73,7 @@ serve-all-requires c κs =
     let u = f .before in
     let s = u .before .before .before .before .before .before in
     let suits = sym (u .list-suits .ensures) ∙ not-false (u .list-suits .result) (f .if1 .left) in (
-      gate-sound segmentEngine (pool s) (g .gate-number .result) (g .gate-number .ensures) (e .if2 .left),
+      gate-opens segmentEngine (pool s) (g .gate-number .result) (g .gate-number .ensures) (e .if2 .left),
       suited-lengths (now (s .args .asked)) (now (s .args .answers)) suits,
     )
 
@@ -101,7 +101,7 @@ returns-3 c =
     let u = f .before in
     let s = u .before .before .before .before .before .before in
     let suits = sym (u .list-suits .ensures) ∙ not-false (u .list-suits .result) (f .if1 .left) in
-    let ok = gate-sound segmentEngine (pool s) (g .gate-number .result) (g .gate-number .ensures) (e .if2 .left) in
+    let ok = gate-opens segmentEngine (pool s) (g .gate-number .result) (g .gate-number .ensures) (e .if2 .left) in
     list-left (s .args .head) (s .args .s) (now (s .args .arena)) (now (s .args .table)) (now (s .args .index))
     (now (s .args .asked)) (now (s .args .answers)) suits ok
     (record { head = d .serve-all .result; answer = c .succeeded .result }) (d .serve-all .last .1 .1 .0)

@@ -10,7 +10,7 @@ use native.Mathlib.Nat.{add-sub-cancel-left}
 use Rattle.calls.specs.declared.Answer.{Answer}
 use Rattle.calls.specs.Engines.{segmentEngine}
 use Rattle.calls.proofs.Engines.{segment-laws}
-use Rattle.call_parts.proofs.GateLaws.{found-inside}
+use Rattle.call_parts.proofs.FindLaws.{found-inside}
 use Rattle.segment_pool.specs.Promises.{segmentPool}
 use Rattle.segment_pool.proofs.LookLaws.{look-holds, look-found}
 use Rattle.segment_pool.proofs.look.Statement.{statement}

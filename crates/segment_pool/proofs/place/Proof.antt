@@ -2,7 +2,7 @@
 use Prim.Native.Nat.{ℕ, _+_, _<_}
 use native.Mathlib.Nat.{div-eq-of-lt, mod-eq-of-lt}
 use native.Mathlib.Omega.{arith}
-use mathlib.Core.Path.{_≡_, refl, sym, subst, subst₂}
+use mathlib.Core.Path.{_≡_, sym, subst, subst₂}
 use borrow.Author.Needs.{needs}
 use denote.Ref.{now}
 use lib.IntN.{pos}
@@ -125,7 +125,7 @@ returns c =
     let named : granted (s .args .head) (s .args .words) (s .args .at + 1)
     ≡ record {
       head = record { next = nextAfter (s .args .head .next) };
-      answer = machine.granted (row (s .args .head .next) (s .args .at + 1) (s .args .words));
+      answer = machine.success (row (s .args .head .next) (s .args .at + 1) (s .args .words));
     }
     = rw (div-eq-of-lt small, mod-eq-of-lt small) in
     same-left (ask (s .args .words)) (pool s)

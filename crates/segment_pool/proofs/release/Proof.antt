@@ -8,7 +8,7 @@ use Rattle.calls.specs.Pool.{Pool}
 use Rattle.calls.specs.Engines.{segmentEngine}
 use Rattle.segment_pool.specs.Promises.{segmentPool, handed}
 use Rattle.calls.specs.Step.{release, give}
-use Rattle.call_parts.proofs.GateLaws.{gate-sound}
+use Rattle.calls.proofs.GateLaws.{gate-opens}
 use Rattle.segment_pool.proofs.ActedLaws.{same-left, gate-left, one-left}
 use Rattle.segment_pool.proofs.release.Statement.{statement}
 use Rattle.segment_pool.proofs.release.Tie as tie
@@ -44,7 +44,7 @@ vacate-requires : tie.Need-vacate-requires
 vacate-requires c κs =
     let g = c .before .before .before .before in
     let s = g .before .before .before .before .before .before in
-    gate-sound segmentEngine (pool s) (g .gate-number .result) (g .gate-number .ensures)
+    gate-opens segmentEngine (pool s) (g .gate-number .result) (g .gate-number .ensures)
     (c .before .before .before .if1 .left)
 
 outcome-of-release-requires : tie.Need-outcome-of-release-requires
@@ -67,7 +67,7 @@ returns-2 c =
     let b = q .vacate .last .1 .1 .0 in
     let u = q .vacate .last .1 .1 .1 .0 in
     let x = q .vacate .last .1 .1 .1 .1 .0 in
-    let ok = gate-sound segmentEngine (pool s) (g .gate-number .result) (g .gate-number .ensures)
+    let ok = gate-opens segmentEngine (pool s) (g .gate-number .result) (g .gate-number .ensures)
     (q .before .before .before .before .if1 .left) in
     one-left (pool s) ok (handed (c .outcome-of-release .result) b u x []) .1 (s .args .named)
     (same-left (give (s .args .named)) (pool s) b u x (c .outcome-of-release .ensures) (q .vacate .ensures))

@@ -6,7 +6,7 @@ use Rattle.words.proofs.Tests.{eqb-ne}
 use Rattle.calls.specs.Pool.{Pool}
 use Rattle.calls.specs.Engines.{segmentEngine}
 use Rattle.segment_pool.specs.Promises.{segmentPool}
-use Rattle.call_parts.proofs.GateLaws.{named-refused, give-refused}
+use Rattle.call_parts.proofs.FindLaws.{named-refused, give-refused}
 use Rattle.segment_pool.proofs.ActedLaws.{vacated-refused}
 use Rattle.segment_pool.proofs.vacate.Statement.{statement}
 use Rattle.segment_pool.proofs.vacate.Tie as tie

@@ -4,8 +4,9 @@ use mathlib.Core.Path.{_≡_, _∙_, sym}
 use borrow.Author.Needs.{needs}
 use denote.Ref.{now}
 use Rattle.words.proofs.Tests.{not-true, not-false}
-use Rattle.calls.specs.Pool.{lengths}
+use Rattle.calls.specs.Pool.{Pool, lengths}
 use Rattle.calls.specs.Engines.{treeEngine}
+use Rattle.calls.proofs.GateLaws.{is-eight, is-one, is-zero}
 use Rattle.tree_check.specs.Gate.{treePool}
 use Rattle.tree_check.proofs.gate_number.Statement.{statement}
 use Rattle.tree_check.proofs.gate_number.Tie as tie
@@ -17,11 +18,15 @@ returns : tie.Need-returns
 returns c =
     let a = c .before .before .before .before .args in
     let bad = sym (c .before .right-lengths .ensures (a .root) (a .next)) ∙ not-true _ (c .if1 .taken) in
-    rw bad
+    is-eight treeEngine (treePool (a .root) (a .next) (now (a .arena)) (now (a .table))) bad
 
 -- the lengths are right
-right : (c : tie.Else1) → (let a = c .before .before .before .before .args in
-    lengths treeEngine (treePool (a .root) (a .next) (now (a .arena)) (now (a .table))) ≡ true)
+abbrev lent : tie.Else1 → Pool
+lent c =
+    let a = c .before .before .before .before .args in
+    treePool (a .root) (a .next) (now (a .arena)) (now (a .table))
+
+right : (c : tie.Else1) → lengths treeEngine (lent c) ≡ true
 right c =
     let a = c .before .before .before .before .args in
     sym (c .before .right-lengths .ensures (a .root) (a .next)) ∙ not-false _ (c .if1 .left)
@@ -33,13 +38,13 @@ returns-2 : tie.Need-returns-2
 returns-2 c =
     let lengths-right = right (c .before .before) in
     let bad = sym (c .before .is-stored .ensures) ∙ not-true _ (c .if2 .taken) in
-    rw (lengths-right, bad)
+    is-one treeEngine (lent (c .before .before)) lengths-right bad
 
 returns-3 : tie.Need-returns-3
 returns-3 c =
     let lengths-right = right (c .before .before) in
     let good = sym (c .before .is-stored .ensures) ∙ not-false _ (c .if2 .left) in
-    rw (lengths-right, good)
+    is-zero treeEngine (lent (c .before .before)) lengths-right good
 
 pub gate-number-spec : {M : Type 1} → statement M
 gate-number-spec =

@@ -5,7 +5,7 @@ use denote.Ref.{now}
 use mathlib.Core.List.{[]}
 use Rattle.calls.specs.Step.{allocate, ask}
 use Rattle.calls.specs.Engines.{treeEngine}
-use Rattle.call_parts.proofs.GateLaws.{gate-sound}
+use Rattle.calls.proofs.GateLaws.{gate-opens}
 use Rattle.tree_pool.specs.Promises.{poolOf, handed}
 use Rattle.tree_pool.proofs.ActedLaws.{same-left, gate-left, one-left}
 use Rattle.tree_pool.proofs.allocate.Statement.{statement}
@@ -35,7 +35,7 @@ grant-requires : tie.Need-grant-requires
 grant-requires c κs =
     let g = c .before .before .before in
     let s = g .before .before .before .before .before in
-    gate-sound treeEngine (poolOf (s .args .head) (now (s .args .arena)) (now (s .args .table)))
+    gate-opens treeEngine (poolOf (s .args .head) (now (s .args .arena)) (now (s .args .table)))
     (g .gate-number .result)
     (g .gate-number .ensures) (c .before .before .if1 .left)
 
@@ -56,7 +56,7 @@ returns-2 c =
     let b = q .grant .last .1 .0 in
     let u = q .grant .last .1 .1 .0 in
     let p = poolOf (s .args .head) (now (s .args .arena)) (now (s .args .table)) in
-    let ok = gate-sound treeEngine p (g .gate-number .result) (g .gate-number .ensures)
+    let ok = gate-opens treeEngine p (g .gate-number .result) (g .gate-number .ensures)
     (q .before .before .before .if1 .left) in
     one-left p ok (handed (c .outcome-of-grant .result) b u []) .0 (s .args .words)
     (same-left (ask (s .args .words)) p b u (c .outcome-of-grant .ensures) (q .grant .ensures))

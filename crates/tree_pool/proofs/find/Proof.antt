@@ -4,7 +4,8 @@ use borrow.Author.Needs.{needs}
 use denote.Ref.{now}
 use Rattle.calls.specs.Step.{Outcome, find}
 use Rattle.calls.specs.Engines.{treeEngine}
-use Rattle.call_parts.proofs.GateLaws.{gate-refuses, gate-sound, find-slot, find-refused}
+use Rattle.calls.proofs.GateLaws.{gate-refuses, gate-opens}
+use Rattle.call_parts.proofs.FindLaws.{find-slot, find-refused}
 use Rattle.tree_pool.specs.Promises.{poolOf}
 use Rattle.tree_pool.proofs.find.Statement.{statement}
 use Rattle.tree_pool.proofs.find.Tie as tie
@@ -46,7 +47,7 @@ returns-2 c =
     let g = n .before .before in
     let s = g .before .before .before in
     let p = poolOf (s .args .head) (now (s .args .arena)) (now (s .args .table)) in
-    let ok = gate-sound treeEngine p (g .gate-number .result) (g .gate-number .ensures) (n .before .if1 .left) in
+    let ok = gate-opens treeEngine p (g .gate-number .result) (g .gate-number .ensures) (n .before .if1 .left) in
     let t = c .before .enum-told .given in
     c .succeeded .ensures ∙ sym (find-slot treeEngine p (s .args .named) ok (t .0 .0)
     (sym (n .named-slot .ensures) ∙ t .1))
@@ -57,7 +58,7 @@ returns-3 c =
     let g = n .before .before in
     let s = g .before .before .before in
     let p = poolOf (s .args .head) (now (s .args .arena)) (now (s .args .table)) in
-    let ok = gate-sound treeEngine p (g .gate-number .result) (g .gate-number .ensures) (n .before .if1 .left) in
+    let ok = gate-opens treeEngine p (g .gate-number .result) (g .gate-number .ensures) (n .before .if1 .left) in
     let t = c .before .before .n .given in
     c .refused2 .ensures ∙ sym (find-refused treeEngine p (s .args .named) ok (t .0 .0)
     (sym (n .named-slot .ensures) ∙ t .1))

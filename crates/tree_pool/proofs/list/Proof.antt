@@ -5,7 +5,7 @@ use borrow.Author.Tests.{not-true, not-false}
 use denote.Ref.{now}
 use Rattle.calls.specs.Step.{list}
 use Rattle.calls.specs.Engines.{treeEngine}
-use Rattle.call_parts.proofs.GateLaws.{gate-sound}
+use Rattle.calls.proofs.GateLaws.{gate-opens}
 use Rattle.tree_pool.specs.Promises.{poolOf}
 use Rattle.tree_pool.proofs.ActedLaws.{gate-left}
 use Rattle.tree_pool.proofs.RequestLaws.{list-unsuited, list-left}
@@ -78,7 +78,7 @@ serve-all-requires c κs =
     let rs = now (s .args .asked) in
     let bs = now (s .args .answers) in
     let suits = sym (u .list-suits .ensures) ∙ not-false (u .list-suits .result) (f .if1 .left) in (
-      gate-sound treeEngine (poolOf h a t) (g .gate-number .result) (g .gate-number .ensures)
+      gate-opens treeEngine (poolOf h a t) (g .gate-number .result) (g .gate-number .ensures)
           (e .if2 .left),
       suited-lengths rs bs suits,
     )
@@ -109,7 +109,7 @@ returns-3 c =
     let rs = now (s .args .asked) in
     let bs = now (s .args .answers) in
     let suits = sym (u .list-suits .ensures) ∙ not-false (u .list-suits .result) (f .if1 .left) in
-    let ok = gate-sound treeEngine (poolOf h a t) (g .gate-number .result) (g .gate-number .ensures) (e .if2 .left) in
+    let ok = gate-opens treeEngine (poolOf h a t) (g .gate-number .result) (g .gate-number .ensures) (e .if2 .left) in
     list-left h a t rs bs suits ok (record { head = d .serve-all .result; answer = c .succeeded .result })
     (d .serve-all .last .1 .0) (d .serve-all .last .1 .1 .0) (d .serve-all .last .1 .1 .1 .1 .0)
     (c .succeeded .ensures) (d .serve-all .ensures)

@@ -6,7 +6,7 @@ use native.Mathlib.Nat.{add-sub-cancel-left}
 use Rattle.calls.specs.declared.Answer.{Answer}
 use Rattle.calls.specs.Engines.{treeEngine}
 use Rattle.calls.proofs.Engines.{tree-laws}
-use Rattle.call_parts.proofs.GateLaws.{found-inside}
+use Rattle.call_parts.proofs.FindLaws.{found-inside}
 use Rattle.tree_pool.specs.Promises.{poolOf}
 use Rattle.tree_pool.proofs.LookLaws.{look-holds, look-found}
 use Rattle.tree_pool.proofs.look.Statement.{statement}

@@ -4,7 +4,7 @@ use borrow.Author.Needs.{needs}
 use denote.Ref.{now}
 use Rattle.words.proofs.Tests.{eqb-ne}
 use Rattle.calls.specs.Engines.{treeEngine}
-use Rattle.call_parts.proofs.GateLaws.{named-refused, give-refused}
+use Rattle.call_parts.proofs.FindLaws.{named-refused, give-refused}
 use Rattle.tree_pool.specs.Promises.{poolOf}
 use Rattle.tree_pool.proofs.ActedLaws.{vacated-refused}
 use Rattle.tree_pool.proofs.vacate.Statement.{statement}

@@ -1,0 +1,136 @@
+-- Laws of the gate and of the step: what the gate's number says, and which way a call goes. Assumes nothing.
+use Prim.Native.Nat.{ℕ}
+use native.Mathlib.Omega.{arith}
+use native.Mathlib.Decide.{ℕ-discrete}
+use mathlib.Core.Path.{_≡_, refl, sym, _∙_}
+use mathlib.Core.Logic.{_≢_, _↔_}
+use mathlib.Core.Bool.{Bool, true, false, cond, _&&_, true≢false, false≢true}
+use Rattle.words.specs.Lists.{Words}
+use Rattle.words.proofs.Tests.{and-l, and-r, and-i, eqb-ne}
+use Rattle.calls.specs.Pool.{Pool, Engine, lengths, stored, sound}
+use Rattle.calls.specs.Step.{Call, format, single, look, list, bad, Outcome, suits, fills, behind, gate, GateIs}
+use Rattle.calls.specs.Step.{refusedBy, actsDone, perform, step}
+
+-- refused by the gate's number, or performed
+pub data Way (E : Engine) (c : Call Words) (p : Pool) (o : Outcome) : Type 0 where
+  stops : (n : ℕ) → gate E c p ≡ n → n ≢ 0 → o ≡ refusedBy E c p n → Way E c p o
+  runs : gate E c p ≡ 0 → o ≡ perform E c p → Way E c p o
+
+module _ (E : Engine) (c : Call Words) (p : Pool) where
+  pub way : Way E c p (step E c p)
+  unfolding step
+  way = go (ℕ-discrete (gate E c p) 0)
+    where
+      go : Dec (gate E c p ≡ 0) → Way E c p (step E c p)
+      go (yes z) = runs z (rw z)
+      go (no z) = stops (gate E c p) refl z (rw (eqb-ne (gate E c p) 0 z))
+
+  pub step-stops : (n : ℕ) → gate E c p ≡ n → n ≢ 0 → step E c p ≡ refusedBy E c p n
+  unfolding step
+  step-stops n e z = rw (e, eqb-ne n 0 z)
+
+  -- a call that fills nothing does its acts, behind a test of row 1
+  pub perform-acts : fills c ≡ false → perform E c p ≡ actsDone E c p
+  unfolding perform
+  perform-acts = go c
+    where
+      go : (c : Call Words) → fills c ≡ false → perform E c p ≡ actsDone E c p
+      go format f = absurd (true≢false f)
+      go (single a) f = refl
+      go (look r hold) f = refl
+      go (list rs bs) f = refl
+
+  behind-is : behind E c p ≡ cond (fills c) 0 (cond (stored E p) 0 1)
+  unfolding behind
+  behind-is = go c
+    where
+      go : (c : Call Words) → behind E c p ≡ cond (fills c) 0 (cond (stored E p) 0 1)
+      go format = refl
+      go (single a) = refl
+      go (look r hold) = refl
+      go (list rs bs) = refl
+
+-- ---- the gate's number: 8, 1 or 0
+
+-- two statements that both hold, or of which neither does
+pub both : {P Q : Type 0} → P → Q → P ↔ Q
+both p q = (λ h. q, λ h. p)
+
+pub neither : {P Q : Type 0} → (P → ⊥) → (Q → ⊥) → P ↔ Q
+neither f g = (λ p. absurd (f p), λ q. absurd (g q))
+
+-- a: the lengths suit; f: the call fills memory anew; s: the pool is stored
+pub record GateNumber (a f s : Bool) (n : ℕ) : Type 0 where
+  pub eight : (n ≡ 8) ↔ (a ≡ false)
+  pub one : (n ≡ 1) ↔ ((f ≡ false) × (a ≡ true) × (s ≡ false))
+  pub zero : (n ≡ 0) ↔ ((a ≡ true) × (f ≡ false → s ≡ true))
+
+gate-cases : (a f s : Bool) → GateNumber a f s (cond a (cond f 0 (cond s 0 1)) 8)
+gate-cases false f s = record {
+  eight = both refl refl;
+  one = neither (λ h. omega arith) (λ h. false≢true (h .1));
+  zero = neither (λ h. omega arith) (λ h. false≢true (h .0));
+}
+gate-cases true true s = record {
+  eight = neither (λ h. omega arith) true≢false;
+  one = neither (λ h. omega arith) (λ h. true≢false (h .0));
+  zero = both refl (refl, λ h. absurd (true≢false h));
+}
+gate-cases true false true = record {
+  eight = neither (λ h. omega arith) true≢false;
+  one = neither (λ h. omega arith) (λ h. true≢false (h .2));
+  zero = both refl (refl, λ h. refl);
+}
+gate-cases true false false = record {
+  eight = neither (λ h. omega arith) true≢false;
+  one = both refl (refl, refl, refl);
+  zero = neither (λ h. omega arith) (λ h. false≢true (h .1 refl));
+}
+
+module _ (E : Engine) (c : Call Words) (p : Pool) where
+  pub gate-number : GateNumber (lengths E p && suits c) (fills c) (stored E p) (gate E c p)
+  unfolding gate
+  gate-number = rw (behind-is E c p) (gate-cases (lengths E p && suits c) (fills c) (stored E p))
+
+  -- a sound pool, and lengths that suit
+  pub gate-sound : suits c ≡ true → sound E p ≡ true → gate E c p ≡ 0
+  unfolding sound
+  gate-sound s ok =
+      gate-number .zero .1
+      (and-i (lengths E p) (suits c) (and-l (lengths E p) (stored E p) ok) s, λ f. and-r (lengths E p) (stored E p) ok)
+
+  pub sound-gate : fills c ≡ false → gate E c p ≡ 0 → sound E p ≡ true
+  unfolding sound
+  sound-gate f z =
+      let (a, s) = gate-number .zero .0 z in
+      and-i (lengths E p) (stored E p) (and-l (lengths E p) (suits c) a) (s f)
+
+  pub step-sound : fills c ≡ false → suits c ≡ true → sound E p ≡ true → step E c p ≡ actsDone E c p
+  unfolding step
+  step-sound f s ok = rw (gate-sound s ok) (perform-acts E c p f)
+
+-- ---- one gate for all calls that fill nothing and suit their buffers
+
+module _ (E : Engine) (p : Pool) where
+  -- by the tests that lead to it
+  pub is-eight : lengths E p ≡ false → GateIs E p 8
+  unfolding gate
+  is-eight l a = rw l
+
+  pub is-one : lengths E p ≡ true → stored E p ≡ false → GateIs E p 1
+  unfolding gate behind
+  is-one l s a = rw (l, s)
+
+  pub is-zero : lengths E p ≡ true → stored E p ≡ true → GateIs E p 0
+  unfolding gate behind
+  is-zero l s a = rw (l, s)
+
+  module _ (x : ℕ) (is : GateIs E p x) where
+    pub gate-opens : x ≡ 0 → sound E p ≡ true
+    gate-opens z = sound-gate E (single bad) p refl (sym (is bad) ∙ z)
+
+    -- such a call is refused by the gate's number
+    pub gate-refuses : x ≢ 0 → (c : Call Words) → fills c ≡ false → suits c ≡ true → step E c p ≡ refusedBy E c p x
+    unfolding gate
+    gate-refuses n c f s =
+        step-stops E c p x (rw (behind-is E c p, f, s) (sym (rw (behind-is E (single bad) p) at (is bad)))) n

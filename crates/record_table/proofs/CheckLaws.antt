@@ -1,27 +1,23 @@
 -- Laws of the check of a table. Assumes nothing.
 use Prim.Native.Nat.{ℕ, _+_, _-_, _*_, _/_, _%_, _≤_, _<_}
 use native.Mathlib.Nat.{mul-add, div-le-self, mul-div-le}
-use native.Mathlib.Decide.{ℕ-discrete}
 use native.Mathlib.Omega.{arith}
 use mathlib.Core.Path.{_≡_, refl, sym, ap, _∙_}
 use mathlib.Core.Logic.{_≢_}
 use mathlib.Core.Bool.{Bool, true, false, not, _&&_, _||_, or-true, true≢false}
 use lib.Dec.{eqb, leb, ltb}
-use lib.ListN.{length, getD, set}
-use lib.Seq.{getD-set-same, getD-set-other}
-use Rattle.words.specs.Lists.{Words, all, pairwise, isZero, zeroAt}
+use Rattle.words.specs.Lists.{Words, all, pairwise}
 use Rattle.words.specs.Counted.{every}
 use Rattle.words.proofs.Tests.{and-l, not-true, eqb-eq, eqb-ne, of-gt}
 use Rattle.words.proofs.ListLaws.{all-listFrom}
-use Rattle.words.proofs.CountedLaws.{every-at, every-of, every-same}
+use Rattle.words.proofs.CountedLaws.{every-at}
 use Rattle.ledger.specs.declared.Row.{Row}
 use Rattle.ledger.specs.declared.Rule.{Rule}
 use Rattle.ledger.specs.Records.{Ledger, recordAt, slots, recordsOf, isEmpty}
 use Rattle.ledger.specs.Units.{span, first, past, fits, apart, valid}
 use Rattle.ledger.proofs.UnitLaws.{Fitted, fits-facts}
-use Rattle.record_table.specs.Checks.{rowOk, differ, beside, unlike, newAt, Gathered, AllInside}
-use Rattle.record_table.specs.Checks.{residueOf, Noted}
-use Rattle.record_table.proofs.PairLaws.{after, or-every, pairs, pairs-both}
+use Rattle.record_table.specs.Checks.{rowOk, differ, beside, AllInside}
+use Rattle.record_table.proofs.PairLaws.{pairs, pairs-both}
 
 -- ---- the records by their slots
 
@@ -32,61 +28,6 @@ passes f t i = f (recordAt t i)
 pub all-slots : (f : Row → Bool) (t : Words) → all f (recordsOf t) ≡ every (passes f t) 0 (slots t)
 unfolding recordsOf
 all-slots f t = all-listFrom f (recordAt t) 0 (slots t)
-
--- ---- the tickets
-
-pub gather-next : (ids t : Words) (i : ℕ) → i < length ids → Gathered ids t i
-    → Gathered (set ids i (recordAt t i .ticket)) t (i + 1)
-gather-next ids t i h g k l = go (ℕ-discrete k i)
-  where
-    go : Dec (k ≡ i) → getD (set ids i (recordAt t i .ticket)) k 0 ≡ recordAt t k .ticket
-    go (yes e) = rw e (getD-set-same ids i (recordAt t i .ticket) 0 h)
-    go (no e) = getD-set-other ids i k (recordAt t i .ticket) 0 e ∙ g k (omega arith)
-
-pub new-differ : (ids t : Words) → Gathered ids t (slots t)
-    → every (newAt ids (slots t)) 0 (slots t) ≡ pairwise differ (recordsOf t)
-unfolding recordsOf
-new-differ ids t g =
-    every-same (newAt ids (slots t)) (after differ (recordAt t) (slots t)) 0 (slots t) (λ k l h. at k (omega arith))
-    ∙ sym (pairs differ (recordAt t) (slots t))
-  where
-    at : (k : ℕ) → k < slots t → newAt ids (slots t) k ≡ after differ (recordAt t) (slots t) k
-    at k h =
-        let later = slots t - (k + 1) in
-        or-every (zeroAt ids k) (unlike ids k) (k + 1) later
-        ∙ every-same (λ j. zeroAt ids k || unlike ids k j) (λ j. differ (recordAt t k) (recordAt t j)) (k + 1) later
-        (λ j a b. rw (g k h, g j (omega arith)))
-
--- ---- the residues
-
-module _ (m : ℕ) (seen ids : Words) (n i : ℕ) (N : Noted m seen ids n (i + 1)) where
-  -- a ticket whose residue no later one has is none of them
-  pub residue-new : zeroAt ids i ≡ false → zeroAt seen (residueOf m (getD ids i 0)) ≡ true → newAt ids n i ≡ true
-  residue-new live none =
-      rw live (every-of (unlike ids i) (i + 1) (n - (i + 1))
-      (λ j a b. go j a (omega arith) (ℕ-discrete (getD ids i 0) (getD ids j 0))))
-    where
-      go : (j : ℕ) → i + 1 ≤ j → j < n → Dec (getD ids i 0 ≡ getD ids j 0) → unlike ids i j ≡ true
-      go j a b (yes e) =
-          absurd (true≢false (sym none ∙ ap (λ t. zeroAt seen (residueOf m t)) e ∙ N j a b (rw e at live)))
-      go j a b (no e) = rw (eqb-ne (getD ids i 0) (getD ids j 0) e)
-
-  pub note-none : zeroAt ids i ≡ true → Noted m seen ids n i
-  note-none z j a b live = go (ℕ-discrete j i)
-    where
-      go : Dec (j ≡ i) → zeroAt seen (residueOf m (getD ids j 0)) ≡ false
-      go (yes e) = absurd (true≢false (sym z ∙ ap (zeroAt ids) (sym e) ∙ live))
-      go (no e) = N j (omega arith) b live
-
-  pub note-next : (at : ℕ) → at ≡ residueOf m (getD ids i 0) → at < length seen → Noted m (set seen at 1) ids n i
-  note-next at is h j a b live = go (ℕ-discrete (residueOf m (getD ids j 0)) at) (ℕ-discrete j i)
-    where
-      go : Dec (residueOf m (getD ids j 0) ≡ at) → Dec (j ≡ i)
-          → zeroAt (set seen at 1) (residueOf m (getD ids j 0)) ≡ false
-      go (yes e) d = ap (zeroAt (set seen at 1)) e ∙ ap isZero (getD-set-same seen at 1 0 h)
-      go (no e) (yes d) = absurd (e (ap (λ k. residueOf m (getD ids k 0)) d ∙ sym is))
-      go (no e) (no d) =
-          ap isZero (getD-set-other seen at (residueOf m (getD ids j 0)) 1 0 e) ∙ N j (omega arith) b live
 
 -- ---- numbers of a record that fit a machine word
 
@@ -159,8 +100,3 @@ module _ (ρ : Rule) (pos : 0 < ρ .unit) (W next : ℕ) where
       let here = every-at (passes (rowOk ρ W next) t) 0 (slots t) each i (omega arith) (omega arith) in
       let f = fitted (recordAt t i) here (not-true (isEmpty (recordAt t i)) live) in
       (f .nonempty, omega (arith, f .units))
-
--- a slot that fails by itself
-pub row-invalid : (ρ : Rule) (W next : ℕ) (L : Ledger) → all (rowOk ρ W next) L ≡ false → false ≡ valid ρ W next L
-unfolding valid
-row-invalid ρ W next L e = sym (rw e)

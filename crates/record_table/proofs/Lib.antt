@@ -1,5 +1,8 @@
 -- The laws of what specs/ defines.
-pub mod PairLaws
 pub mod SlotLaws
+pub mod PairLaws
 pub mod CheckLaws
-pub mod MarkLaws
+pub mod BesideLaws
+pub mod PartitionLaws
+pub mod EnterLaws
+pub mod LeadLaws

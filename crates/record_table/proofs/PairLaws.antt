@@ -1,5 +1,5 @@
 -- General laws of tests that the check of a table rests on: no record stands in them. Assumes nothing.
-use Prim.Native.Nat.{ℕ, zero, suc, _+_, _-_, _≤_, _<_}
+use Prim.Native.Nat.{ℕ, zero, suc, _+_, _-_, _<_}
 use native.Mathlib.Nat.{zero-add, add-suc, suc-add}
 use native.Mathlib.Numerals.{add-one}
 use native.Mathlib.Decide.{ℕ-discrete}
@@ -15,10 +15,6 @@ use Rattle.words.proofs.CountedLaws.{every-at, every-of}
 
 -- ---- tests of consecutive numbers
 
-pub or-every : (a : Bool) (q : ℕ → Bool) (i n : ℕ) → (a || every q i n) ≡ every (λ j. a || q j) i n
-or-every true q i n = sym (every-of (λ j. true) i n (λ k l h. refl))
-or-every false q i n = refl
-
 pub every-last : (p : ℕ → Bool) (n : ℕ) → every p 0 (n + 1) ≡ (every p 0 n && p n)
 every-last p n =
     bool-iff (every p 0 (n + 1)) (every p 0 n && p n)
@@ -30,22 +26,6 @@ every-last p n =
     go : (every p 0 n && p n) ≡ true → (k : ℕ) → k < n + 1 → Dec (k ≡ n) → p k ≡ true
     go e k h (yes q) = ap p q ∙ and-r (every p 0 n) (p n) e
     go e k h (no q) = every-at p 0 n (and-l (every p 0 n) (p n) e) k (omega arith) (omega arith)
-
--- a flag over the numbers from i on, that goes down to i - 1
-pub flag-down : (p : ℕ → Bool) (n i : ℕ) (ok here : Bool) → 0 < i → i ≤ n → ok ≡ every p i (n - i) → here ≡ p (i - 1)
-    → (ok && here) ≡ every p (i - 1) (n - (i - 1))
-flag-down p n i ok here a b e f =
-    let up : suc (i - 1) ≡ i = omega arith in
-    let more : n - (i - 1) ≡ suc (n - i) = omega arith in
-    swap ok here
-    ∙ ap₂ (λ (x y : Bool). x && y) f (e ∙ sym (ap (λ k. every p k (n - i)) up))
-    ∙ sym (ap (every p (i - 1)) more)
-  where
-    swap : (x y : Bool) → (x && y) ≡ (y && x)
-    swap true true = refl
-    swap true false = refl
-    swap false true = refl
-    swap false false = refl
 
 pub none-of : {A : Type 0} (p : A → Bool) (f : ℕ → A) (i n : ℕ)
     → not (any p (listFrom f i n)) ≡ every (λ k. not (p (f k))) i n

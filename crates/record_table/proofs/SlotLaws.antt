@@ -23,7 +23,6 @@ use Rattle.ledger.specs.Units.{valid}
 use Rattle.ledger.proofs.RecordLaws.{length-records, record-at, has-ticket, record-ticket}
 use Rattle.ledger.proofs.RecordLaws.{settle-slot, enter-slot, full-none}
 use Rattle.ledger.proofs.UnitLaws.{valid-apart}
-use Rattle.record_table.specs.declared.Found.{Found}
 use Rattle.record_table.specs.declared.Found.the-variants.{At, Nothing}
 use Rattle.record_table.specs.Slots.{found, ticketAt, emptyAt, ticketSlot, emptySlot, Without, Reached}
 
@@ -204,16 +203,6 @@ module _ (k : ℕ) (t : Words) where
       let L = recordsOf t in
       let n = lowest-none (ticketAt k L) 0 (length L) (found-nothing (lowest (ticketAt k L) 0 (length L)) e) in
       first-nowhere (hasTicket k) L (λ i h. n i (omega arith) (omega arith))
-
-  -- the record of a ticket stands in the slot that the search finds
-  pub ticket-held : (r : Row) → recordOf k (recordsOf t) ≡ some r
-      → (i : ℕ) × (ticketSlot k (recordsOf t) ≡ At i) × (recordAt t i ≡ r)
-  ticket-held r e = go (ticketSlot k (recordsOf t)) refl
-    where
-      go : (o : Found) → ticketSlot k (recordsOf t) ≡ o
-          → (i : ℕ) × (ticketSlot k (recordsOf t) ≡ At i) × (recordAt t i ≡ r)
-      go (At i) q = let p : some (recordAt t i) ≡ some r = sym (ticket-found i q .1) ∙ e in (i, q, (cc))
-      go Nothing q = absurd (absurd-some (sym (ticket-missing q) ∙ e))
 
   -- to vacate a ticket of a valid ledger is to empty the slot that the search finds
   pub ticket-settle : (ρ : Rule) (W next : ℕ) → valid ρ W next (recordsOf t) ≡ true

@@ -1,19 +1,19 @@
-// The table of records: reading and writing a slot, searching it, and checking that it holds a valid ledger.
+// The table of records: reading and writing a slot, searching it, and entering its records one after another, for a check
+// that it holds a valid ledger.
 use ledger::Row;
 use ledger::Rule;
 ghost use mathlib.Core.Path.{_≡_};
+ghost use mathlib.Core.Logic.{_≢_};
 ghost use mathlib.Core.Bool.{true, false};
 ghost use Prim.Native.Nat.{_+_, _/_, _-_, _%_, _≤_, _<_};
 ghost use lib.ListN.{length, set};
-ghost use Rattle.words.specs.Lists.{all, pairwise, isZero, zeroAt};
+ghost use Rattle.words.specs.Lists.{isZero};
 ghost use Rattle.words.specs.Counted.{every};
-ghost use Rattle.words.specs.Places.{wiped};
-ghost use mathlib.Core.Logic.{_≢_};
 ghost use Rattle.ledger.specs.Records.{recordWords, recordAt, slots, recordsOf, tableOf, isEmpty, hasTicket};
-ghost use Rattle.ledger.specs.Units.{span, first, past, fits, valid};
+ghost use Rattle.ledger.specs.Units.{span, first, past, fits};
 ghost use Rattle.record_table.specs.Slots.{ticketSlot, emptySlot, Without, Reached};
-ghost use Rattle.record_table.specs.Checks.{rowOk, differ, unlike, newAt, Gathered, residueOf, Noted};
-ghost use Rattle.record_table.specs.Checks.{beside, Inside, AllInside, Marks, room, marked};
+ghost use Rattle.record_table.specs.Checks.{rowOk, residueOf};
+ghost use Rattle.record_table.specs.Partition.{newAt, otherThan, markOf, Noted, Joins};
 
 // The slot that a search found.
 pub enum Found {
@@ -234,47 +234,6 @@ pub fn row_fits(rule: Rule, words: usize, next: u32, r: Row) -> bool
     live_fits(rule, words, next, r)
 }
 
-// Each slot by itself.
-fn rows_fit(rule: Rule, words: usize, next: u32, table: &[u32]) -> bool
-    requires { ⌜ 0 < rule .unit ⌝ }
-    ensures { λ b. ⌜ b ≡ all (rowOk rule words next) (recordsOf (now (table .entry))) ⌝ }
-{
-    let mut ok = true;
-    let mut i = 0;
-    while i < table.len() / 3 {
-        ok = ok & row_fits(rule, words, next, read_row(table, i));
-        i += 1;
-    }
-    ok
-}
-
-// The tickets side by side, so that several are compared at a time.
-fn gather(ids: &mut [u32], table: &[u32])
-    requires { ⌜ slots (now table) ≤ length (now ids) ⌝ }
-    ensures { λ _. ⌜ Gathered (now (ids .exit)) (now (table .entry)) (slots (now (table .entry))) ⌝ }
-{
-    let mut i = 0;
-    while i < table.len() / 3 {
-        ids[i] = table[3 * i];
-        i += 1;
-    }
-}
-
-// Ticket i is none of the later ones. The loop has no way out before its end, so that several are compared at a time.
-fn unlike_later(ids: &[u32], n: usize, i: usize) -> bool
-    requires { ⌜ (i < n) × (n ≤ length (now ids)) ⌝ }
-    ensures { λ b. ⌜ b ≡ every (unlike (now (ids .entry)) i) (i + 1) (n - (i + 1)) ⌝ }
-{
-    let t = ids[i];
-    let mut ok = true;
-    let mut j = i + 1;
-    while j < n {
-        ok = ok & (t != ids[j]);
-        j += 1;
-    }
-    ok
-}
-
 // A ticket's place among m residues. Tickets follow one another, so those alive together rarely share one. Without a
 // division, for this is asked of every record; any m is safe, and a power of two spreads them.
 pub fn residue(ticket: u32, m: usize) -> usize
@@ -284,126 +243,79 @@ pub fn residue(ticket: u32, m: usize) -> usize
     ticket as usize & (m - 1)
 }
 
-// Ticket i is none of the later ones, whose residues are noted; its own is noted as well. Only where a later ticket
-// has the same residue are tickets compared.
-fn is_new(seen: &mut [u8], m: usize, ids: &[u32], n: usize, i: usize) -> bool
-    requires { ⌜ (i < n) × (n ≤ length (now ids)) ⌝ }
-    requires { ⌜ (0 < m) × (length (now seen) ≡ m) × Noted m (now seen) (now ids) n (i + 1) ⌝ }
-    ensures { λ b. ⌜ b ≡ newAt (now (ids .entry)) n i ⌝ }
-    ensures { λ _. ⌜ Noted m (now (seen .exit)) (now (ids .entry)) n i ⌝ }
-{
-    if ids[i] == 0 {
-        return true;
-    }
-    let at = residue(ids[i], m);
-    let first = seen[at] == 0;
-    seen[at] = 1;
-    if first {
-        return true;
-    }
-    unlike_later(ids, n, i)
-}
+// ---- records entered slot after slot
 
-// No ticket stands twice. From the last ticket to the first, over m residues of which none has to be noted yet.
-fn all_new(seen: &mut [u8], m: usize, ids: &[u32], n: usize) -> bool
-    requires { ⌜ (n ≤ length (now ids)) × (0 < m) × (length (now seen) ≡ m) ⌝ }
-    ensures { λ b. ⌜ b ≡ every (newAt (now (ids .entry)) n) 0 n ⌝ }
+// None of the first i tickets is this one. The loop has no way out before its end, so that several are compared at a
+// time.
+fn unlike_earlier(table: &[u32], i: usize, ticket: u32) -> bool
+    requires { ⌜ i ≤ slots (now table) ⌝ }
+    ensures { λ b. ⌜ b ≡ every (otherThan (now (table .entry)) ticket) 0 i ⌝ }
 {
     let mut ok = true;
-    let mut i = n;
-    while i > 0 {
-        i -= 1;
-        ok = ok & is_new(&mut *seen, m, ids, n, i);
+    let mut j = 0;
+    while j < i {
+        ok = ok & (table[3 * j] != ticket);
+        j += 1;
     }
     ok
 }
 
-// No ticket stands in two slots, of few and of many. Both arrays are wiped whole, so that few slots get short ones.
-fn few_differ(table: &[u32]) -> bool
-    requires { ⌜ slots (now table) ≤ 16 ⌝ }
-    ensures { λ b. ⌜ b ≡ pairwise differ (recordsOf (now (table .entry))) ⌝ }
+// What is kept of a ticket at its residue.
+fn mark_of(ticket: u32) -> u8
+    ensures { λ r. ⌜ r ≡ markOf ticket ⌝ }
 {
-    let mut ids: [u32; 16] = [0; 16];
-    gather(&mut ids, table);
-    let mut seen: [u8; 128] = [0; 128];
-    all_new(&mut seen, 128, &ids, table.len() / 3)
+    (ticket / 2048 % 128) as u8 + 1
 }
 
-fn many_differ(table: &[u32]) -> bool
-    requires { ⌜ slots (now table) ≤ 256 ⌝ }
-    ensures { λ b. ⌜ b ≡ pairwise differ (recordsOf (now (table .entry))) ⌝ }
+// Whether the ticket of slot i is none of the earlier ones, which are noted; it is noted as well. Only where an earlier
+// one has its residue and may have its mark are tickets compared.
+fn is_new(seen: &mut [u8], m: usize, table: &[u32], i: usize, ticket: u32) -> bool
+    requires { ⌜ (i < slots (now table)) × (ticket ≡ recordAt (now table) i .ticket) × (isZero ticket ≡ false) ⌝ }
+    requires { ⌜ (0 < m) × (length (now seen) ≡ m) × Noted m (now seen) (now table) i ⌝ }
+    ensures { λ b. ⌜ b ≡ newAt (now (table .entry)) i ⌝ }
+    ensures { λ _. ⌜ Noted m (now (seen .exit)) (now (table .entry)) (i + 1) ⌝ }
 {
-    let mut ids: [u32; 256] = [0; 256];
-    gather(&mut ids, table);
-    let mut seen: [u8; 2048] = [0; 2048];
-    all_new(&mut seen, 2048, &ids, table.len() / 3)
-}
-
-fn tickets_differ(table: &[u32]) -> bool
-    requires { ⌜ slots (now table) ≤ 256 ⌝ }
-    ensures { λ b. ⌜ b ≡ pairwise differ (recordsOf (now (table .entry))) ⌝ }
-{
-    if table.len() / 3 <= 16 {
-        return few_differ(table);
-    }
-    many_differ(table)
-}
-
-// Marks the units from lo up to hi in the map, unless one is marked already.
-fn mark_part(used: &mut [u8], lo: usize, hi: usize) -> bool
-    requires { ⌜ (lo ≤ hi) × (hi ≤ length (now used)) ⌝ }
-    ensures { λ b. ⌜ b ≡ every (zeroAt (now (used .entry))) lo (hi - lo) ⌝ }
-    ensures { λ b. ⌜ (b ≡ true → now (used .exit) ≡ wiped 1 lo hi (now (used .entry))) ⌝ }
-{
-    if !words::zero_part_bytes(used, lo, hi) {
-        return false;
-    }
-    words::fill_part_bytes(used, lo, hi);
-    true
-}
-
-// Marks a record's units, unless one is marked already. An empty record has none, though its address is unit 0's.
-fn mark_row(used: &mut [u8], rule: Rule, r: Row) -> bool
-    requires { ⌜ (0 < rule .unit) × Inside rule (length (now used)) r ⌝ }
-    ensures { λ b. ⌜ b ≡ room rule (now (used .entry)) r ⌝ }
-    ensures { λ b. ⌜ (b ≡ true → now (used .exit) ≡ marked rule r (now (used .entry))) ⌝ }
-{
-    if is_empty(r) {
+    let at = residue(ticket, m);
+    let mark = mark_of(ticket);
+    let kept = seen[at];
+    if kept == 0 {
+        seen[at] = mark;
         return true;
     }
-    mark_part(used, first_unit(rule, r), past_unit(rule, r))
+    if (kept != mark) & (kept != 255) {
+        seen[at] = 255;
+        return true;
+    }
+    unlike_earlier(table, i, ticket)
 }
 
-// Marks the units of all records in a map that is all zero, unless two records share one.
-fn mark_rows(used: &mut [u8], rule: Rule, table: &[u32]) -> bool
-    requires { ⌜ (0 < rule .unit) × AllInside rule (length (now used)) (now table) ⌝ }
-    requires { ⌜ all isZero (now used) ≡ true ⌝ }
-    ensures { λ b. ⌜ b ≡ pairwise (beside rule) (recordsOf (now (table .entry))) ⌝ }
-    ensures { λ b. ⌜ (b ≡ true → Marks rule (now (used .exit)) (recordsOf (now (table .entry)))) ⌝ }
+// The units of the record r of slot i where it may follow those before it: it fits by itself, and its ticket is none of
+// theirs. More than the arena's words if it may not. The caller reads the record, for it has more to do with it.
+pub fn enter_row(
+    rule: Rule,
+    words: usize,
+    next: u32,
+    table: &[u32],
+    i: usize,
+    r: Row,
+    seen: &mut [u8],
+    m: usize,
+) -> usize
+    requires { ⌜ (0 < rule .unit) × (words < 4294967296) × (i < slots (now table)) × (r ≡ recordAt (now table) i) ⌝ }
+    requires { ⌜ (0 < m) × (length (now seen) ≡ m) × Noted m (now seen) (now table) i ⌝ }
+    ensures { λ u. ⌜ (u ≤ words → Joins rule words next (now (table .entry)) i u
+        × Noted m (now (seen .exit)) (now (table .entry)) (i + 1)) ⌝ }
+    ensures { λ u. ⌜ (rowOk rule words next (recordAt (now (table .entry)) i) ≡ true
+        → newAt (now (table .entry)) i ≡ true → u ≤ words) ⌝ }
 {
-    let mut i = 0;
-    while i < table.len() / 3 {
-        if !mark_row(used, rule, read_row(table, i)) {
-            return false;
-        }
-        i += 1;
+    if is_empty(r) {
+        return 0;
     }
-    true
-}
-
-// Whether the table holds a valid ledger, for any words in it, in an arena of so many words. If it does, the map, which
-// comes in all zero, has a byte for each unit that is 0 exactly for the free ones.
-pub fn table_check(rule: Rule, words: usize, next: u32, table: &[u32], used: &mut [u8]) -> bool
-    requires { ⌜ (0 < rule .unit) × (slots (now table) ≤ 256) ⌝ }
-    requires { ⌜ (words / rule .unit ≤ length (now used)) × (all isZero (now used) ≡ true) ⌝ }
-    ensures { λ b. ⌜ b ≡ valid rule words next (recordsOf (now (table .entry))) ⌝ }
-    ensures { λ b. ⌜ (b ≡ true → Marks rule (now (used .exit)) (recordsOf (now (table .entry)))) ⌝ }
-{
-    if !rows_fit(rule, words, next, table) {
-        return false;
+    if !row_fits(rule, words, next, r) {
+        return words + 1;
     }
-    if !tickets_differ(table) {
-        return false;
+    if !is_new(seen, m, table, i, r.ticket) {
+        return words + 1;
     }
-    mark_rows(used, rule, table)
+    span_of(rule, r.words)
 }

@@ -35,10 +35,11 @@ use Rattle.segment_places.proofs.ChangeLaws.{controls, arena-view, stored-word}
 use Rattle.segment_places.proofs.UnitLaws.{span-words}
 use Rattle.segment_places.proofs.ViewLaws.{ledger-whole, slot-starts, begun-slot}
 use Rattle.segment_places.proofs.WordLaws.{clash, opens-before, word-held, word-open, word-shut, unstarted}
-use Rattle.tiling.proofs.TileLaws.{valid-row, valid-new}
+use Rattle.record_table.proofs.PartitionLaws.{valid-row, valid-new}
 use Rattle.segment_check.specs.BitMaps.{bitAt}
 use Rattle.segment_check.specs.Laid.{blockRight, Kept, Sets, Good}
-use Rattle.segment_check.specs.Right.{Says, heldRight}
+use Rattle.words.specs.Flags.{Says}
+use Rattle.segment_check.specs.Right.{heldRight}
 use Rattle.segment_check.proofs.KeptLaws.{passing, whole-kept}
 
 -- ---- a word by its tests
@@ -198,10 +199,10 @@ module _ (v : List ℤ) (next : ℕ) (t : Words) (good : valid segmentRule (leng
             )
 
   -- right control words, and right words of the free runs, are the stored form
-  pub arena-tiled : (rs : List Run) → all (heldRight v) L ≡ true → freeRuns segmentRule N L ≡ rs
+  pub arena-partitioned : (rs : List Run) → all (heldRight v) L ≡ true → freeRuns segmentRule N L ≡ rs
       → all (blockRight v) rs ≡ true → v ≡ arenaOf L v
   unfolding freeRuns
-  arena-tiled rs rows runs words =
+  arena-partitioned rs rows runs words =
       stamp-is (ownedBy g (startsAt L)) (controls L N) v v (pos 0) refl (λ u l o. refl) (λ u l o. go u l o (g u) refl)
       ∙ sym (arena-view next L v good v refl)
     where

@@ -27,13 +27,13 @@ use Rattle.segment_places.proofs.UnitLaws.{span-words, address-after}
 use Rattle.segment_places.proofs.ChangeLaws.{controls}
 use Rattle.segment_check.specs.Right.{heldRight, treeRight, segmentRight, Measured}
 use Rattle.segment_check.proofs.IndexLaws.{stored-ground, index-stored}
-use Rattle.tiling.specs.Tiles.{Noted, Joins, Spans}
-use Rattle.tiling.proofs.EnterLaws.{enter-start, enter-next, noted-start}
-use Rattle.tiling.proofs.TileLaws.{held-by, tiled-valid, valid-count}
+use Rattle.record_table.specs.Partition.{Noted, Joins, Spans}
+use Rattle.record_table.proofs.EnterLaws.{enter-start, enter-next, noted-start}
+use Rattle.record_table.proofs.PartitionLaws.{held-by, partition-valid, valid-count}
 use Rattle.segment_check.specs.BitMaps.{bitAt}
 use Rattle.segment_check.specs.Laid.{heldFrom, Laid, Matched, Heads, Sets, Good, Joined, Headed, Shown, LaysAll}
 use Rattle.segment_check.proofs.BitLaws.{no-bit}
-use Rattle.segment_check.proofs.ArenaLaws.{held-is, arena-tiled, arena-kept, arena-good}
+use Rattle.segment_check.proofs.ArenaLaws.{held-is, arena-partitioned, arena-kept, arena-good}
 use Rattle.segment_check.proofs.KeptLaws.{passing}
 
 -- ---- a slot
@@ -178,14 +178,14 @@ tiles-right : (v : List ℤ) (next : ℕ) (t map seen : Words) (m held free′ :
     → Headed v next t map seen m (slots t) held → Laid v map (length v) free′ after → free′ + held ≡ length v
     → (valid segmentRule (length v) next (recordsOf t) ≡ true) × (v ≡ arenaOf (recordsOf t) v)
 tiles-right v next t map seen m held free′ after H L exact =
-    let (good, runs) = tiled-valid segmentRule (omega arith) (length v) next held t (L .runs) (H .entered)
+    let (good, runs) = partition-valid segmentRule (omega arith) (length v) next held t (L .runs) (H .entered)
     (record {
       gapped = rw (div-one (length v)) (L .gapped);
       held = λ u h e.
           let (k, a, b) = L .rest u (rw (div-one (length v)) at h) e in
           head-spans v next t m map (H .heads) k u a b;
     }) (rw (div-one (length v)) (ap (λ s. s + held) (L .sum) ∙ exact)) in
-    (good, arena-tiled v next t good (L .runs) (all-slots (heldRight v) t ∙ H .right) runs (L .words))
+    (good, arena-partitioned v next t good (L .runs) (all-slots (heldRight v) t ∙ H .right) runs (L .words))
 
 -- and the index is theirs, if the words above the segments' are right too
 pub tiles-stored : (v : List ℤ) (next : ℕ) (t x map seen : Words) (m held free′ s g : ℕ) → Measured v x s g

@@ -21,7 +21,8 @@ use Rattle.segment_index.specs.Tree.{Heap}
 use Rattle.segment_index.proofs.IndexLaws.{index-is, index-zero, index-heap, index-agrees}
 use Rattle.segment_blocks.specs.Upkeep.{Ground}
 use Rattle.segment_blocks.proofs.UpkeepLaws.{sizes-some}
-use Rattle.segment_check.specs.Right.{Says, nodeRight, treeRight, segmentRight, Measured}
+use Rattle.words.specs.Flags.{Says}
+use Rattle.segment_check.specs.Right.{nodeRight, treeRight, segmentRight, Measured}
 
 -- a segment's test
 segment-from : (c : ℕ → ℤ) (W s : ℕ) (t : Words) (k : ℕ) → segmentRight c W s t k ≡ true → Agree c W s t k

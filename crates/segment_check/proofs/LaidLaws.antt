@@ -18,7 +18,7 @@ use Rattle.ledger.specs.Runs.{Run, run, Gapped, covered}
 use Rattle.stored_forms.specs.Segments.{weight}
 use Rattle.control_words.specs.Control.{freeSize}
 use Rattle.segment_check.specs.Right.{runRight}
-use Rattle.tiling.specs.Tiles.{total}
+use Rattle.record_table.specs.Partition.{total}
 use Rattle.segment_check.specs.BitMaps.{bitAt}
 use Rattle.segment_check.specs.Laid.{heldFrom, blockRight, endsBefore, Laid}
 

@@ -17,7 +17,7 @@ use Rattle.segment_blocks.specs.Blocks.{Scan, Reaches}
 use Rattle.segment_blocks.specs.Upkeep.{Ground}
 use Rattle.segment_places.specs.Stores.{arenaOf}
 use Rattle.segment_check.specs.Right.{runRight, heldRight, segmentRight}
-use Rattle.tiling.specs.Tiles.{newAt, Noted, Joins, Entered, total}
+use Rattle.record_table.specs.Partition.{newAt, Noted, Joins, Entered, total}
 use Rattle.record_table.specs.Checks.{rowOk}
 use Rattle.control_words.specs.Control.{freeSize}
 use Rattle.segment_check.specs.BitMaps.{bitAt}

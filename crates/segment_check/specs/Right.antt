@@ -16,10 +16,6 @@ use Rattle.stored_forms.specs.Segments.{segmentSize, largest, firstBlock}
 use Rattle.control_words.specs.Control.{freeSize}
 use Rattle.segment_blocks.specs.Upkeep.{Sizes}
 
--- a flag that says a fact, both ways
-abbrev pub Says : Bool → Type 0 → Type 0
-Says b P = (b ≡ true → P) × (P → b ≡ true)
-
 -- ---- the arena
 
 -- a live record's control word is its size with the control word, negated

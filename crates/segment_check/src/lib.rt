@@ -17,10 +17,11 @@ ghost use lib.IntN.{pos};
 ghost use lib.ListN.{length, getD};
 ghost use Rattle.words.specs.Lists.{all, isZero};
 ghost use Rattle.words.specs.Counted.{every};
+ghost use Rattle.words.specs.Flags.{Says};
 ghost use Rattle.ledger.specs.Records.{slots};
 ghost use Rattle.control_words.specs.Control.{freeSize};
-ghost use Rattle.segment_check.specs.Right.{Says, Measured, nodeRight, treeRight};
-ghost use Rattle.tiling.specs.Tiles.{Noted};
+ghost use Rattle.segment_check.specs.Right.{Measured, nodeRight, treeRight};
+ghost use Rattle.record_table.specs.Partition.{Noted};
 ghost use Rattle.segment_check.specs.BitMaps.{bitAt};
 ghost use Rattle.segment_check.specs.Laid.{Laid, HeldBlock, FreeBlock, Strip, Matched};
 ghost use Rattle.segment_check.specs.Laid.{Lays, LaysAll, Heads, Sets, Good, Joined, Headed, Shown};
@@ -229,7 +230,7 @@ fn map_row(
     let words = v.len();
     let rule = Rule { unit: 1, lead: 1 };
     let r = read_row(table, i);
-    let u = tiling::enter_row(rule, words, next, table, i, r, &mut *seen, m);
+    let u = record_table::enter_row(rule, words, next, table, i, r, &mut *seen, m);
     if u == 0 {
         return 0;
     }

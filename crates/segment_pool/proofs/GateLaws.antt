@@ -21,7 +21,8 @@ use Rattle.stored_forms.specs.Segments.{segmentRule, segmentRange, segmentWord,
 use Rattle.stored_forms.specs.Segments.{isPower, depth}
 use Rattle.segment_places.specs.Stores.{arenaOf}
 use Rattle.segment_places.proofs.BitLaws.{arena-words, words-arena}
-use Rattle.segment_check.specs.Right.{Says, Measured}
+use Rattle.words.specs.Flags.{Says}
+use Rattle.segment_check.specs.Right.{Measured}
 use Rattle.segment_check.specs.Laid.{Shown}
 use Rattle.calls.specs.Pool.{Pool, store, lengths, samePool, stored}
 use Rattle.calls.specs.Engines.{segmentEngine}

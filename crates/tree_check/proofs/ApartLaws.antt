@@ -12,8 +12,8 @@ use Rattle.ledger.specs.Records.{recordsOf, slots}
 use Rattle.ledger.specs.Units.{valid, free}
 use Rattle.ledger.specs.Runs.{Run, Gapped, covered}
 use Rattle.ledger.proofs.RunLaws.{gapped-below}
-use Rattle.tiling.specs.Leads.{Edge}
-use Rattle.tiling.proofs.LeadLaws.{edge-zero, edge-end, edge-free, edge-behind, held-leads}
+use Rattle.record_table.specs.Leads.{Edge}
+use Rattle.record_table.proofs.LeadLaws.{edge-zero, edge-end, edge-free, edge-behind, held-leads}
 use Rattle.tree_check.specs.Maps.{cellRule, Next, Leads, Led}
 use Rattle.tree_check.specs.Walk.{earliest, under, Apart, ends}
 

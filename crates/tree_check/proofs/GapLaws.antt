@@ -1,8 +1,8 @@
 -- Records side by side, and runs with gaps between them. Assumes nothing.
-use Prim.Native.Nat.{ℕ, suc, _+_, _-_, _*_, _≤_, _<_}
+use Prim.Native.Nat.{ℕ, suc, _+_, _-_, _*_, _≤_}
 use native.Mathlib.Omega.{arith}
 use mathlib.Core.Path.{_≡_, sym, _∙_}
-use mathlib.Core.Bool.{Bool, true, _&&_}
+use mathlib.Core.Bool.{Bool, _&&_}
 use mathlib.Core.List.{List, [], _∷_, _++_}
 use lib.ListN.{getD}
 use Rattle.words.specs.Lists.{Words, zeroAt}
@@ -11,7 +11,8 @@ use Rattle.words.proofs.Tests.{and-l, and-r, and-i, eqb-eq}
 use Rattle.words.proofs.CountedLaws.{every-at, every-of}
 use Rattle.ledger.specs.Runs.{Run, Gapped}
 use Rattle.ledger.proofs.RunLaws.{gapped-weaken}
-use Rattle.tree_check.specs.Maps.{Leads, Says}
+use Rattle.tree_check.specs.Maps.{Leads}
+use Rattle.words.specs.Flags.{Says}
 use Rattle.tree_check.specs.Walk.{earliest, Placed}
 
 -- ---- one node

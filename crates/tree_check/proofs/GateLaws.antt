@@ -17,7 +17,8 @@ use Rattle.stored_forms.proofs.FreeTreeLaws.{stamped, of-stamped}
 use Rattle.calls.specs.Pool.{Pool, store, lengths, samePool, stored}
 use Rattle.calls.specs.Engines.{treeEngine, treeEngineOf}
 use Rattle.calls.proofs.StoreLaws.{same-pool-eq, same-pool-same}
-use Rattle.tree_check.specs.Maps.{Says, Shown}
+use Rattle.tree_check.specs.Maps.{Shown}
+use Rattle.words.specs.Flags.{Says}
 use Rattle.tree_check.specs.Gate.{treePool}
 
 -- ---- the lent lengths

@@ -1,5 +1,5 @@
 -- Searches in a map, and units that they lead through. Assumes nothing.
-use Prim.Native.Nat.{ℕ, _+_, _*_, _/_, _≤_, _<_}
+use Prim.Native.Nat.{ℕ, _+_, _≤_, _<_}
 use native.Mathlib.Decide.{decLe, decLt}
 use native.Mathlib.Omega.{arith}
 use mathlib.Core.Path.{_≡_, refl, sym, ap, _∙_, subst}
@@ -8,10 +8,11 @@ use lib.Dec.{eqb}
 use lib.ListN.{getD}
 use Rattle.words.specs.Lists.{Words}
 use Rattle.words.proofs.Tests.{eqb-eq, eqb-same}
-use Rattle.tree_check.specs.Maps.{isEntries, firstAt, unitsAt, Knows, Covers, CoversAll}
-use Rattle.tiling.specs.Leads.{here, more}
-use Rattle.tiling.proofs.LeadLaws.{leads-up}
-use Rattle.tree_check.specs.Maps.{Next, Leads, Says}
+use Rattle.tree_check.specs.Maps.{isEntries, unitsAt, Covers, CoversAll}
+use Rattle.record_table.specs.Leads.{here, more}
+use Rattle.record_table.proofs.LeadLaws.{leads-up}
+use Rattle.tree_check.specs.Maps.{Next, Leads}
+use Rattle.words.specs.Flags.{Says}
 
 -- ---- one search
 
@@ -46,9 +47,6 @@ module _ {map : Words} where
           split (no l) (no m) =
               let same : a .place ≡ b .place = omega arith in
               sym (a .units) ∙ ap (unitsAt map) same ∙ b .units
-
-  pub next-known : {k n : ℕ} → Next map k n → Knows map k n
-  next-known n = (n .place, n .is, n .units)
 
   -- ---- units that are led through
 

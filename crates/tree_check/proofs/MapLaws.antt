@@ -1,5 +1,5 @@
 -- The map of a table's records, slot after slot. Assumes nothing.
-use Prim.Native.Nat.{ℕ, _+_, _-_, _*_, _/_, _≤_, _<_}
+use Prim.Native.Nat.{ℕ, _+_, _-_, _/_, _≤_, _<_}
 use native.Mathlib.Decide.{decLe, decLt, ℕ-discrete}
 use native.Mathlib.Omega.{arith}
 use mathlib.Core.Path.{_≡_, refl, sym, ap, _∙_, subst}
@@ -14,9 +14,9 @@ use Rattle.ledger.specs.Records.{recordAt, recordsOf, slots, isEmpty, isLive}
 use Rattle.ledger.specs.Units.{span, first, past, covers, valid}
 use Rattle.ledger.proofs.UnitLaws.{Fitted, fits-facts, covers-in}
 use Rattle.record_table.specs.Checks.{rowOk}
-use Rattle.tiling.specs.Tiles.{unitsOf, Noted, Joins, Entered}
-use Rattle.tiling.proofs.TileLaws.{sum-part, held-by, no-share, valid-entered, valid-exact}
-use Rattle.tiling.proofs.EnterLaws.{enter-start, enter-next, noted-start}
+use Rattle.record_table.specs.Partition.{unitsOf, Noted, Joins, Entered}
+use Rattle.record_table.proofs.PartitionLaws.{sum-part, held-by, no-share, valid-entered, valid-exact}
+use Rattle.record_table.proofs.EnterLaws.{enter-start, enter-next, noted-start}
 use Rattle.tree_check.specs.Maps.{cellRule, isEntries, Covers, Adds, Mapped}
 use Rattle.tree_check.specs.Maps.{Leads, Bare, Grows, most, Led}
 use Rattle.tree_check.proofs.LeadLaws.{leads-keep}

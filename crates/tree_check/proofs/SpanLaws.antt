@@ -12,7 +12,7 @@ use Rattle.words.specs.Lists.{Words, all, isZero}
 use Rattle.words.proofs.Tests.{eqb-eq}
 use Rattle.words.proofs.ListLaws.{zeros-at}
 use Rattle.tree_check.specs.Maps.{pairAt, isEntries, firstAt, unitsAt, Covers, Adds}
-use Rattle.tiling.specs.Leads.{here, more}
+use Rattle.record_table.specs.Leads.{here, more}
 use Rattle.tree_check.specs.Maps.{Next, Leads, Bare, Grows}
 use Rattle.tree_check.proofs.LeadLaws.{byte-next, byte-found}
 

@@ -18,11 +18,12 @@ use Rattle.ledger.proofs.RunLaws.{runs-are, runs-few}
 use Rattle.stored_forms.specs.Tree.{Tree, link, treeOf, inorder, formOne}
 use Rattle.stored_forms.specs.Blocks.{Holds}
 use Rattle.stored_forms.proofs.TreeLaws.{tree-unique, freeTree-one, inorder-treeOf, heaped-treeOf}
-use Rattle.tiling.specs.Tiles.{Tiled, total}
-use Rattle.tiling.proofs.TileLaws.{tiled-valid, valid-exact}
-use Rattle.tree_check.specs.Maps.{cellRule, Leads, Says, CoversAll, Mapped, Shown}
+use Rattle.record_table.specs.Partition.{Partitioned, total}
+use Rattle.record_table.proofs.PartitionLaws.{partition-valid, valid-exact}
+use Rattle.tree_check.specs.Maps.{cellRule, Leads, CoversAll, Mapped, Shown}
+use Rattle.words.specs.Flags.{Says}
 use Rattle.tree_check.specs.Walk.{Found, Apart, ends, LiesAt, Passes}
-use Rattle.tiling.proofs.LeadLaws.{leads-up}
+use Rattle.record_table.proofs.LeadLaws.{leads-up}
 use Rattle.tree_check.proofs.LeadLaws.{leads-cover}
 use Rattle.tree_check.proofs.GapLaws.{gapped-wider}
 use Rattle.tree_check.proofs.ApartLaws.{gapped-short, apart-all}
@@ -30,8 +31,8 @@ use Rattle.tree_check.proofs.ApartLaws.{gapped-short, apart-all}
 module _ {root next limit : ℕ} {m t map : Words} {held end sum : ℕ} (mapped : Mapped (length m) next t held map)
     (x : Found m map (length m / 2) root limit 0 0 end sum) (behind : CoversAll map end (length m / 2)) where
   -- the tree's runs are free tiles, and records lie in the rest
-  tiled : Tiled cellRule (recordsOf t) (length m / 2) (inorder (x .tree))
-  tiled = record {
+  partitioned : Partitioned cellRule (recordsOf t) (length m / 2) (inorder (x .tree))
+  partitioned = record {
     gapped = gapped-wider 0 end (length m / 2) (inorder (x .tree)) (x .inside) (x .gapped);
     held = λ u l e. go u l e (decLe end u);
   }
@@ -45,8 +46,8 @@ module _ {root next limit : ℕ} {m t map : Words} {held end sum : ℕ} (mapped 
   unfolding formOne
   tiles-stored exact =
       let size = x .size in
-      let (good, runs) = tiled-valid cellRule (omega arith) (length m) next held t (inorder (x .tree)) (mapped .entered)
-      tiled (omega arith) in
+      let (good, runs) = partition-valid cellRule (omega arith) (length m) next held t (inorder (x .tree)) (mapped .entered)
+      partitioned (omega arith) in
       let rs = freeRuns cellRule (length m) (recordsOf t) in
       let is = tree-unique rs (x .tree) (record { order = sym runs; heap = x .heaped })
       ∙ sym (freeTree-one (length m) (recordsOf t)) in

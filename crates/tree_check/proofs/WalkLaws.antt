@@ -16,8 +16,8 @@ use Rattle.ledger.specs.Runs.{Run, run, Gapped, covered}
 use Rattle.stored_forms.specs.Tree.{Tree, leaf, node, link, inorder, noLonger, formOne}
 use Rattle.stored_forms.specs.Tree.{lengthAt, leftAt, rightAt}
 use Rattle.stored_forms.proofs.NodeLaws.{readable-one, holds-reads}
-use Rattle.tiling.specs.Tiles.{total}
-use Rattle.tiling.proofs.TileLaws.{covered-append, total-append}
+use Rattle.record_table.specs.Partition.{total}
+use Rattle.record_table.proofs.PartitionLaws.{covered-append, total-append}
 use Rattle.tree_check.specs.Maps.{Covers}
 use Rattle.tree_check.specs.Walk.{earliest, under, Ready, Between, Placed, Found, Apart, ends, LiesAt, Passes}
 use Rattle.tree_check.proofs.LeadLaws.{leads-cover}

@@ -12,8 +12,8 @@ use Rattle.ledger.specs.Records.{recordsOf, slots}
 use Rattle.ledger.specs.Units.{valid, free}
 use Rattle.stored_forms.specs.Tree.{link, formOne, formRule, freeTree}
 use Rattle.stored_forms.specs.Blocks.{Holds}
-use Rattle.tiling.specs.Tiles.{Entered}
-use Rattle.tiling.specs.Leads.{Leading, LedThrough}
+use Rattle.record_table.specs.Partition.{Entered}
+use Rattle.record_table.specs.Leads.{Leading, LedThrough}
 
 -- a unit of the tree pool is one cell of two words
 abbrev pub cellRule : Rule
@@ -68,10 +68,6 @@ Leads map lo hi = Leading (Next map) hi lo
 -- the places from p on are empty, where the map has entries
 abbrev pub Bare : Words → ℕ → Type 0
 Bare map p = isEntries map ≡ true → (q : ℕ) → p ≤ q → unitsAt map q ≡ 0
-
--- A flag that says a fact, both ways.
-abbrev pub Says : Bool → Type 0 → Type 0
-Says b P = (b ≡ true → P) × (P → b ≡ true)
 
 -- a map with a byte for each unit has one for each of the first N
 abbrev pub Roomy : Words → ℕ → Type 0

@@ -10,7 +10,7 @@ use Rattle.words.specs.Lists.{Words, all}
 use Rattle.ledger.specs.Runs.{Run, Gapped, covered}
 use Rattle.stored_forms.specs.Tree.{Tree, link, inorder, Heaped, formOne}
 use Rattle.stored_forms.specs.Blocks.{Zeros, Holds}
-use Rattle.tiling.specs.Tiles.{total}
+use Rattle.record_table.specs.Partition.{total}
 use Rattle.tree_check.specs.Maps.{Covers, Leads, Roomy}
 
 -- where a free run may begin at the earliest, behind blocks that end at unit k: no two free runs touch

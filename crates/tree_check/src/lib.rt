@@ -12,11 +12,12 @@ ghost use mathlib.Core.Bool.{true};
 ghost use Prim.Native.Nat.{_/_, _<_, _≤_};
 ghost use lib.ListN.{length};
 ghost use Rattle.words.specs.Lists.{all, isZero};
+ghost use Rattle.words.specs.Flags.{Says};
 ghost use Rattle.ledger.specs.Records.{slots};
 ghost use Rattle.calls.specs.Pool.{lengths, stored};
 ghost use Rattle.calls.specs.Step.{GateIs};
 ghost use Rattle.calls.specs.Engines.{treeEngine};
-ghost use Rattle.tree_check.specs.Maps.{Says, Roomy, most, Shown};
+ghost use Rattle.tree_check.specs.Maps.{Roomy, most, Shown};
 ghost use Rattle.tree_check.specs.Gate.{treePool, RightLengths};
 
 // ---- the stored form

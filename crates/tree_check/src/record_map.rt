@@ -9,9 +9,10 @@ ghost use mathlib.Core.Logic.{_≢_};
 ghost use Prim.Native.Nat.{ℕ, _+_, _*_, _/_, _<_, _≤_};
 ghost use lib.ListN.{length};
 ghost use Rattle.words.specs.Lists.{all, isZero};
+ghost use Rattle.words.specs.Flags.{Says};
 ghost use Rattle.ledger.specs.Records.{slots, recordsOf};
 ghost use Rattle.ledger.specs.Units.{first, valid};
-ghost use Rattle.tree_check.specs.Maps.{pairAt, isEntries, cellRule, Next, Leads, Says, Roomy, Grows, most};
+ghost use Rattle.tree_check.specs.Maps.{pairAt, isEntries, cellRule, Next, Leads, Roomy, Grows, most};
 ghost use Rattle.tree_check.specs.Maps.{Mapped};
 
 // ---- entries
@@ -150,7 +151,7 @@ pub fn map_rows(
     let mut i = 0;
     while i < table.len() / 3 {
         let r = record_table::read_row(table, i);
-        let n = tiling::enter_row(rule, words, next, table, i, r, &mut *seen, m);
+        let n = record_table::enter_row(rule, words, next, table, i, r, &mut *seen, m);
         if words - held < n {
             return words + 1;
         }

@@ -4,7 +4,7 @@ use free_tree::left_of;
 use free_tree::length_of;
 use free_tree::right_of;
 ghost use Prim.Native.Nat.{_+_, _<_, _≤_};
-ghost use Rattle.tree_check.specs.Maps.{Says};
+ghost use Rattle.words.specs.Flags.{Says};
 ghost use Rattle.tree_check.specs.Walk.{Ready, Between, Placed, Found, Passes};
 
 // Whether a block of z cells at cell c lies between cells k and hi, and is shorter than the limit.

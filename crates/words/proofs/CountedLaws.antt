@@ -66,15 +66,6 @@ every-more p n i h = let z : n - i ≡ suc (n - (i + 1)) = omega arith in rw (z,
 
 -- r is the whole answer, and the loop has come to i with nothing decided
 module _ (r : Bool) (p : ℕ → Bool) (n i : ℕ) (inv : r ≡ every p i (n - i)) where
-  pub every-end : n ≤ i → true ≡ r
-  every-end h = sym (inv ∙ every-none p n i h)
-
-  pub every-next : i < n → p i ≡ true → r ≡ every p (i + 1) (n - (i + 1))
-  every-next h e = inv ∙ every-more p n i h ∙ rw e
-
-  pub every-not : i < n → p i ≡ false → false ≡ r
-  every-not h e = sym (inv ∙ every-more p n i h ∙ rw e)
-
   -- a turn that decides the numbers from i up to e at once
   module _ (e : ℕ) (block : Bool) (low : i ≤ e) (high : e ≤ n) (is : block ≡ every p i (e - i)) where
     parts : r ≡ (block && every p e (n - e))
@@ -97,11 +88,6 @@ every-rest p lo n i m e a b c =
     go : every p m (n - m) ≡ true → (k : ℕ) → lo ≤ k → k < n → Dec (k < i) → p k ≡ true
     go h k x y (yes l) = every-at p lo (i - lo) e k x (omega arith)
     go h k x y (no l) = every-at p m (n - m) h k (omega arith) (omega arith)
-
--- numbers up to i pass, and so do those from i up to e
-pub every-join : (p : ℕ → Bool) (lo i e : ℕ) → every p lo (i - lo) ≡ true → every p i (e - i) ≡ true → lo ≤ i → i ≤ e
-    → every p lo (e - lo) ≡ true
-every-join p lo i e g h a b = sym (every-rest p lo e i i g a (omega arith) b) ∙ h
 
 -- ---- a flag that each turn may clear: whole is the answer, and ok what the turns before i found
 

@@ -11,16 +11,6 @@ use lib.Dec.{T, eqb, leb, ltb}
 use borrow.Author.Tests as author
 use Rattle.words.specs.Counted.{within}
 
--- ---- a test as a type
-
-pub T-true : (b : Bool) → T b → b ≡ true
-T-true true t = refl
-T-true false t = absurd t
-
-pub true-T : (b : Bool) → b ≡ true → T b
-true-T true e = tt
-true-T false e = absurd (false≢true e)
-
 pub false-of : (b : Bool) → (b ≡ true → ⊥) → b ≡ false
 false-of true h = absurd (h refl)
 false-of false h = refl

@@ -1,89 +1,92 @@
 -- `record_table::is_new` meets its contract. Assumes nothing.
 use native.Mathlib.Omega.{arith}
-use mathlib.Core.Path.{sym, ap, _∙_}
-use borrow.Author.Tests.{eq-eqb, ne-eqb}
+use mathlib.Core.Path.{refl, sym, ap, _∙_}
 use denote.Ref.{now}
-use Rattle.words.specs.Lists.{zeroAt}
-use Rattle.record_table.proofs.CheckLaws.{residue-new, note-none, note-next}
+use Rattle.words.specs.Counted.{every}
+use Rattle.words.specs.Lists.{isZero}
+use Rattle.record_table.specs.Partition.{otherThan}
+use Rattle.record_table.proofs.EnterLaws.{other-is-new, first-there, unlike-there, noted-there}
 use borrow.Author.Needs.{needs}
 use Rattle.record_table.proofs.is_new.Statement.{statement}
 use Rattle.record_table.proofs.is_new.Tie as tie
 
-mul-if1 : tie.Need-mul-if1
-mul-if1 c = search needs
-
-shared-slice-read-if1 : tie.Need-shared-slice-read-if1
-shared-slice-read-if1 c = search needs
-
-returns : tie.Need-returns
-returns c =
-    let s = c .before .before .before .before in
-    let zero = eq-eqb _ _ (c .if1 .taken) in
-    (sym (rw zero), note-none (s .args .m) (now (s .args .seen)) (now (s .args .ids)) (s .args .n) (s .args .i) (s .pre .1 .2) zero)
-
-mul-residue : tie.Need-mul-residue
-mul-residue c = search needs
-
-shared-slice-read-residue : tie.Need-shared-slice-read-residue
-shared-slice-read-residue c = search needs
-
 residue-requires : tie.Need-residue-requires
 residue-requires c κs = search needs
 
-slice-read-first : tie.Need-slice-read-first
-slice-read-first c = let (is, low) = c .before .residue .ensures in search needs
+mark-of-requires : tie.Need-mark-of-requires
+mark-of-requires c κs = search needs
+
+slice-read-kept : tie.Need-slice-read-kept
+slice-read-kept c = search needs
 
 slice-write-seen : tie.Need-slice-write-seen
-slice-write-seen c = let (is, low) = c .before .residue .ensures in search needs
+slice-write-seen c = search needs
 
 same-length : tie.Need-same-length
 same-length c = search needs
 
-returns-2 : tie.Need-returns-2
-returns-2 c =
-    let r = c .before .before in
-    let s = r .before .before .before .before .before .before in
-    let seen = now (s .args .seen) in
-    let ids = now (s .args .ids) in
-    let live = ne-eqb _ _ (r .before .before .if1 .left) in
-    let (is, low) = r .residue .ensures in (
-      sym
-          (residue-new (s .args .m) seen ids (s .args .n) (s .args .i) (s .pre .1 .2) live
-          (sym (ap (zeroAt seen) is) ∙ c .if2 .taken)),
-      note-next (s .args .m) seen ids (s .args .n) (s .args .i) (s .pre .1 .2) (r .residue .result) is (omega (arith, s .pre .1 .1)),
-    )
+returns : tie.Need-returns
+returns c =
+    let mark = c .before .before in
+    let r = mark .before in
+    let s = r .before .before .before in
+    let a = s .args in
+    let (some, long, noted) = s .pre .1 in
+    let (is, low) = r .residue .ensures in
+    let (new, next) = first-there (a .m) (now (a .seen)) (now (a .table)) (a .i) noted (a .ticket) (r .residue .result)
+    (mark .mark-of .result) _ (s .pre .0 .1) is (omega arith) (mark .mark-of .ensures) refl (c .if1 .taken) in
+    (sym new, next)
 
-unlike-later-requires : tie.Need-unlike-later-requires
-unlike-later-requires c κs = search needs
+slice-write-seen-2 : tie.Need-slice-write-seen-2
+slice-write-seen-2 c = search needs
 
 same-length-2 : tie.Need-same-length-2
 same-length-2 c = search needs
 
+returns-2 : tie.Need-returns-2
+returns-2 c =
+    let mark = c .before .before .before in
+    let r = mark .before in
+    let s = r .before .before .before in
+    let a = s .args in
+    let (some, long, noted) = s .pre .1 in
+    let (is, low) = r .residue .ensures in
+    let (new, next) = unlike-there (a .m) (now (a .seen)) (now (a .table)) (a .i) noted (a .ticket) (r .residue .result)
+    (mark .mark-of .result) _ (s .pre .0 .1) is (omega arith) (mark .mark-of .ensures) refl (c .if2 .taken) in
+    (sym new, next)
+
+unlike-earlier-requires : tie.Need-unlike-earlier-requires
+unlike-earlier-requires c κs = search needs
+
 returns-3 : tie.Need-returns-3
 returns-3 c =
-    let r = c .before .before .before in
-    let s = r .before .before .before .before .before .before in
-    let live = ne-eqb _ _ (r .before .before .if1 .left) in
+    let test = c .before in
+    let mark = test .before .before .before in
+    let r = mark .before in
+    let s = r .before .before .before in
+    let a = s .args in
+    let t = now (a .table) in
+    let own = s .pre .0 .1 in
+    let (some, long, noted) = s .pre .1 in
     let (is, low) = r .residue .ensures in (
-      c .unlike-later .ensures ∙ sym (rw live),
-      note-next (s .args .m) (now (s .args .seen)) (now (s .args .ids)) (s .args .n) (s .args .i) (s .pre .1 .2) (r .residue .result)
-          is (omega (arith, s .pre .1 .1)),
+      c .unlike-earlier .ensures ∙ ap (λ x. every (otherThan t x) 0 (a .i)) own
+          ∙ other-is-new t (a .i) (ap isZero (sym own) ∙ s .pre .0 .2),
+      noted-there (a .m) (now (a .seen)) t (a .i) noted (a .ticket) (r .residue .result) (mark .mark-of .result) _
+          (s .pre .0 .1) is (omega arith) (mark .mark-of .ensures) refl (test .if2 .left),
     )
 
 pub is-new-spec : {M : Type 1} → statement M
 is-new-spec =
     tie.close
     (tie.spec
-    mul-if1
-    shared-slice-read-if1
-    returns
-    mul-residue
-    shared-slice-read-residue
     residue-requires
-    slice-read-first
+    mark-of-requires
+    slice-read-kept
     slice-write-seen
     same-length
-    returns-2
-    unlike-later-requires
+    returns
+    slice-write-seen-2
     same-length-2
+    returns-2
+    unlike-earlier-requires
     returns-3)

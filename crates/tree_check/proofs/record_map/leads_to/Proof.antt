@@ -4,7 +4,7 @@ use native.Mathlib.Omega.{arith}
 use mathlib.Core.Bool.{false≢true}
 use denote.Ref.{now}
 use Rattle.words.proofs.Tests.{eqb-eq}
-use Rattle.tiling.specs.Leads.{more}
+use Rattle.record_table.specs.Leads.{more}
 use Rattle.tree_check.specs.Maps.{Leads}
 use Rattle.tree_check.proofs.LeadLaws.{leads-step, leads-says}
 use Rattle.tree_check.proofs.record_map.leads_to.Statement.{statement}

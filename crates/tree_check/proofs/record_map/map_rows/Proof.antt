@@ -8,8 +8,8 @@ use lib.ListN.{length}
 use Rattle.ledger.specs.Records.{slots, recordAt}
 use Rattle.ledger.specs.declared.Row.{Row}
 use Rattle.ledger.specs.Units.{first}
-use Rattle.tiling.proofs.TileLaws.{valid-row, valid-new}
-use Rattle.tiling.proofs.EnterLaws.{enter-next}
+use Rattle.record_table.proofs.PartitionLaws.{valid-row, valid-new}
+use Rattle.record_table.proofs.EnterLaws.{enter-next}
 use Rattle.tree_check.specs.Maps.{cellRule, Grows}
 use Rattle.tree_check.proofs.MapLaws.{Mapping, map-start, map-next, map-end, units-inside, rows-few}
 use Rattle.tree_check.proofs.record_map.map_rows.Statement.{statement}

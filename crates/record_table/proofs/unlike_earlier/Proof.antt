@@ -1,4 +1,4 @@
--- `tiling::unlike_earlier` meets its contract: the flag and the tickets from j on make the answer. Assumes nothing.
+-- `record_table::unlike_earlier` meets its contract: the flag and the tickets from j on make the answer. Assumes nothing.
 use Prim.Native.Nat.{_-_, _≤_}
 use native.Mathlib.Omega.{arith}
 use mathlib.Core.Path.{_≡_, refl}
@@ -7,9 +7,9 @@ use borrow.Author.Needs.{needs}
 use denote.Ref.{now}
 use Rattle.words.specs.Counted.{every}
 use Rattle.words.proofs.CountedLaws.{flag-start, flag-next, flag-end}
-use Rattle.tiling.specs.Tiles.{otherThan}
-use Rattle.tiling.proofs.unlike_earlier.Statement.{statement}
-use Rattle.tiling.proofs.unlike_earlier.Tie as tie
+use Rattle.record_table.specs.Partition.{otherThan}
+use Rattle.record_table.proofs.unlike_earlier.Statement.{statement}
+use Rattle.record_table.proofs.unlike_earlier.Tie as tie
 
 abbrev Inv-loop : tie.InvT-loop
 Inv-loop table i ticket ok₀ j₀ ok j =

@@ -1,7 +1,7 @@
--- Tiles: held and free blocks that lie side by side from unit 0 to the last. A pool's blocks do, and such tiles are
--- quicker to find than to mark every unit: if the free tiles and the records together have as many units as the
--- arena, no two records share one and the free tiles are the free runs (proofs/TileLaws). Assumes nothing.
-use Prim.Native.Nat.{ℕ, _+_, _/_, _%_, _≤_, _<_}
+-- Held and free blocks that lie side by side from unit 0 to the last. A pool's blocks do, and that is quicker to see than
+-- to mark every unit: if free blocks and records together have as many units as the arena, no two records share one and
+-- the free blocks are the free runs (proofs/PartitionLaws). Assumes nothing.
+use Prim.Native.Nat.{ℕ, _+_, _/_, _%_, _<_}
 use mathlib.Core.Path.{_≡_}
 use mathlib.Core.Bool.{Bool, true, false, cond, not, _||_}
 use mathlib.Core.List.{List, [], _∷_}
@@ -60,11 +60,7 @@ pub record Entered (ρ : Rule) (W next : ℕ) (t : Words) (i held : ℕ) : Type 
   pub new : every (newAt t) 0 i ≡ true
   pub sum : held ≡ sumTo (λ j. unitsOf ρ (recordAt t j)) i
 
--- ---- tiles
-
--- s says of a unit how many from it on are held, or 0 where it knows of none
-abbrev pub Spans : Rule → Ledger → (ℕ → ℕ) → Type 0
-Spans ρ L s = (k u : ℕ) → k ≤ u → u < k + s k → free ρ L u ≡ false
+-- ---- free blocks and records
 
 -- the units of some runs together
 abbrev pub total : List Run → ℕ
@@ -72,6 +68,6 @@ total [] = 0
 total (r ∷ rs) = r .size + total rs
 
 -- runs with gaps between them among the first N units, and every other unit is held
-pub record Tiled (ρ : Rule) (L : Ledger) (N : ℕ) (rs : List Run) : Type 0 where
+pub record Partitioned (ρ : Rule) (L : Ledger) (N : ℕ) (rs : List Run) : Type 0 where
   pub gapped : Gapped 0 N rs
   pub held : (u : ℕ) → u < N → covered rs u ≡ false → free ρ L u ≡ false

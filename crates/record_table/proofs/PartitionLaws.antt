@@ -17,11 +17,11 @@ use Rattle.ledger.specs.Units.{first, past, span, apart, valid, covers, free}
 use Rattle.ledger.specs.Runs.{Run, runsFrom, freeRuns, Gapped, covered}
 use Rattle.ledger.proofs.UnitLaws.{covers-of}
 use Rattle.ledger.proofs.RunLaws.{gapped-weaken, gapped-below, runs-are, runs-unique}
 use Rattle.record_table.specs.Checks.{rowOk, differ, beside, Inside, AllInside}
 use Rattle.record_table.proofs.PairLaws.{none-of, before, pairs-back}
 use Rattle.record_table.proofs.CheckLaws.{all-slots, valid-parts, rows-inside}
-use Rattle.record_table.proofs.MarkLaws.{beside-unit, unit-beside}
-use Rattle.tiling.specs.Tiles.{unitsOf, newAt, Entered, total, Tiled}
+use Rattle.record_table.proofs.BesideLaws.{beside-unit, unit-beside}
+use Rattle.record_table.specs.Partition.{unitsOf, newAt, Entered, total, Partitioned}
 use Rattle.words.proofs.SumLaws.{sum-same, sum-none, sum-ones, sum-both, sum-swap, sum-tight, sum-term}
 use Rattle.words.proofs.SumLaws.{sum-terms, sum-range}
 use native.Mathlib.Decide.{ℕ-discrete, decLt}
@@ -165,7 +165,7 @@ module _ (ρ : Rule) (pos : 0 < ρ .unit) (W next held : ℕ) (t : Words) (enter
 -- ---- as many units as the arena has
 
 module _ (ρ : Rule) (pos : 0 < ρ .unit) (W next held : ℕ) (t : Words) (rs : List Run)
-    (entered : Entered ρ W next t (slots t) held) (tiled : Tiled ρ (recordsOf t) (W / ρ .unit) rs)
+    (entered : Entered ρ W next t (slots t) held) (partitioned : Partitioned ρ (recordsOf t) (W / ρ .unit) rs)
     (exact : total rs + held ≡ W / ρ .unit) where
   all-fit : all (rowOk ρ W next) (recordsOf t) ≡ true
   all-fit = entered-fit ρ pos W next held t entered
@@ -183,7 +183,7 @@ module _ (ρ : Rule) (pos : 0 < ρ .unit) (W next held : ℕ) (t : Words) (rs : 
       go : (b : Bool) → covered rs u ≡ b → other b ≤ holders ρ t u
       go true q = omega arith
       go false q =
-          let none = sym (free-slots ρ t u) ∙ tiled .held u h q in
+          let none = sym (free-slots ρ t u) ∙ partitioned .held u h q in
           let (j, a, b, e) = every-fails (λ k. not (covers ρ u (recordAt t k))) 0 (slots t) none in
           let here = ap one (not-false (covers ρ u (recordAt t j)) e) in
           let most = sum-term (λ k. one (covers ρ u (recordAt t k))) (slots t) j (omega arith) in
@@ -193,7 +193,7 @@ module _ (ρ : Rule) (pos : 0 < ρ .unit) (W next held : ℕ) (t : Words) (rs : 
   holders-are : (u : ℕ) → u < W / ρ .unit → holders ρ t u ≡ other (covered rs u)
   holders-are =
       sum-tight (λ u. other (covered rs u)) (holders ρ t) (W / ρ .unit) some-holder
-      (omega (arith, count-held, count-rest (W / ρ .unit) rs (tiled .gapped), exact))
+      (omega (arith, count-held, count-rest (W / ρ .unit) rs (partitioned .gapped), exact))
 
   free-is : (u : ℕ) → u < W / ρ .unit → covered rs u ≡ free ρ (recordsOf t) u
   free-is u h = go (covered rs u) refl
@@ -210,7 +210,7 @@ module _ (ρ : Rule) (pos : 0 < ρ .unit) (W next held : ℕ) (t : Words) (rs : 
             ap one x,
             sum-term (λ k. one (covers ρ u (recordAt t k))) (slots t) j (omega arith),
           )))))
-      go false q = sym (tiled .held u h q)
+      go false q = sym (partitioned .held u h q)
 
   -- no unit has two holders
   alone : (j k : ℕ) → j < k → k < slots t → (u : ℕ) → covers ρ u (recordAt t j) ≡ true
@@ -238,12 +238,12 @@ module _ (ρ : Rule) (pos : 0 < ρ .unit) (W next held : ℕ) (t : Words) (rs : 
   unfolding recordsOf
   all-differ = pairs-back differ (recordAt t) (slots t) ∙ entered .new
 
-  pub tiled-valid : (valid ρ W next (recordsOf t) ≡ true) × (freeRuns ρ W (recordsOf t) ≡ rs)
+  pub partition-valid : (valid ρ W next (recordsOf t) ≡ true) × (freeRuns ρ W (recordsOf t) ≡ rs)
   unfolding freeRuns
-  tiled-valid = (
+  partition-valid = (
     valid-parts ρ pos W next (recordsOf t) all-fit
         ∙ and-i (pairwise differ (recordsOf t)) (pairwise (beside ρ) (recordsOf t)) all-differ all-beside,
-    runs-unique (free ρ (recordsOf t)) (W / ρ .unit) rs (record { gapped = tiled .gapped; cover = free-is }),
+    runs-unique (free ρ (recordsOf t)) (W / ρ .unit) rs (record { gapped = partitioned .gapped; cover = free-is }),
   )
 
 -- ---- the other way: a valid ledger, and its free runs

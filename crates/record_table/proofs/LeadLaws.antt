@@ -13,8 +13,8 @@ use Rattle.ledger.specs.declared.Rule.{Rule}
 use Rattle.ledger.specs.Records.{recordAt, slots, recordsOf, isEmpty, isLive}
 use Rattle.ledger.specs.Units.{first, past, valid, covers, free}
 use Rattle.ledger.proofs.UnitLaws.{Fitted, fits-facts, covers-in, covers-of}
-use Rattle.tiling.specs.Leads.{Leading, here, more, LedThrough, Edge}
-use Rattle.tiling.proofs.TileLaws.{valid-row, held-by, free-slots, no-share}
+use Rattle.record_table.specs.Leads.{Leading, here, more, LedThrough, Edge}
+use Rattle.record_table.proofs.PartitionLaws.{valid-row, held-by, free-slots, no-share}
 
 -- ---- a walk along spans
 

@@ -19,9 +19,9 @@ use Rattle.ledger.specs.declared.Rule.{Rule}
 use Rattle.ledger.specs.Records.{recordAt, isEmpty}
 use Rattle.ledger.specs.Units.{span, past}
 use Rattle.ledger.proofs.UnitLaws.{fits-facts}
 use Rattle.record_table.specs.Checks.{rowOk, differ, residueOf}
 use Rattle.record_table.proofs.PairLaws.{every-last}
-use Rattle.tiling.specs.Tiles.{unitsOf, newAt, otherThan, markOf, several, notes, Noted, Joins, Entered}
+use Rattle.record_table.specs.Partition.{unitsOf, newAt, otherThan, markOf, several, notes, Noted, Joins, Entered}
 
 -- ---- one slot after another
 

@@ -1,4 +1,4 @@
--- `tiling::enter_row` meets its contract. Assumes nothing.
+-- `record_table::enter_row` meets its contract. Assumes nothing.
 use native.Mathlib.Omega.{arith}
 use mathlib.Core.Path.{_≡_, sym, ap, _∙_}
 use mathlib.Core.Bool.{true, false≢true}
@@ -6,11 +6,11 @@ use denote.Ref.{now}
 use Rattle.words.proofs.Tests.{not-true, not-false}
 use Rattle.ledger.specs.declared.Row.{Row}
 use Rattle.ledger.specs.Records.{recordAt, isEmpty}
 use Rattle.record_table.specs.Checks.{rowOk}
-use Rattle.tiling.proofs.EnterLaws.{empty-joins, live-joins, note-none, fit-row}
+use Rattle.record_table.proofs.EnterLaws.{empty-joins, live-joins, note-none, fit-row}
 use borrow.Author.Needs.{needs}
-use Rattle.tiling.proofs.enter_row.Statement.{statement}
-use Rattle.tiling.proofs.enter_row.Tie as tie
+use Rattle.record_table.proofs.enter_row.Statement.{statement}
+use Rattle.record_table.proofs.enter_row.Tie as tie
 
 is-empty-requires : tie.Need-is-empty-requires
 is-empty-requires c κs = search needs

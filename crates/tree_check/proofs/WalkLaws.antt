@@ -47,7 +47,7 @@ module _ {m map : Words} {N : ℕ} where
 
   module _ {c z lf rt limit k before next sum last free : ℕ} (ready : Ready m map N) (ez : z ≡ lengthAt formOne m c)
       (el : lf ≡ leftAt formOne m c) (er : rt ≡ rightAt formOne m c) (fit : Between k N limit c z)
-      (x : Found m map c lf z k before next sum) (p : Placed m map next c z)
+      (x : Found m map N lf z k before next sum) (inner : next ≤ c) (p : Placed m map next c z)
       (y : Found m map N rt (z + 1) (c + z) (sum + z) last free) where
     abbrev q : Run
     q = run c z
@@ -235,14 +235,14 @@ module _ {m map : Words} {N : ℕ} (ready : Ready m map N) where
             short = lt-of z limit (and-l (under limit (run c z)) (all (under limit) (inorder b)) own);
           }
 
-      left-lies : LiesAt m map c lf z k a
+      left-lies : LiesAt m map N lf z k a
       left-lies = record {
         linked = reads .0;
         holds = x .holds .2;
         heaped = x .heaped .2;
         short = x .heaped .0;
         runs = left-apart x;
-        inside = places x .1;
+        inside = let (low, left-end, high) = places x in omega arith;
       }
 
       right-lies : LiesAt m map N rt (z + 1) (c + z) b
@@ -280,13 +280,13 @@ module _ {m map : Words} {N : ℕ} (ready : Ready m map N) where
     not-between bad = record { meets = λ t x few. let h = here-is t x in absurd (bad (node-between (h .lies))) }
 
     module _ {allowed rest before next sum : ℕ} (may : allowed ≡ suc rest)
-        (left : Passes m map c lf z k rest before next sum) where
+        (left : Passes m map N lf z k rest before next sum) where
       pub not-left : {r free : ℕ} → c < next → Passes m map N l limit k allowed before r free
       not-left over = record {
         meets = λ t x few.
             let h = here-is t x in
             let (end, size) = left .meets (h .a) (left-lies (h .lies)) (few-sons h may few .0) in
-            let low = left-lies (h .lies) .inside in
+            let low = places (h .lies) .1 in
             absurd (omega arith);
       }
 

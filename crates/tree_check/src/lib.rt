@@ -51,7 +51,6 @@ fn is_shown_over(
         root as usize,
         cells + 1,
         0,
-        cells,
         &mut sum,
         allowed,
     );

@@ -3,7 +3,8 @@ use crate::record_map::leads_to;
 use free_tree::left_of;
 use free_tree::length_of;
 use free_tree::right_of;
-ghost use Prim.Native.Nat.{_+_, _<_, _≤_};
+ghost use Prim.Native.Nat.{_+_, _/_, _<_, _≤_};
+ghost use lib.ListN.{length};
 ghost use Rattle.words.specs.Flags.{Says};
 ghost use Rattle.tree_check.specs.Walk.{Ready, Between, Placed, Found, Passes};
 
@@ -39,68 +40,59 @@ fn node_ok(arena: &[u32], map: &[u8], k: usize, c: usize, z: usize) -> bool
 }
 
 // Left part, node, right part: whether the blocks of the tree at the link, each shorter than the limit, lie apart from
-// cell k on, with records between them, and end at cell hi or before. Nodes to the left have to be shorter than their
-// father, those to the right no longer. Answers the cell past the last block, k if there is none, or a number above hi
-// if something is wrong; if nothing is, the blocks' cells have been added to `*free`. One number comes back in a
-// register, where a struct would come through memory. On any memory the walk ends, and its calls lie in each other no
-// deeper than allowed, because each takes one; they are few, because a node lies between k and hi, its left part before
-// it and its right part behind it. The map is passed on as it stands, for both calls then share one copy of its slice
-// in the frame, where `&*map` would make two.
+// cell k on, with records between them. Nodes to the left have to be shorter than their father, those to the right no
+// longer. Answers the cell past the last block, k if there is none, or 65,536, which no arena has, if something is wrong; if nothing
+// is, the
+// blocks' cells have been added to `*free`. One number comes back in a register, where a struct would come through
+// memory. On any memory the walk ends, and its calls lie in each other no deeper than allowed, because each takes one;
+// they are few, because each node that is right lies further on, and one that is wrong ends the walk. The map is passed
+// on as it stands, for both calls then share one copy of its slice in the frame, where `&*map` would make two.
 pub fn walk(
     arena: &[u32],
     map: &[u8],
     link: usize,
     limit: usize,
     k: usize,
-    hi: usize,
     free: &mut usize,
     allowed: usize,
 ) -> usize
-    requires { ⌜ Ready (now arena) (now map) hi ⌝ }
-    requires { ⌜ (k ≤ hi) × (now free ≤ k) ⌝ }
-    ensures { λ r. ⌜ (r ≤ hi → Found (now (arena .entry)) (now (map .entry)) hi link limit k
-        (now (free .entry)) r (now (free .exit))) ⌝ }
-    ensures { λ r. ⌜ Passes (now (arena .entry)) (now (map .entry)) hi link limit k allowed (now (free .entry)) r
-        (now (free .exit)) ⌝ }
+    requires { ⌜ Ready (now arena) (now map) (length (now arena) / 2) ⌝ }
+    requires { ⌜ (k ≤ length (now arena) / 2) × (now free ≤ k) ⌝ }
+    ensures { λ r. ⌜ (r ≤ length (now (arena .entry)) / 2 → Found (now (arena .entry)) (now (map .entry))
+        (length (now (arena .entry)) / 2) link limit k (now (free .entry)) r (now (free .exit))) ⌝ }
+    ensures { λ r. ⌜ Passes (now (arena .entry)) (now (map .entry)) (length (now (arena .entry)) / 2) link limit k
+        allowed (now (free .entry)) r (now (free .exit)) ⌝ }
 {
     if link == 0 {
         return k;
     }
-    if hi < link {
-        return hi + 1;
+    let cells = arena.len() / 2;
+    if cells < link {
+        return 65536;
     }
     if allowed == 0 {
-        return hi + 1;
+        return 65536;
     }
     let c = link - 1;
     let z = length_of(arena, c) as usize;
-    if !is_between(k, hi, limit, c, z) {
-        return hi + 1;
+    if !is_between(k, cells, limit, c, z) {
+        return 65536;
     }
     let lower = left_of(arena, c);
     let mut next = k;
     if lower != 0 {
-        next = walk(&*arena, map, lower, z, k, c, &mut *free, allowed - 1);
+        next = walk(&*arena, map, lower, z, k, &mut *free, allowed - 1);
         if c < next {
-            return hi + 1;
+            return 65536;
         }
     }
     if !node_ok(&*arena, &*map, next, c, z) {
-        return hi + 1;
+        return 65536;
     }
     *free += z;
     let upper = right_of(arena, c);
     if upper == 0 {
         return c + z;
     }
-    walk(
-        &*arena,
-        map,
-        upper,
-        z + 1,
-        c + z,
-        hi,
-        &mut *free,
-        allowed - 1,
-    )
+    walk(&*arena, map, upper, z + 1, c + z, &mut *free, allowed - 1)
 }

@@ -1,6 +1,6 @@
 -- `tree_check::tree_walk::walk` meets its contract, by the laws of WalkLaws. The measure is the allowance: so no more
 -- calls lie in each other than there may be nodes. Assumes nothing.
-use Prim.Native.Nat.{ℕ, suc, _-_, _<_}
+use Prim.Native.Nat.{ℕ, suc, _-_, _/_, _≤_, _<_}
 use native.Mathlib.Omega.{arith}
 use mathlib.Core.Path.{_≡_, refl, sym, _∙_}
 use mathlib.Core.Logic.{⊎-elim}
@@ -9,6 +9,7 @@ use borrow.Author.Needs.{needs}
 use borrow.Fn.Kinds.{In}
 use borrow.Fn.PlainCycle.{Measures, is, falls, and}
 use denote.Ref.{now}
+use lib.ListN.{length}
 use Rattle.words.proofs.Tests.{not-true, not-false}
 use Rattle.stored_forms.specs.Tree.{formOne}
 use Rattle.tree_check.specs.Walk.{Between, Placed, Found, Passes}
@@ -26,7 +27,7 @@ use Rattle.tree_check.proofs.tree_walk.+walk.{statement}
 use Rattle.tree_check.proofs.tree_walk.+walk.Tie.{close}
 
 abbrev μ-walk : Measures 3 walk-kinds.ps ℕ
-μ-walk κs a = a .1 .1 .1 .1 .1 .1 .1 .0
+μ-walk κs a = a .1 .1 .1 .1 .1 .1 .0
 
 abbrev walk-at : ℕ → In 3 walk-kinds.ps
 walk-at t = and 3 walk-kinds.ps (is 3 walk-kinds.ps μ-walk t) walk.Pre
@@ -66,7 +67,7 @@ may t c = let some = c .before .before .before .if3 .left in omega arith
 
 fit : (t : ℕ) (c : walk-lts.Else4 (walk-claims t) (walk-at t) walk.Post)
     → (let a = start t c .args in
-    Between (a .k) (a .hi) (a .limit) (a .link - 1) (c .before .before .length-of .result))
+    Between (a .k) (length (now (a .arena)) / 2) (a .limit) (a .link - 1) (c .before .before .length-of .result))
 fit t c = c .before .is-between .ensures .0 (not-false _ (c .if4 .left))
 
 -- the left part is found right, or there is none
@@ -75,19 +76,23 @@ left-done : (t : ℕ) (c : walk-lts.Joined5 (walk-claims t) (walk-at t) walk.Pos
     let e = f .before in
     let a = start t e .args in
     let z = e .before .before .length-of .result in
-    Found (now (a .arena)) (now (a .map)) (a .link - 1) (f .left-of .result) z (a .k) (now (a .free)) (c .if5 .next)
-    (c .if5 .free)
-    × Passes (now (a .arena)) (now (a .map)) (a .link - 1) (f .left-of .result) z (a .k) (a .allowed - 1)
-    (now (a .free)) (c .if5 .next)
-    (c .if5 .free))
+    Found (now (a .arena)) (now (a .map)) (length (now (a .arena)) / 2) (f .left-of .result) z (a .k) (now (a .free))
+    (c .if5 .next) (c .if5 .free)
+    × (c .if5 .next ≤ a .link - 1)
+    × Passes (now (a .arena)) (now (a .map)) (length (now (a .arena)) / 2) (f .left-of .result) z (a .k)
+    (a .allowed - 1) (now (a .free)) (c .if5 .next) (c .if5 .free))
 left-done t c =
     let e = c .before .before in
     let b = fit t e in
-    let p = start t e .pre .1 in
+    let s = start t e in
+    let p = s .pre .1 in
+    let low = b .low in
     let high = b .high in
-    let ready = ready-part {n = start t e .args .link - 1} (omega arith) (p .0) in
-    ⊎-elim (λ w. walked-as (w .5) (w .4) (w .2 .ensures .0 (omega (arith, w .3 .left))) (w .2 .ensures .1))
-    (λ w. walked-as (w .2) (w .1) (none-found (w .0 .left) (b .low) (p .1 .1)) (passes-none ready (w .0 .left)))
+    ⊎-elim
+    (λ w. let (x, y) = walked-as (w .5) (w .4) (w .2 .ensures .0 (omega (arith, w .3 .left))) (w .2 .ensures .1) in
+    (x, omega (arith, w .5, w .3 .left), y))
+    (λ w. let (x, y) = walked-as (w .2) (w .1) (none-found (w .0 .left) (p .1 .0) (p .1 .1)) (passes-none (p .0) (w .0 .left)) in
+    (x, omega (arith, w .2), y))
     (c .if5 .came)
 
 -- the node is found right
@@ -102,19 +107,16 @@ walk-returns : (t : ℕ) → walk-lts.Need-returns (walk-claims t) (walk-at t) w
 walk-returns t c = let p = c .before .before .before .pre .1 in
     ((λ h. none-found (c .if1 .taken) (p .1 .0) (p .1 .1)), passes-none (p .0) (c .if1 .taken))
 
-walk-add-result : (t : ℕ) → walk-lts.Need-add-result (walk-claims t) (walk-at t) walk.Post
-walk-add-result t c = omega arith
-
 walk-returns-2 : (t : ℕ) → walk-lts.Need-returns-2 (walk-claims t) (walk-at t) walk.Post
-walk-returns-2 t c = ((λ h. absurd (omega arith)), not-inside (c .before .before .before .before .pre .1 .0) (c .if2 .taken))
-
-walk-add-result-2 : (t : ℕ) → walk-lts.Need-add-result-2 (walk-claims t) (walk-at t) walk.Post
-walk-add-result-2 t c = omega arith
+walk-returns-2 t c =
+    let s = c .before .before .before .before in
+    ((λ h. absurd (omega (arith, s .pre .1 .0 .small))), not-inside (s .pre .1 .0) (c .if2 .taken))
 
 walk-returns-3 : (t : ℕ) → walk-lts.Need-returns-3 (walk-claims t) (walk-at t) walk.Post
 walk-returns-3 t c =
     let l = c .before .before in
-    ((λ h. absurd (omega arith)), not-allowed (l .before .before .before .pre .1 .0) (l .if1 .left) (c .if3 .taken))
+    let s = l .before .before .before in
+    ((λ h. absurd (omega (arith, s .pre .1 .0 .small))), not-allowed (s .pre .1 .0) (l .if1 .left) (c .if3 .taken))
 
 walk-sub-c : (t : ℕ) → walk-lts.Need-sub-c (walk-claims t) (walk-at t) walk.Post
 walk-sub-c t c = omega arith
@@ -129,14 +131,11 @@ walk-cast-z t c = search needs
 walk-is-between-requires : (t : ℕ) → walk-lts.Need-is-between-requires (walk-claims t) (walk-at t) walk.Post
 walk-is-between-requires t c κs = omega arith
 
-walk-add-result-3 : (t : ℕ) → walk-lts.Need-add-result-3 (walk-claims t) (walk-at t) walk.Post
-walk-add-result-3 t c = omega arith
-
 walk-returns-4 : (t : ℕ) → walk-lts.Need-returns-4 (walk-claims t) (walk-at t) walk.Post
 walk-returns-4 t c =
     let l = c .before .before in
     let s = l .before .before .before .before .before .before in (
-      (λ h. absurd (omega arith)),
+      (λ h. absurd (omega (arith, s .pre .1 .0 .small))),
       not-between (s .pre .1 .0) (omega arith) (l .length-of .ensures) refl refl
           (λ b. true≢false (sym (c .before .is-between .ensures .1 b) ∙ not-true _ (c .if4 .taken))),
     )
@@ -156,17 +155,14 @@ walk-walk-requires t c κs =
     let low = b .low in
     let high = b .high in
     let some = b .some in
-    (omega (arith, s .pre .0), (ready-part (omega arith) (s .pre .1 .0), (low, s .pre .1 .1 .1)))
-
-walk-add-result-4 : (t : ℕ) → walk-lts.Need-add-result-4 (walk-claims t) (walk-at t) walk.Post
-walk-add-result-4 t c = omega arith
+    (omega (arith, s .pre .0), s .pre .1)
 
 walk-returns-5 : (t : ℕ) → walk-lts.Need-returns-5 (walk-claims t) (walk-at t) walk.Post
 walk-returns-5 t c =
     let w = c .before in
     let f = w .before .before .before in
     let e = f .before in (
-      (λ h. absurd (omega arith)),
+      (λ h. absurd (omega (arith, start t e .pre .1 .0 .small))),
       not-left (start t e .pre .1 .0) (at-cell t e) (e .before .before .length-of .ensures) (f .left-of .ensures) refl
           (may t e) (w .walk .ensures .1) (c .if6 .taken),
     )
@@ -175,11 +171,8 @@ walk-node-ok-requires : (t : ℕ) → walk-lts.Need-node-ok-requires (walk-claim
 walk-node-ok-requires t c κs =
     let e = c .before .before in
     let b = fit t e in
-    let (x, p) = left-done t c in
-    (x .inside, b .some, ready-part (b .high) (start t e .pre .1 .0))
-
-walk-add-result-5 : (t : ℕ) → walk-lts.Need-add-result-5 (walk-claims t) (walk-at t) walk.Post
-walk-add-result-5 t c = omega arith
+    let (x, inner, p) = left-done t c in
+    (inner, b .some, ready-part (b .high) (start t e .pre .1 .0))
 
 walk-returns-6 : (t : ℕ) → walk-lts.Need-returns-6 (walk-claims t) (walk-at t) walk.Post
 walk-returns-6 t c =
@@ -187,19 +180,18 @@ walk-returns-6 t c =
     let d = n .before in
     let f = d .before in
     let e = f .before in (
-      (λ h. absurd (omega arith)),
+      (λ h. absurd (omega (arith, start t e .pre .1 .0 .small))),
       not-placed (start t e .pre .1 .0) (at-cell t e) (e .before .before .length-of .ensures) (f .left-of .ensures) refl
-          (may t e) (left-done t d .1) (λ p. true≢false (sym (n .node-ok .ensures .1 p) ∙ not-true _ (c .if7 .taken))),
+          (may t e) (left-done t d .2) (λ p. true≢false (sym (n .node-ok .ensures .1 p) ∙ not-true _ (c .if7 .taken))),
     )
 
 walk-add-free : (t : ℕ) → walk-lts.Need-add-free (walk-claims t) (walk-at t) walk.Post
 walk-add-free t c =
     let d = c .before .before .before in
     let e = d .before .before in
-    let (x, p) = left-done t d in
+    let (x, inner, p) = left-done t d in
     let b = fit t e in
     let few = x .few in
-    let inside = x .inside in
     let high = b .high in
     let small = start t e .pre .1 .0 .small in
     omega arith
@@ -208,8 +200,8 @@ walk-right-of-requires : (t : ℕ) → walk-lts.Need-right-of-requires (walk-cla
 unfolding formOne
 walk-right-of-requires t c κs = omega arith
 
-walk-add-result-6 : (t : ℕ) → walk-lts.Need-add-result-6 (walk-claims t) (walk-at t) walk.Post
-walk-add-result-6 t c = omega arith
+walk-add-result : (t : ℕ) → walk-lts.Need-add-result (walk-claims t) (walk-at t) walk.Post
+walk-add-result t c = omega arith
 
 walk-returns-7 : (t : ℕ) → walk-lts.Need-returns-7 (walk-claims t) (walk-at t) walk.Post
 walk-returns-7 t c =
@@ -220,12 +212,11 @@ walk-returns-7 t c =
     let e = f .before in
     let s = start t e in
     let b = fit t e in
-    let (x, p) = left-done t d in
+    let (x, inner, p) = left-done t d in
     let size = e .before .before .length-of .ensures in
     let few = x .few in
-    let inside = x .inside in
     let none = c .if8 .taken in (
-      (λ h. joined (s .pre .1 .0) size (f .left-of .ensures) (r .right-of .ensures) b x (node-placed t n)
+      (λ h. joined (s .pre .1 .0) size (f .left-of .ensures) (r .right-of .ensures) b x inner (node-placed t n)
           (none-found none (b .high) (omega arith)) (at-cell t e)),
       passes-both (s .pre .1 .0) (at-cell t e) size (f .left-of .ensures) (r .right-of .ensures) (may t e) p
           (passes-none (s .pre .1 .0) none),
@@ -244,11 +235,10 @@ walk-walk-requires-2 : (t : ℕ) → walk-lts.Need-walk-requires-2 (walk-claims 
 walk-walk-requires-2 t c κs =
     let d = c .before .before .before .before .before .before in
     let e = d .before .before in
-    let (x, p) = left-done t d in
+    let (x, inner, p) = left-done t d in
     let b = fit t e in
     let s = start t e in
     let few = x .few in
-    let inside = x .inside in
     let low = b .low in
     let some = b .some in
     let high = b .high in
@@ -263,9 +253,9 @@ walk-returns-8 t c =
     let e = f .before in
     let s = start t e in
     let b = fit t e in
-    let (x, p) = left-done t d in
+    let (x, inner, p) = left-done t d in
     let size = e .before .before .length-of .ensures in (
-      (λ h. joined (s .pre .1 .0) size (f .left-of .ensures) (r .right-of .ensures) b x (node-placed t n)
+      (λ h. joined (s .pre .1 .0) size (f .left-of .ensures) (r .right-of .ensures) b x inner (node-placed t n)
           (c .walk2 .ensures .0 h) (at-cell t e)),
       passes-both (s .pre .1 .0) (at-cell t e) size (f .left-of .ensures) (r .right-of .ensures) (may t e) p
           (c .walk2 .ensures .1),
@@ -276,27 +266,22 @@ pub +walk-spec : {M : Type 1} → statement M
     close μ-walk λ t. walk-lts.spec (walk-claims t) (walk-at t)
     walk.Post
     (walk-returns t)
-    (walk-add-result t)
     (walk-returns-2 t)
-    (walk-add-result-2 t)
     (walk-returns-3 t)
     (walk-sub-c t)
     (walk-length-of-requires t)
     (walk-cast-z t)
     (walk-is-between-requires t)
-    (walk-add-result-3 t)
     (walk-returns-4 t)
     (walk-left-of-requires t)
     (walk-sub-walk t)
     (walk-walk-requires t)
-    (walk-add-result-4 t)
     (walk-returns-5 t)
     (walk-node-ok-requires t)
-    (walk-add-result-5 t)
     (walk-returns-6 t)
     (walk-add-free t)
     (walk-right-of-requires t)
-    (walk-add-result-6 t)
+    (walk-add-result t)
     (walk-returns-7 t)
     (walk-add-walk t)
     (walk-add-walk-2 t)

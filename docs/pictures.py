@@ -51,34 +51,34 @@ CRATES = [
     (3, 1, ALL, MEANING, "calls", "pool memory, numbers, gate, step; the three demands"),
     (4, 1, SIDE, TRIED, "worked_cases", "T1 to T14, sequences"),
     (5, 1, SIDE, TRIED, "testing", "scripts, plain ledger"),
-    (4, 1, (390, 700), SHARED, "record_table", "records entered and searched"),
-    (4, 1, (710, 1020), SHARED, "call_parts", "answers, named records, lists"),
-    (5, 1, LEFT, TREE, "tree_nodes", "nodes of the free tree in the arena"),
-    (6, 1, LEFT, TREE, "free_tree", "leftmost fit, insert, delete"),
-    (7, 1, LEFT, TREE, "free_blocks", "cells taken and given back"),
-    (8, 1, LEFT, TREE, "tree_check", "lengths and one exact check"),
-    (9, 1, LEFT, TREE, "tree_pool", "the six calls"),
-    (5, 1, RIGHT, SEGMENT, "segment_index", "control words, tree of the index"),
-    (6, 1, RIGHT, SEGMENT, "segment_blocks", "scans and upkeep"),
-    (7, 1, RIGHT, SEGMENT, "segment_cores", "search, grant, release, format"),
-    (8, 1, RIGHT, SEGMENT, "segment_check", "one exact check of blocks and index"),
-    (9, 1, RIGHT, SEGMENT, "segment_pool", "the six calls"),
-    (10, 1, (160, 485), OUTER, "pool_text", "the program's meaning; serves chunks"),
-    (11, 1, (160, 485), OUTER, "text_session", "between two files"),
-    (12, 1, (160, 317), OUTER, "pool", "the program"),
-    (12, 1, (327, 485), TRIED, "text_cases", "its cases"),
-    (10, 1, (495, 635), TRIED, "tree_cases", "worked cases"),
-    (11, 1, (495, 635), TRIED, "tree_traffic", "random calls"),
-    (10, 1, (645, 840), OUTER, "pool_c", "both pools' calls for C"),
-    (10, 1, (850, 1020), TRIED, "segment_cases", "worked cases"),
-    (11, 1, (850, 1020), TRIED, "segment_traffic", "random calls"),
+    (4, 1, BOTH, SHARED, "record_table", "records entered and searched"),
+    (5, 1, BOTH, SHARED, "call_parts", "answers, named records, lists"),
+    (6, 1, LEFT, TREE, "tree_nodes", "nodes of the free tree in the arena"),
+    (7, 1, LEFT, TREE, "free_tree", "leftmost fit, insert, delete"),
+    (8, 1, LEFT, TREE, "free_blocks", "cells taken and given back"),
+    (9, 1, LEFT, TREE, "tree_check", "lengths and one exact check"),
+    (10, 1, LEFT, TREE, "tree_pool", "the six calls"),
+    (6, 1, RIGHT, SEGMENT, "segment_index", "control words, tree of the index"),
+    (7, 1, RIGHT, SEGMENT, "segment_blocks", "scans and upkeep"),
+    (8, 1, RIGHT, SEGMENT, "segment_cores", "search, grant, release, format"),
+    (9, 1, RIGHT, SEGMENT, "segment_check", "one exact check of blocks and index"),
+    (10, 1, RIGHT, SEGMENT, "segment_pool", "the six calls"),
+    (11, 1, (160, 485), OUTER, "pool_text", "the program's meaning; serves chunks"),
+    (12, 1, (160, 485), OUTER, "text_session", "between two files"),
+    (13, 1, (160, 317), OUTER, "pool", "the program"),
+    (13, 1, (327, 485), TRIED, "text_cases", "its cases"),
+    (11, 1, (495, 635), TRIED, "tree_cases", "worked cases"),
+    (12, 1, (495, 635), TRIED, "tree_traffic", "random calls"),
+    (11, 1, (645, 840), OUTER, "pool_c", "both pools' calls for C"),
+    (11, 1, (850, 1020), TRIED, "segment_cases", "worked cases"),
+    (12, 1, (850, 1020), TRIED, "segment_traffic", "random calls"),
 ]
-BANDS = [(0, 4, "what it means"), (4, 1, "shared code"), (5, 4, "parts of each engine"), (9, 1, "the pools"),
-         (10, 3, "for C, as text; tests")]
+BANDS = [(0, 4, "what it means"), (4, 2, "shared code"), (6, 4, "parts of each engine"), (10, 1, "the pools"),
+         (11, 3, "for C, as text; tests")]
 
 
 def layers():
-    high, gap, rows = 46, 6, 13
+    high, gap, rows = 46, 6, 14
     p = Picture(1220, 30 + rows * (high + gap) + 30, "Crates, bottom to top")
 
     def top(row, n):

@@ -36,10 +36,17 @@
  *   - Pointers are not null, not even with length 0, aligned to 4 bytes, and good for their length.
  *   - A buffer that a call writes overlaps no other buffer of that call. While a call runs, no interrupt, other core or
  *     transfer unit writes to its buffers, or reads those that the call writes.
- *   - The archive needs memset, from a C library or your own, and nothing else.
- *   - Stack: as built for x86-64, a call on a tree pool was seen to need 77 KB at most, on a segment pool 22 KB.
- *   - Time: it grows with arena and table, since each call checks the whole pool. A list checks it once.
- *   - This header is C: that it fits the archive, and that its two inline look functions do what they say, is tested
+ *   - The archive links on x86-64 Linux. It needs memset, from a C library or your own, and nothing else.
+ *   - Stack, as seen on x86-64, on any memory, at most:
+ *       tree pools of up to  1,024 words and  16 records  3.4 KB
+ *                            4,096 words and  64 records   20 KB
+ *                           16,384 words and  16 records   14 KB
+ *                           16,384 words and 256 records   45 KB
+ *       segment pools of any size                         4.5 KB
+ *   - Time: it grows with arena and table, since each call checks the whole pool, damaged or not. On damaged memory a
+ *     call takes no longer than the slowest on a sound pool of the same lengths was seen to take (docs/benchmark.md).
+ *     A list checks the pool once.
+ *   - This header is C99: that it fits the archive, and that its two inline look functions do what they say, is tested
  *     (examples/) and not proved. Nor is the compiler that made the archive, LLVM.
  */
 #ifndef LINGFURROW_H

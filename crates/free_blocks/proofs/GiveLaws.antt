@@ -25,9 +25,9 @@ use Rattle.stored_forms.proofs.TreeLaws.{inorder-treeOf}
 use Rattle.stored_forms.specs.Blocks.{Within, In, NotFirst, Zeros}
 use Rattle.stored_forms.proofs.NodeLaws.{readable-one, in-range, covered-in, in-covered}
 use Rattle.stored_forms.proofs.NodeLaws.{nodeWord-zero, holds-stored, stored-holds}
+use Rattle.tree_nodes.specs.Nodes.{links, cells, NodeCleared}
 use Rattle.free_tree.specs.Shapes.{putRun, dropRun, endsAt, beginsAt, linkTo}
-use Rattle.free_tree.specs.Held.{links, cells, NodeCleared, At, Became, NoNode, NoNodeNor, Apart, Room}
-use Rattle.free_tree.specs.Held.{Inserted, Deleted, Clear, TouchFound}
+use Rattle.free_tree.specs.Held.{At, Became, NoNode, NoNodeNor, Apart, Room, Inserted, Deleted, Clear, TouchFound}
 use Rattle.free_tree.proofs.RunOrder.{beginsElsewhere}
 use Rattle.free_tree.proofs.ChangeLaws.{insert-tree, delete-tree}
 use Rattle.free_tree.proofs.StepLaws.{at-length, at-left, at-right}

@@ -23,9 +23,9 @@ use Rattle.stored_forms.proofs.TreeLaws.{inorder-treeOf, heaped-treeOf}
 use Rattle.stored_forms.specs.Blocks.{Within, In, NotFirst, Zeros, Holds}
 use Rattle.stored_forms.proofs.NodeLaws.{readable-one, within-le, link-within}
 use Rattle.stored_forms.proofs.NodeLaws.{in-range, covered-in, in-covered, holds-reads, holds-stored, nodeWord-zero}
+use Rattle.tree_nodes.specs.Nodes.{links, cells, Same, NodeCleared}
 use Rattle.free_tree.specs.Shapes.{insert, delete, shrink, dropRun, beginsAt}
-use Rattle.free_tree.specs.Held.{links, cells, Same, NodeCleared, At, Became, NoNode, NoNodeNor, Deleted}
-use Rattle.free_tree.specs.Held.{Longer, Shrunk, Seat}
+use Rattle.free_tree.specs.Held.{At, Became, NoNode, NoNodeNor, Deleted, Longer, Shrunk, Seat}
 use Rattle.free_tree.proofs.RunOrder.{startsBelow, startsFrom, beginsElsewhere, putRun-between, dropRun-past}
 use Rattle.free_tree.proofs.RunOrder.{firstThat-past}
 use Rattle.free_tree.proofs.ChangeLaws.{within-delete, insert-tree, delete-tree}

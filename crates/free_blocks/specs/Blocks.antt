@@ -9,7 +9,8 @@ use Rattle.words.specs.Lists.{Words}
 use Rattle.ledger.specs.Runs.{Run, covered, Gapped}
 use Rattle.ledger.specs.Runs.{addRun, shorten}
 use Rattle.stored_forms.specs.Tree.{formOne, treeOf}
-use Rattle.free_tree.specs.Held.{links, cells, At, Seat}
+use Rattle.tree_nodes.specs.Nodes.{links, cells}
+use Rattle.free_tree.specs.Held.{At, Seat}
 
 -- At the link `root` lies the tree of the runs rs, which lie apart and in order.
 pub record Lies (m : Words) (root : ℕ) (rs : List Run) : Type 0 where

@@ -14,14 +14,14 @@ pub fn take_cells(arena: &mut [u32], root: usize, block: usize, over: usize, k: 
     ensures { λ q. ⌜ Taken (now (arena .entry)) (now (arena .exit)) root block over k q ⌝ }
 {
     let c = block - 1;
-    let n = free_tree::length_of(arena, c) as usize;
+    let n = tree_nodes::length_of(arena, c) as usize;
     if k < n {
         let whole = free_tree::shrink(arena, root, block, over, k);
-        free_tree::clear_node(arena, c);
+        tree_nodes::clear_node(arena, c);
         return whole;
     }
     let rest = free_tree::delete_at(arena, root, block, over);
-    free_tree::clear_node(arena, c);
+    tree_nodes::clear_node(arena, c);
     rest
 }
 
@@ -32,7 +32,7 @@ fn take_out(arena: &mut [u32], root: usize, first: usize) -> usize
     ensures { λ q. ⌜ TakenOut (now (arena .entry)) (now (arena .exit)) root first q ⌝ }
 {
     let rest = free_tree::delete(arena, root, first);
-    free_tree::clear_node(arena, first);
+    tree_nodes::clear_node(arena, first);
     rest
 }
 
@@ -69,7 +69,7 @@ fn merge_above(arena: &mut [u32], root: usize, block: usize, hi: usize) -> Merge
         return Merge { root, cell: hi };
     }
     let c = block - 1;
-    let n = free_tree::length_of(arena, c) as usize;
+    let n = tree_nodes::length_of(arena, c) as usize;
     let rest = take_out(arena, root, c);
     Merge {
         root: rest,

@@ -10,7 +10,7 @@ use Rattle.words.specs.Lists.{Words}
 use Rattle.stored_forms.specs.Tree.{Tree, leaf, node, Form, cellWords}
 use Rattle.stored_forms.specs.Blocks.{Within, NotFirst, Holds, Zeros}
 use Rattle.stored_forms.proofs.NodeLaws.{Readable, within-le}
-use Rattle.free_tree.specs.Held.{cells, Same}
+use Rattle.tree_nodes.specs.Nodes.{cells, Same}
 
 module _ {F : Form} {bound : ℕ} (readable : Readable F bound) where
   -- word j of cell c, and the cells of the words from one cell up to another

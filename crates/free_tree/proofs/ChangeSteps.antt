@@ -13,9 +13,10 @@ use Rattle.ledger.specs.Runs.{Run, run}
 use Rattle.stored_forms.specs.Tree.{Tree, leaf, node, Form, leftAt, rightAt}
 use Rattle.stored_forms.specs.Blocks.{NotFirst}
 use Rattle.stored_forms.proofs.NodeLaws.{Readable}
+use Rattle.tree_nodes.specs.Nodes.{cells, NodePut}
 use Rattle.free_tree.specs.Shapes.{below, above, standsAbove, insert, delete, Stops, beginsAt}
-use Rattle.free_tree.specs.Held.{cells, NodePut, At, Became, NoNode, NoNodeNor, Beside}
-use Rattle.free_tree.specs.Held.{BothJoined, Parted, Parts, Apart, Room, Deleted, Placed, Seat}
+use Rattle.free_tree.specs.Held.{At, Became, NoNode, NoNodeNor, Beside, BothJoined, Parted, Parts, Apart, Room}
+use Rattle.free_tree.specs.Held.{Deleted, Placed, Seat}
 use Rattle.free_tree.proofs.RunOrder.{wider}
 use Rattle.free_tree.proofs.PartLaws.{below-apart, above-apart}
 use Rattle.free_tree.proofs.ChangeLaws.{within-insert, within-delete}

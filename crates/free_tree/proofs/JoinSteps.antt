@@ -8,9 +8,10 @@ use Rattle.words.specs.Lists.{Words}
 use Rattle.ledger.specs.Runs.{run}
 use Rattle.stored_forms.specs.Tree.{Tree, node, Form, lengthAt, leftAt, rightAt}
 use Rattle.stored_forms.proofs.NodeLaws.{Readable, within-le}
+use Rattle.tree_nodes.specs.Nodes.{cells, LeftSet, RightSet}
 use Rattle.free_tree.specs.Shapes.{top}
-use Rattle.free_tree.specs.Held.{cells, LeftSet, RightSet, At, NoNodeOf, Beside, LeftWins, RightWins}
-use Rattle.free_tree.specs.Held.{Joined, LeftJoined, RightJoined, BothJoined}
+use Rattle.free_tree.specs.Held.{At, NoNodeOf, Beside, LeftWins, RightWins, Joined, LeftJoined, RightJoined}
+use Rattle.free_tree.specs.Held.{BothJoined}
 use Rattle.free_tree.proofs.RunOrder.{wider}
 use Rattle.free_tree.proofs.JoinLaws.{join-left, join-right, within-join, join-none}
 use Rattle.free_tree.proofs.CellLaws.{no-node-below, no-node-above}

@@ -11,7 +11,6 @@ pub mod PlaceSteps
 pub mod ChangeSteps
 pub mod ShrinkLaws
 pub mod ShrinkSteps
-pub mod FormOne
 pub mod Numbers
 pub mod SeekSteps
 pub mod TouchSteps

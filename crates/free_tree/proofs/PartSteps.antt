@@ -9,7 +9,8 @@ use Rattle.words.proofs.Tests.{of-lt, of-ge}
 use Rattle.ledger.specs.Runs.{run}
 use Rattle.stored_forms.specs.Tree.{leaf, node, Form, leftAt, rightAt}
 use Rattle.stored_forms.proofs.NodeLaws.{Readable}
-use Rattle.free_tree.specs.Held.{cells, LeftSet, RightSet, Became, NoNode, Parted, Parts}
+use Rattle.tree_nodes.specs.Nodes.{cells, LeftSet, RightSet}
+use Rattle.free_tree.specs.Held.{Became, NoNode, Parted, Parts}
 use Rattle.free_tree.proofs.PartLaws.{within-below, within-above}
 use Rattle.free_tree.proofs.CellLaws.{no-node-below, no-node-above}
 use Rattle.free_tree.proofs.StepLaws.{rooted, at-none, at-left, at-right, unchanged, still, left-replaced}

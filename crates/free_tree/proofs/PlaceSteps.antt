@@ -10,8 +10,9 @@ use Rattle.ledger.specs.Runs.{Run, run}
 use Rattle.stored_forms.specs.Tree.{Tree, node, Form, lengthAt, leftAt, rightAt, link}
 use Rattle.stored_forms.specs.Blocks.{Within}
 use Rattle.stored_forms.proofs.NodeLaws.{Readable, link-within}
+use Rattle.tree_nodes.specs.Nodes.{cells, LeftSet, RightSet}
 use Rattle.free_tree.specs.Shapes.{Under, whole, goLeft, goRight, Stops}
-use Rattle.free_tree.specs.Held.{cells, LeftSet, RightSet, At, Became, Place, Placed, Hung}
+use Rattle.free_tree.specs.Held.{At, Became, Place, Placed, Hung}
 use Rattle.free_tree.proofs.StepLaws.{rooted-length, at-none, at-small, at-left, at-right}
 use Rattle.free_tree.proofs.StepLaws.{left-kept, right-kept, left-replaced, right-replaced}
 

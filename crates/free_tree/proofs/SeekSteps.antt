@@ -13,8 +13,9 @@ use Rattle.stored_forms.specs.Tree.{Tree, leaf, node, Form, lengthAt, leftAt}
 use Rattle.stored_forms.specs.Blocks.{Within, rootFits, leftmost}
 use Rattle.stored_forms.proofs.TreeLaws.{longEnough}
 use Rattle.stored_forms.proofs.NodeLaws.{Readable, within-le, link-within}
+use Rattle.tree_nodes.specs.Nodes.{cells}
 use Rattle.free_tree.specs.Shapes.{Under, whole, goLeft, Stops, beginsAt, linkTo}
-use Rattle.free_tree.specs.Held.{cells, At, Seat, LeftmostFound}
+use Rattle.free_tree.specs.Held.{At, Seat, LeftmostFound}
 use Rattle.free_tree.proofs.StepLaws.{rooted, rooted-length, at-none, at-left}
 
 -- the link to the leftmost fit of a tree whose root fits, else the last link that fitted

@@ -13,9 +13,10 @@ use Rattle.words.proofs.Tests.{eqb-eq, of-lt, of-ge, absurd-some}
 use Rattle.ledger.specs.Runs.{Run, run}
 use Rattle.stored_forms.specs.Tree.{Tree, node, inorder, Form, lengthAt, leftAt, rightAt}
 use Rattle.stored_forms.proofs.NodeLaws.{Readable, within-le}
+use Rattle.tree_nodes.specs.Nodes.{cells, NodePut}
 use Rattle.free_tree.specs.Shapes.{join, standsAbove, standsOver, shrink, Stops, beginsAt}
-use Rattle.free_tree.specs.Held.{cells, NodePut, At, Became, NoNodeNor, Beside, BothJoined, Placed}
-use Rattle.free_tree.specs.Held.{Room, Inserted, OverRoot, Between, NoNodeOfNor, Settled, Longer}
+use Rattle.free_tree.specs.Held.{At, Became, NoNodeNor, Beside, BothJoined, Placed, Room, Inserted, OverRoot}
+use Rattle.free_tree.specs.Held.{Between, NoNodeOfNor, Settled, Longer}
 use Rattle.free_tree.proofs.RunOrder.{wider}
 use Rattle.free_tree.proofs.CellLaws.{no-node-below, no-node-above, same-zeros, same-tree}
 use Rattle.free_tree.proofs.StepLaws.{rooted-length, at-none, at-left, at-right}

@@ -11,8 +11,9 @@ use Rattle.ledger.specs.Runs.{run}
 use Rattle.stored_forms.specs.Tree.{Tree, leaf, node, Form, cellWords, lengthAt, leftAt, rightAt, link}
 use Rattle.stored_forms.specs.Blocks.{Within}
 use Rattle.stored_forms.proofs.NodeLaws.{Readable, within-le, link-within, holds-reads}
+use Rattle.tree_nodes.specs.Nodes.{cells, Same, NodePut, LeftSet, RightSet}
 use Rattle.free_tree.specs.Shapes.{nodes}
-use Rattle.free_tree.specs.Held.{cells, Same, NodePut, LeftSet, RightSet, At, Became}
+use Rattle.free_tree.specs.Held.{At, Became}
 use Rattle.free_tree.proofs.RunOrder.{wider}
 use Rattle.free_tree.proofs.CellLaws.{same-cell, same-zeros, same-tree}
 

@@ -14,8 +14,9 @@ use Rattle.ledger.specs.Runs.{Run, run}
 use Rattle.stored_forms.specs.Tree.{Tree, node, inorder, Form, lengthAt, leftAt, rightAt}
 use Rattle.stored_forms.specs.Blocks.{Within}
 use Rattle.stored_forms.proofs.NodeLaws.{Readable, within-le}
+use Rattle.tree_nodes.specs.Nodes.{cells}
 use Rattle.free_tree.specs.Shapes.{endsAt, beginsAt, linkTo}
-use Rattle.free_tree.specs.Held.{cells, At, Clear, TouchFound, ifEnds, ifBegins}
+use Rattle.free_tree.specs.Held.{At, Clear, TouchFound, ifEnds, ifBegins}
 use Rattle.free_tree.proofs.RunOrder.{within-all, firstThat-none, firstThat-past, firstThat-before}
 use Rattle.free_tree.proofs.RunOrder.{beginsElsewhere}
 use Rattle.free_tree.proofs.ShrinkLaws.{found-left, found-right, found-here}

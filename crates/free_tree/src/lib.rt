@@ -1,106 +1,25 @@
 // The free tree of a tree pool: the free blocks in a lent arena, each with its node in its first cell (01, "Stored
-// form of the tree pool"). The functions on one node alone know how it lies in words; every other goes through them.
+// form of the tree pool"). How a node lies in words is left to tree_nodes, through which every function here goes.
+use tree_nodes::both_links;
+use tree_nodes::high_link;
+use tree_nodes::left_of;
+use tree_nodes::length_of;
+use tree_nodes::low_link;
+use tree_nodes::put_node;
+use tree_nodes::right_of;
+use tree_nodes::set_left;
+use tree_nodes::set_right;
 ghost use mathlib.Core.Path.{_≡_};
 ghost use mathlib.Core.Logic.{_≢_};
 ghost use Prim.Native.Nat.{ℕ, _+_, _-_, _/_, _%_, _≤_, _<_};
 ghost use Rattle.ledger.specs.Runs.{run};
-ghost use Rattle.stored_forms.specs.Tree.{Tree, formOne, lengthAt, leftAt, rightAt};
+ghost use Rattle.stored_forms.specs.Tree.{Tree, formOne, lengthAt};
+ghost use Rattle.tree_nodes.specs.Nodes.{links, cells};
 ghost use Rattle.free_tree.specs.Shapes.{standsAbove, beginsAt};
-ghost use Rattle.free_tree.specs.Held.{links, cells, NodePut, LeftSet, RightSet, NodeCleared, At, Beside};
-ghost use Rattle.free_tree.specs.Held.{LeftWins, RightWins, LeftJoined, RightJoined, BothJoined, Parts, Room};
-ghost use Rattle.free_tree.specs.Held.{Inserted, Deleted, OverRoot, Between, Settled, Longer, Shrunk};
-ghost use Rattle.free_tree.specs.Held.{LeftmostFound, Placed, Seat, Hung, Clear, TouchFound, ifEnds, ifBegins};
-
-// ---- one node
-
-// The length of the node at cell `c`.
-pub fn length_of(arena: &[u32], c: usize) -> u32
-    requires { ⌜ c < cells formOne (now arena) ⌝ }
-    ensures { λ r. ⌜ r ≡ lengthAt formOne (now (arena .entry)) c ⌝ }
-{
-    arena[2 * c]
-}
-
-// The left link of the node at cell `c`.
-pub fn left_of(arena: &[u32], c: usize) -> usize
-    requires { ⌜ c < cells formOne (now arena) ⌝ }
-    ensures { λ r. ⌜ r ≡ leftAt formOne (now (arena .entry)) c ⌝ }
-{
-    (arena[2 * c + 1] % 65536) as usize
-}
-
-// The right link of the node at cell `c`.
-pub fn right_of(arena: &[u32], c: usize) -> usize
-    requires { ⌜ c < cells formOne (now arena) ⌝ }
-    ensures { λ r. ⌜ r ≡ rightAt formOne (now (arena .entry)) c ⌝ }
-{
-    (arena[2 * c + 1] / 65536) as usize
-}
-
-// Sets the left link of the node at cell `c`.
-pub fn set_left(arena: &mut [u32], c: usize, l: usize)
-    requires { ⌜ c < cells formOne (now arena) ⌝ }
-    requires { ⌜ l < links ⌝ }
-    ensures { λ _. ⌜ LeftSet formOne (now (arena .entry)) (now (arena .exit)) c l ⌝ }
-{
-    let i = 2 * c + 1;
-    let r = arena[i] / 65536;
-    arena[i] = l as u32 + 65536 * r;
-}
-
-// Sets the right link of the node at cell `c`.
-pub fn set_right(arena: &mut [u32], c: usize, r: usize)
-    requires { ⌜ c < cells formOne (now arena) ⌝ }
-    requires { ⌜ r < links ⌝ }
-    ensures { λ _. ⌜ RightSet formOne (now (arena .entry)) (now (arena .exit)) c r ⌝ }
-{
-    let i = 2 * c + 1;
-    let l = arena[i] % 65536;
-    arena[i] = l + 65536 * r as u32;
-}
-
-// Writes the node of a block of `n` cells at cell `c`.
-pub fn put_node(arena: &mut [u32], c: usize, n: u32, l: usize, r: usize)
-    requires { ⌜ c < cells formOne (now arena) ⌝ }
-    requires { ⌜ l < links ⌝ }
-    requires { ⌜ r < links ⌝ }
-    ensures { λ _. ⌜ NodePut formOne (now (arena .entry)) (now (arena .exit)) c n l r ⌝ }
-{
-    arena[2 * c] = n;
-    arena[2 * c + 1] = l as u32 + 65536 * r as u32;
-}
-
-// Clears the node at cell `c`.
-pub fn clear_node(arena: &mut [u32], c: usize)
-    requires { ⌜ c < cells formOne (now arena) ⌝ }
-    ensures { λ _. ⌜ NodeCleared formOne (now (arena .entry)) (now (arena .exit)) c ⌝ }
-{
-    arena[2 * c] = 0;
-    arena[2 * c + 1] = 0;
-}
-
-// Two links in one number, as a node has them in its second word. A number comes back in a register, where a struct
-// would come back through memory.
-fn both_links(lo: usize, hi: usize) -> u32
-    requires { ⌜ (lo < links) × (hi < links) ⌝ }
-    ensures { λ r. ⌜ (r % links ≡ lo) × (r / links ≡ hi) ⌝ }
-{
-    lo as u32 + 65536 * hi as u32
-}
-
-// The link in the lower half.
-fn low_link(both: u32) -> usize
-    ensures { λ r. ⌜ r ≡ both % links ⌝ }
-{
-    (both % 65536) as usize
-}
-
-// The link in the upper half.
-fn high_link(both: u32) -> usize
-    ensures { λ r. ⌜ r ≡ both / links ⌝ }
-{
-    (both / 65536) as usize
-}
+ghost use Rattle.free_tree.specs.Held.{At, Beside, LeftWins, RightWins, LeftJoined, RightJoined, BothJoined};
+ghost use Rattle.free_tree.specs.Held.{Parts, Room, Inserted, Deleted, OverRoot, Between, Settled, Longer};
+ghost use Rattle.free_tree.specs.Held.{Shrunk, LeftmostFound, Placed, Seat, Hung, Clear, TouchFound};
+ghost use Rattle.free_tree.specs.Held.{ifEnds, ifBegins};
 
 // ---- join
 

@@ -115,7 +115,8 @@ abbrev pub link : Tree → ℕ
 link leaf = 0
 link (node a q b) = suc (q .start)
 
--- the words of the cell that node q begins with; word i of the arena, if it is free: a node's word, or zero
+-- Word i of the arena, if it is free: a word of the node that lies in its cell, or zero if none does. A node lies in
+-- its run's first cell.
 abbrev pub nodeWord : Form → Tree → ℕ → ℕ
 nodeWord F leaf i = 0
 nodeWord F (node a q b) i =

@@ -1,8 +1,8 @@
 // The walk of the free tree, over any memory (01, "The soundness check visits the tree left part, node, right part").
 use crate::record_map::leads_to;
-use free_tree::left_of;
-use free_tree::length_of;
-use free_tree::right_of;
+use tree_nodes::left_of;
+use tree_nodes::length_of;
+use tree_nodes::right_of;
 ghost use Prim.Native.Nat.{_+_, _/_, _<_, _≤_};
 ghost use lib.ListN.{length};
 ghost use Rattle.words.specs.Flags.{Says};

@@ -15,7 +15,7 @@ use Rattle.ledger.proofs.RunLaws.{runs-meet}
 use Rattle.stored_forms.specs.Tree.{formOne, formRule, freeTree, treeOf, node, leaf, link}
 use Rattle.stored_forms.proofs.TreeLaws.{freeTree-one}
 use Rattle.stored_forms.specs.Blocks.{Holds, Zeros}
-use Rattle.free_tree.specs.Held.{NodePut}
+use Rattle.tree_nodes.specs.Nodes.{NodePut}
 use Rattle.calls.specs.declared.Answer.{Answer}
 use Rattle.calls.specs.Pool.{Pool, firstTicket, lengths}
 use Rattle.calls.specs.Step.{zeroAnswer, format, behind, gate, perform, step}

@@ -27,8 +27,9 @@ use Rattle.stored_forms.proofs.TreeLaws.{longEnough, leftmost-first, leftmost-l
 use Rattle.stored_forms.proofs.TreeLaws.{heaped-treeOf, freeTree-one}
 use Rattle.stored_forms.specs.Blocks.{Holds}
 use Rattle.stored_forms.proofs.NodeLaws.{link-within}
+use Rattle.tree_nodes.specs.Nodes.{links, cells}
 use Rattle.free_tree.specs.Shapes.{linkTo}
-use Rattle.free_tree.specs.Held.{links, cells, LeftmostFound}
+use Rattle.free_tree.specs.Held.{LeftmostFound}
 use Rattle.free_blocks.proofs.TakeLaws.{take-in}
 use Rattle.free_blocks.specs.Blocks.{Lies, Takes, TakenFrom, Taken}
 use Rattle.calls.specs.Pool.{Pool, nextAfter, sound}

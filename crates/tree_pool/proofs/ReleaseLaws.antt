@@ -21,7 +21,7 @@ use Rattle.stored_forms.specs.Tree.{formOne, formRule, freeTree, treeOf, link}
 use Rattle.stored_forms.proofs.TreeLaws.{freeTree-one}
 use Rattle.stored_forms.specs.Blocks.{Holds}
 use Rattle.stored_forms.proofs.NodeLaws.{link-within}
-use Rattle.free_tree.specs.Held.{cells}
+use Rattle.tree_nodes.specs.Nodes.{cells}
 use Rattle.free_blocks.specs.Blocks.{Changed, Gives, Given}
 use Rattle.calls.specs.Pool.{Pool, sound}
 use Rattle.calls.specs.Step.{give, success, answerTo, poolAfter}

@@ -8,7 +8,8 @@ use Rattle.words.specs.Lists.{Words}
 use Rattle.ledger.specs.Records.{recordsOf}
 use Rattle.ledger.specs.Units.{span}
 use Rattle.stored_forms.specs.Tree.{formOne, formRule}
-use Rattle.free_tree.specs.Held.{links, LeftmostFound, Seat}
+use Rattle.tree_nodes.specs.Nodes.{links}
+use Rattle.free_tree.specs.Held.{LeftmostFound, Seat}
 use Rattle.calls.specs.Pool.{sound}
 use Rattle.calls.specs.Engines.{treeEngine}
 use Rattle.record_table.specs.declared.Found.the-variants.{At}

@@ -105,7 +105,7 @@ pub fn format(arena: &mut [u32], table: &mut [u32]) -> Outcome
     let cells = (arena.len() / 2) as u32;
     words::wipe(arena);
     words::wipe(table);
-    free_tree::put_node(arena, 0, cells, 0, 0);
+    tree_nodes::put_node(arena, 0, cells, 0, 0);
     let none = Row {
         ticket: 0,
         address: 0,

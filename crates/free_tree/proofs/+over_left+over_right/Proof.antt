@@ -18,11 +18,11 @@ use Rattle.free_tree.proofs.+over_left+over_right.Lts-over_left as over
 use Rattle.free_tree.proofs.over_right.Reads as over-right
 use Rattle.free_tree.proofs.over_right.Kinds as over-right-kinds
 use Rattle.free_tree.proofs.+over_left+over_right.Lts-over_right as over-right-lts
-use Rattle.free_tree.proofs.left_of.Reads as left-of-reads
-use Rattle.free_tree.proofs.length_of.Reads as length-of-reads
-use Rattle.free_tree.proofs.right_of.Reads as right-of-reads
-use Rattle.free_tree.proofs.set_left.Reads as set-left-reads
-use Rattle.free_tree.proofs.set_right.Reads as set-right-reads
+use Rattle.tree_nodes.proofs.left_of.Reads as left-of-reads
+use Rattle.tree_nodes.proofs.length_of.Reads as length-of-reads
+use Rattle.tree_nodes.proofs.right_of.Reads as right-of-reads
+use Rattle.tree_nodes.proofs.set_left.Reads as set-left-reads
+use Rattle.tree_nodes.proofs.set_right.Reads as set-right-reads
 use Rattle.free_tree.proofs.+over_left+over_right.{statement}
 use Rattle.free_tree.proofs.+over_left+over_right.Tie.{close}
 

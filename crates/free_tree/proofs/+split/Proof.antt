@@ -16,13 +16,13 @@ use Rattle.free_tree.proofs.PartSteps.{parts-right-none}
 use Rattle.free_tree.proofs.split.Reads as split
 use Rattle.free_tree.proofs.split.Kinds as split-kinds
 use Rattle.free_tree.proofs.+split.Lts-split as split-lts
-use Rattle.free_tree.proofs.both_links.Reads as both-links-reads
-use Rattle.free_tree.proofs.high_link.Reads as high-link-reads
-use Rattle.free_tree.proofs.left_of.Reads as left-of-reads
-use Rattle.free_tree.proofs.low_link.Reads as low-link-reads
-use Rattle.free_tree.proofs.right_of.Reads as right-of-reads
-use Rattle.free_tree.proofs.set_left.Reads as set-left-reads
-use Rattle.free_tree.proofs.set_right.Reads as set-right-reads
+use Rattle.tree_nodes.proofs.both_links.Reads as both-links-reads
+use Rattle.tree_nodes.proofs.high_link.Reads as high-link-reads
+use Rattle.tree_nodes.proofs.left_of.Reads as left-of-reads
+use Rattle.tree_nodes.proofs.low_link.Reads as low-link-reads
+use Rattle.tree_nodes.proofs.right_of.Reads as right-of-reads
+use Rattle.tree_nodes.proofs.set_left.Reads as set-left-reads
+use Rattle.tree_nodes.proofs.set_right.Reads as set-right-reads
 use Rattle.free_tree.proofs.+split.{statement}
 use Rattle.free_tree.proofs.+split.Tie.{close}
 
@@ -65,7 +65,7 @@ split-right-of-requires t c κs = let s = c .before .before .before in at-in rea
 split-both-links-requires : (t : ℕ) → split-lts.Need-both-links-requires (split-claims t) (split-at t) split.Post
 split-both-links-requires t c κs =
     let (tree, p) = c .before .before .before .before .before .pre .1 .1 in
-    (at-small readable-one p, omega arith)
+    let small = at-small readable-one p in (omega arith, omega arith)
 
 split-same-length : (t : ℕ) → split-lts.Need-same-length (split-claims t) (split-at t) split.Post
 split-same-length t c = refl

@@ -7,7 +7,7 @@ use mathlib.Core.Path.{refl}
 use native.Mathlib.Omega.{arith}
 use Rattle.stored_forms.specs.Tree.{formOne}
 use Rattle.stored_forms.proofs.NodeLaws.{readable-one}
-use Rattle.free_tree.specs.Held.{links}
+use Rattle.tree_nodes.specs.Nodes.{links}
 use Rattle.free_tree.proofs.StepLaws.{count, at-in, down-left}
 use Rattle.free_tree.proofs.SeekSteps.{FitLeft, fit-start, fit-tree, fit-stop, fit-next, fit-end}
 use Rattle.free_tree.proofs.SeekSteps.{OnLeft, left-start, left-next, left-seat}

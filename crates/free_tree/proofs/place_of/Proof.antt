@@ -6,8 +6,8 @@ use borrow.Author.Tests.{eq-eqb}
 use Rattle.words.proofs.Tests.{eqb-ne}
 use Rattle.stored_forms.specs.Tree.{formOne}
 use Rattle.stored_forms.proofs.NodeLaws.{readable-one}
+use Rattle.tree_nodes.specs.Nodes.{links}
 use Rattle.free_tree.specs.Shapes.{beginsAt}
-use Rattle.free_tree.specs.Held.{links}
 use Rattle.free_tree.proofs.StepLaws.{count, at-in, down-left, down-right}
 use Rattle.free_tree.proofs.PlaceSteps.{Seeking, seek-start, seek-tree, seek-end, seek-stop}
 use Rattle.free_tree.proofs.PlaceSteps.{seek-left, seek-right}

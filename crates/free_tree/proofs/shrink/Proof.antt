@@ -7,7 +7,7 @@ use denote.Ref.{now}
 use Prim.Native.Nat.{_-_}
 use Rattle.stored_forms.specs.Tree.{formOne}
 use Rattle.stored_forms.proofs.NodeLaws.{readable-one}
-use Rattle.free_tree.specs.Held.{links}
+use Rattle.tree_nodes.specs.Nodes.{links}
 use Rattle.free_tree.proofs.StepLaws.{at-in}
 use Rattle.free_tree.proofs.PlaceSteps.{place-ready, place-hung}
 use Rattle.free_tree.proofs.ShrinkSteps.{LongerRoot, shrinks, root-tree, longer-place}

@@ -4,7 +4,7 @@
 use native.Mathlib.Omega.{arith}
 use Rattle.stored_forms.specs.Tree.{formOne}
 use Rattle.stored_forms.proofs.NodeLaws.{readable-one}
-use Rattle.free_tree.specs.Held.{links}
+use Rattle.tree_nodes.specs.Nodes.{links}
 use Rattle.free_tree.proofs.StepLaws.{count, at-in, down-left, down-right}
 use Rattle.free_tree.proofs.TouchSteps.{Flanks, flank-start, flank-tree, flank-in, flank-left, flank-right}
 use Rattle.free_tree.proofs.TouchSteps.{flank-end}

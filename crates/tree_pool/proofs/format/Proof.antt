@@ -10,7 +10,7 @@ use mathlib.Core.Bool.{true}
 use lib.ListN.{length, length-replicate}
 use Rattle.words.specs.Lists.{Words}
 use Rattle.stored_forms.specs.Tree.{formOne}
-use Rattle.free_tree.specs.Held.{NodePut}
+use Rattle.tree_nodes.specs.Nodes.{NodePut}
 use Rattle.calls.specs.Pool.{lengths}
 use Rattle.calls.specs.Engines.{treeEngine}
 use Rattle.tree_check.specs.Gate.{treePool}

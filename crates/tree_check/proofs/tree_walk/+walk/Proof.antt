@@ -18,9 +18,9 @@ use Rattle.tree_check.proofs.WalkLaws.{not-inside, not-allowed, not-bet
 use Rattle.tree_check.proofs.tree_walk.walk.Reads as walk
 use Rattle.tree_check.proofs.tree_walk.walk.Kinds as walk-kinds
 use Rattle.tree_check.proofs.tree_walk.+walk.Lts-walk as walk-lts
-use Rattle.free_tree.proofs.left_of.Reads as left-of-reads
-use Rattle.free_tree.proofs.length_of.Reads as length-of-reads
-use Rattle.free_tree.proofs.right_of.Reads as right-of-reads
+use Rattle.tree_nodes.proofs.left_of.Reads as left-of-reads
+use Rattle.tree_nodes.proofs.length_of.Reads as length-of-reads
+use Rattle.tree_nodes.proofs.right_of.Reads as right-of-reads
 use Rattle.tree_check.proofs.tree_walk.is_between.Reads as is-between-reads
 use Rattle.tree_check.proofs.tree_walk.node_ok.Reads as node-ok-reads
 use Rattle.tree_check.proofs.tree_walk.+walk.{statement}

@@ -1,10 +1,10 @@
--- `free_tree::set_right` meets its contract: the low half of word 1 stays. Assumes nothing.
+-- `tree_nodes::set_right` meets its contract: the low half of word 1 stays. Assumes nothing.
 use borrow.Author.Needs.{needs}
 use denote.Ref.{now}
 use Rattle.stored_forms.specs.Tree.{formOne}
-use Rattle.free_tree.proofs.FormOne.{one-set-right}
-use Rattle.free_tree.proofs.set_right.Statement.{statement}
-use Rattle.free_tree.proofs.set_right.Tie as tie
+use Rattle.tree_nodes.proofs.FormOne.{one-set-right}
+use Rattle.tree_nodes.proofs.set_right.Statement.{statement}
+use Rattle.tree_nodes.proofs.set_right.Tie as tie
 
 mul-i : tie.Need-mul-i
 unfolding formOne

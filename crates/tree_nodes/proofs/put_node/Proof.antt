@@ -1,12 +1,12 @@
--- `free_tree::put_node` meets its contract: both words of the cell. Assumes nothing.
+-- `tree_nodes::put_node` meets its contract: both words of the cell. Assumes nothing.
 use borrow.Author.Needs.{needs}
 use native.Mathlib.Omega.{arith}
 use lib.ListN.{length-set}
 use denote.Ref.{now}
 use Rattle.stored_forms.specs.Tree.{formOne}
-use Rattle.free_tree.proofs.FormOne.{one-put}
-use Rattle.free_tree.proofs.put_node.Statement.{statement}
-use Rattle.free_tree.proofs.put_node.Tie as tie
+use Rattle.tree_nodes.proofs.FormOne.{one-put}
+use Rattle.tree_nodes.proofs.put_node.Statement.{statement}
+use Rattle.tree_nodes.proofs.put_node.Tie as tie
 
 mul-arena : tie.Need-mul-arena
 unfolding formOne

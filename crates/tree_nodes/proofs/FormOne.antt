@@ -9,7 +9,7 @@ use lib.ListN.{length, getD, take, drop, set, length-set, length-drop}
 use lib.Seq.{length-take-le, getD-take, getD-drop, ext-getD, getD-set-same, getD-set-other, set-getD}
 use Rattle.words.specs.Lists.{Words}
 use Rattle.stored_forms.specs.Tree.{formOne, twoWords, lengthAt, leftAt, rightAt}
-use Rattle.free_tree.specs.Held.{cells, NodePut, LeftSet, RightSet, NodeCleared}
+use Rattle.tree_nodes.specs.Nodes.{cells, NodePut, LeftSet, RightSet, NodeCleared}
 
 cell-word : (m : Words) (c j : ℕ) → j < 2 → getD (take 2 (drop (2 * c) m)) j 0 ≡ getD m (2 * c + j) 0
 cell-word m c j h = getD-take 2 (drop (2 * c) m) j 0 h ∙ getD-drop (2 * c) m j 0

@@ -1,11 +1,11 @@
--- `free_tree::length_of` meets its contract: word 0 of the cell. Assumes nothing.
+-- `tree_nodes::length_of` meets its contract: word 0 of the cell. Assumes nothing.
 use borrow.Author.Needs.{needs}
 use mathlib.Core.Path.{sym}
 use denote.Ref.{now}
 use Rattle.stored_forms.specs.Tree.{formOne}
-use Rattle.free_tree.proofs.FormOne.{one-length}
-use Rattle.free_tree.proofs.length_of.Statement.{statement}
-use Rattle.free_tree.proofs.length_of.Tie as tie
+use Rattle.tree_nodes.proofs.FormOne.{one-length}
+use Rattle.tree_nodes.proofs.length_of.Statement.{statement}
+use Rattle.tree_nodes.proofs.length_of.Tie as tie
 
 mul-result : tie.Need-mul-result
 unfolding formOne

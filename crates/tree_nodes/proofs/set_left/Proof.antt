@@ -1,12 +1,12 @@
--- `free_tree::set_left` meets its contract: the high half of word 1 stays. Assumes nothing.
+-- `tree_nodes::set_left` meets its contract: the high half of word 1 stays. Assumes nothing.
 use borrow.Author.Needs.{needs}
 use native.Mathlib.Omega.{arith}
 use Prim.Native.Nat.{_+_, _*_}
 use denote.Ref.{now}
 use Rattle.stored_forms.specs.Tree.{formOne}
-use Rattle.free_tree.proofs.FormOne.{one-set-left}
-use Rattle.free_tree.proofs.set_left.Statement.{statement}
-use Rattle.free_tree.proofs.set_left.Tie as tie
+use Rattle.tree_nodes.proofs.FormOne.{one-set-left}
+use Rattle.tree_nodes.proofs.set_left.Statement.{statement}
+use Rattle.tree_nodes.proofs.set_left.Tie as tie
 
 mul-i : tie.Need-mul-i
 unfolding formOne

@@ -1,13 +1,13 @@
--- `free_tree::right_of` meets its contract: the high half of word 1 of the cell. Assumes nothing.
+-- `tree_nodes::right_of` meets its contract: the high half of word 1 of the cell. Assumes nothing.
 use borrow.Author.Needs.{needs}
 use mathlib.Core.Path.{sym}
 use native.Mathlib.Omega.{arith}
 use Prim.Native.Nat.{_+_, _*_}
 use denote.Ref.{now}
 use Rattle.stored_forms.specs.Tree.{formOne}
-use Rattle.free_tree.proofs.FormOne.{one-right}
-use Rattle.free_tree.proofs.right_of.Statement.{statement}
-use Rattle.free_tree.proofs.right_of.Tie as tie
+use Rattle.tree_nodes.proofs.FormOne.{one-right}
+use Rattle.tree_nodes.proofs.right_of.Statement.{statement}
+use Rattle.tree_nodes.proofs.right_of.Tie as tie
 
 mul-result : tie.Need-mul-result
 unfolding formOne

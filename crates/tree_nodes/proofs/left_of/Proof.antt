@@ -1,11 +1,11 @@
--- `free_tree::left_of` meets its contract: the low half of word 1 of the cell. Assumes nothing.
+-- `tree_nodes::left_of` meets its contract: the low half of word 1 of the cell. Assumes nothing.
 use borrow.Author.Needs.{needs}
 use mathlib.Core.Path.{sym}
 use denote.Ref.{now}
 use Rattle.stored_forms.specs.Tree.{formOne}
-use Rattle.free_tree.proofs.FormOne.{one-left}
-use Rattle.free_tree.proofs.left_of.Statement.{statement}
-use Rattle.free_tree.proofs.left_of.Tie as tie
+use Rattle.tree_nodes.proofs.FormOne.{one-left}
+use Rattle.tree_nodes.proofs.left_of.Statement.{statement}
+use Rattle.tree_nodes.proofs.left_of.Tie as tie
 
 mul-result : tie.Need-mul-result
 unfolding formOne

@@ -1,0 +1,2 @@
+-- Laws of nodes by their words.
+pub mod FormOne

@@ -98,6 +98,16 @@ fn is_shown_middle(root: u32, next: u32, arena: &[u32], table: &[u32]) -> bool
     ensures { λ r. ⌜ Says r (Shown root next (now (arena .entry)) (now (table .entry))) ⌝ }
 {
     let mut map: [u8; 2048] = [0; 2048];
+    let mut seen: [u8; 128] = [0; 128];
+    is_shown_over(root, next, &*arena, &*table, &mut map, &mut seen, 128)
+}
+
+// As many, with many records.
+fn is_shown_busy(root: u32, next: u32, arena: &[u32], table: &[u32]) -> bool
+    requires { ⌜ (length (now arena) ≤ 4096) × (slots (now table) ≤ 256) ⌝ }
+    ensures { λ r. ⌜ Says r (Shown root next (now (arena .entry)) (now (table .entry))) ⌝ }
+{
+    let mut map: [u8; 2048] = [0; 2048];
     let mut seen: [u8; 2048] = [0; 2048];
     is_shown_over(root, next, &*arena, &*table, &mut map, &mut seen, 2048)
 }
@@ -118,11 +128,11 @@ fn is_shown_other(root: u32, next: u32, arena: &[u32], table: &[u32]) -> bool
     ensures { λ r. ⌜ Says r (Shown root next (now (arena .entry)) (now (table .entry))) ⌝ }
 {
     let slots = table.len() / 3;
-    if slots <= 16 {
-        return is_shown_sparse(root, next, &*arena, &*table);
-    }
     if arena.len() <= 4096 {
-        return is_shown_middle(root, next, &*arena, &*table);
+        if slots <= 16 {
+            return is_shown_middle(root, next, &*arena, &*table);
+        }
+        return is_shown_busy(root, next, &*arena, &*table);
     }
     if slots <= 32 {
         return is_shown_sparse(root, next, &*arena, &*table);

@@ -27,7 +27,7 @@ use Rattle.segment_places.proofs.UnitLaws.{span-words, address-after}
 use Rattle.segment_places.proofs.ChangeLaws.{controls}
 use Rattle.segment_check.specs.Right.{heldRight, treeRight, segmentRight, Measured}
 use Rattle.segment_check.proofs.IndexLaws.{stored-ground, index-stored}
-use Rattle.record_table.specs.Partition.{Noted, Joins, Spans}
+use Rattle.record_table.specs.Partition.{Noted, Joins}
 use Rattle.record_table.proofs.EnterLaws.{enter-start, enter-next, noted-start}
 use Rattle.record_table.proofs.PartitionLaws.{held-by, partition-valid, valid-count}
 use Rattle.segment_check.specs.BitMaps.{bitAt}
@@ -158,7 +158,8 @@ module _ (v : List ℤ) (next : ℕ) (t : Words) (m : ℕ) where
   }
 
   -- what the map says is held is held
-  head-spans : (map : Words) → Heads v t map (slots t) → Spans segmentRule (recordsOf t) (heldFrom v map)
+  head-spans : (map : Words) → Heads v t map (slots t)
+      → (k u : ℕ) → k ≤ u → u < k + heldFrom v map k → free segmentRule (recordsOf t) u ≡ false
   unfolding past
   head-spans map H k u a b = go (bitAt map k) refl b
     where

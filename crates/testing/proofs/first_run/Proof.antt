@@ -1,10 +1,10 @@
--- `plain_ledger::first_run` is safe and ends.
+-- `testing::first_run` is safe and ends.
 -- Assumes nothing.
 use Prim.Native.Nat.{_≤_, _-_}
 use lib.ListN.{length}
 use borrow.Author.Needs.{needs}
-use Rattle.plain_ledger.proofs.first_run.Statement.{statement}
-use Rattle.plain_ledger.proofs.first_run.Tie as tie
+use Rattle.testing.proofs.first_run.Statement.{statement}
+use Rattle.testing.proofs.first_run.Tie as tie
 
 abbrev Inv-loop : tie.InvT-loop
 Inv-loop map need run₀ i₀ run i = i ≤ length map

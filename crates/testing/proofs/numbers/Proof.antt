@@ -1,11 +1,11 @@
--- `script_lines::numbers` is safe and ends.
+-- `testing::numbers` is safe and ends.
 -- Assumes nothing.
 use Prim.Native.Nat.{_≤_, _-_}
 use lib.ListN.{length}
 use mathlib.Core.Path.{_≡_}
 use borrow.Author.Needs.{needs}
-use Rattle.script_lines.proofs.numbers.Statement.{statement}
-use Rattle.script_lines.proofs.numbers.Tie as tie
+use Rattle.testing.proofs.numbers.Statement.{statement}
+use Rattle.testing.proofs.numbers.Tie as tie
 
 abbrev Inv-loop : tie.InvT-loop
 Inv-loop line out₀ n₀ i₀ out n i = (i ≤ length line) × (length out ≡ length out₀)

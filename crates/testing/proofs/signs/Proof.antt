@@ -1,11 +1,11 @@
--- `script_lines::signs` is safe and ends.
+-- `testing::signs` is safe and ends.
 -- Assumes nothing.
 use Prim.Native.Nat.{_≤_, _-_}
 use lib.ListN.{length}
 use mathlib.Core.Path.{_≡_}
 use borrow.Author.Needs.{needs}
-use Rattle.script_lines.proofs.signs.Statement.{statement}
-use Rattle.script_lines.proofs.signs.Tie as tie
+use Rattle.testing.proofs.signs.Statement.{statement}
+use Rattle.testing.proofs.signs.Tie as tie
 
 abbrev Inv-loop : tie.InvT-loop
 Inv-loop line out₀ n₀ i₀ out n i = (i ≤ length line) × (length out ≡ length out₀)

@@ -1,9 +1,9 @@
--- `plain_ledger::slot_of` is safe and ends.
+-- `testing::slot_of` is safe and ends.
 -- Assumes nothing.
 use Prim.Native.Nat.{_≤_, _-_}
 use borrow.Author.Needs.{needs}
-use Rattle.plain_ledger.proofs.slot_of.Statement.{statement}
-use Rattle.plain_ledger.proofs.slot_of.Tie as tie
+use Rattle.testing.proofs.slot_of.Statement.{statement}
+use Rattle.testing.proofs.slot_of.Tie as tie
 
 abbrev Inv-loop : tie.InvT-loop
 Inv-loop book slots ticket i₀ i = i ≤ slots

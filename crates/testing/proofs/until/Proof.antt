@@ -1,10 +1,10 @@
--- `script_lines::until` meets its contract: the place lies between the start and the length.
+-- `testing::until` meets its contract: the place lies between the start and the length.
 -- Assumes nothing.
 use Prim.Native.Nat.{_≤_, _-_}
 use lib.ListN.{length}
 use borrow.Author.Needs.{needs}
-use Rattle.script_lines.proofs.until.Statement.{statement}
-use Rattle.script_lines.proofs.until.Tie as tie
+use Rattle.testing.proofs.until.Statement.{statement}
+use Rattle.testing.proofs.until.Tie as tie
 
 abbrev Inv-loop : tie.InvT-loop
 Inv-loop s from b i₀ i = (from ≤ i) × (i ≤ length s)

@@ -1,10 +1,10 @@
--- `script_lines::checksum` meets its contract: the sum stays below the prime.
+-- `testing::checksum` meets its contract: the sum stays below the prime.
 -- Assumes nothing.
 use Prim.Native.Nat.{_≤_, _<_, _-_}
 use lib.ListN.{length}
 use borrow.Author.Needs.{needs}
-use Rattle.script_lines.proofs.checksum.Statement.{statement}
-use Rattle.script_lines.proofs.checksum.Tie as tie
+use Rattle.testing.proofs.checksum.Statement.{statement}
+use Rattle.testing.proofs.checksum.Tie as tie
 
 abbrev Inv-loop : tie.InvT-loop
 Inv-loop s sum₀ i₀ sum i = (i ≤ length s) × (sum < 4294967291)

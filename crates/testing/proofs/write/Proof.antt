@@ -1,11 +1,11 @@
--- `script_lines::write` is safe and ends.
+-- `testing::write` is safe and ends.
 -- Assumes nothing.
 use Prim.Native.Nat.{_≤_, _-_}
 use lib.ListN.{length}
 use mathlib.Core.Path.{_≡_}
 use borrow.Author.Needs.{needs}
-use Rattle.script_lines.proofs.write.Statement.{statement}
-use Rattle.script_lines.proofs.write.Tie as tie
+use Rattle.testing.proofs.write.Statement.{statement}
+use Rattle.testing.proofs.write.Tie as tie
 
 abbrev Inv-loop : tie.InvT-loop
 Inv-loop s₀ given count from i₀ s i = (1 ≤ i) × (length s ≡ length s₀)

@@ -1,26 +1,20 @@
--- `script_lines::write_list` is safe and ends.
+-- `testing::put_all` is safe and ends.
 -- Assumes nothing.
-use Prim.Native.Nat.{_-_}
+use Prim.Native.Nat.{_≤_, _-_}
 use lib.ListN.{length}
 use mathlib.Core.Path.{_≡_}
 use borrow.Author.Needs.{needs}
-use Rattle.script_lines.proofs.write_list.Statement.{statement}
-use Rattle.script_lines.proofs.write_list.Tie as tie
+use Rattle.testing.proofs.put_all.Statement.{statement}
+use Rattle.testing.proofs.put_all.Tie as tie
 
 abbrev Inv-loop : tie.InvT-loop
-Inv-loop s₀ given count n i₀ s i = length s ≡ length s₀
+Inv-loop s₀ from to v i₀ s i = (from ≤ i) × (length s ≡ length s₀)
 
 abbrev μ-loop : tie.MeasureT-loop
-μ-loop s₀ given count n i₀ s i = n - i
+μ-loop s₀ from to v i₀ s i = to - i
 
 loop-holds : tie.Need-loop-holds Inv-loop μ-loop
 loop-holds c = search needs
-
-repeated-requires : tie.Need-repeated-requires Inv-loop μ-loop
-repeated-requires c κs = search needs
-
-word-requires : tie.Need-word-requires Inv-loop μ-loop
-word-requires c κs = search needs
 
 put-requires : tie.Need-put-requires Inv-loop μ-loop
 put-requires c κs = search needs
@@ -40,15 +34,13 @@ same-length c = search needs
 returns : tie.Need-returns Inv-loop μ-loop
 returns c = search needs
 
-pub write-list-spec : {M : Type 1} → statement M
-write-list-spec =
+pub put-all-spec : {M : Type 1} → statement M
+put-all-spec =
     tie.close
     (tie.spec
     Inv-loop
     μ-loop
     loop-holds
-    repeated-requires
-    word-requires
     put-requires
     add-i
     loop-less

@@ -1,9 +1,9 @@
--- `any_place::all_are` is safe and ends.
+-- `testing::all_are` is safe and ends.
 -- Assumes nothing.
 use Prim.Native.Nat.{_≤_, _-_}
 use borrow.Author.Needs.{needs}
-use Rattle.any_place.proofs.all_are.Statement.{statement}
-use Rattle.any_place.proofs.all_are.Tie as tie
+use Rattle.testing.proofs.all_are.Statement.{statement}
+use Rattle.testing.proofs.all_are.Tie as tie
 
 abbrev Inv-loop : tie.InvT-loop
 Inv-loop s from to v i₀ i = from ≤ i

@@ -1,10 +1,10 @@
--- `script_lines::print_words` is safe and ends.
+-- `testing::print_words` is safe and ends.
 -- Assumes nothing.
 use Prim.Native.Nat.{_≤_, _-_}
 use lib.ListN.{length}
 use borrow.Author.Needs.{needs}
-use Rattle.script_lines.proofs.print_words.Statement.{statement}
-use Rattle.script_lines.proofs.print_words.Tie as tie
+use Rattle.testing.proofs.print_words.Statement.{statement}
+use Rattle.testing.proofs.print_words.Tie as tie
 
 abbrev Inv-loop : tie.InvT-loop
 Inv-loop s i₀ i = i ≤ length s

@@ -11,9 +11,9 @@ use Rattle.words.proofs.Tests.{eqb-ne}
 use Rattle.stored_forms.specs.Segments.{freeFrom, opens}
 use Rattle.control_words.proofs.SignLaws.{abs-neg}
 use Rattle.segment_blocks.specs.Blocks.{Blocks}
-use Rattle.segment_places.specs.Views.{word, ownedBy, Whole, RunOf}
-use Rattle.segment_places.proofs.WordLaws.{clash, run-of, opens-before, word-held, word-body, word-open}
-use Rattle.segment_places.proofs.WordLaws.{word-shut, word-past, unstarted, past-unstarted}
+use Rattle.segment_cores.specs.Views.{word, ownedBy, Whole, RunOf}
+use Rattle.segment_cores.proofs.WordLaws.{clash, run-of, opens-before, word-held, word-body, word-open}
+use Rattle.segment_cores.proofs.WordLaws.{word-shut, word-past, unstarted, past-unstarted}
 
 module _ (f : ℕ → Bool) (st : ℕ → ℕ) (W : ℕ) (Q : Whole f st W) where
   -- what a control word is of

@@ -8,9 +8,9 @@ use mathlib.Core.Path.{_≡_, refl, sym, ap, _∙_}
 use lib.IntN.{ℤ, pos, negℤ}
 use Rattle.words.proofs.Tests.{not-true}
 use Rattle.stored_forms.specs.Segments.{opens}
-use Rattle.segment_places.specs.Views.{word, Whole, RunOf, Rest, Place}
-use Rattle.segment_places.proofs.WordLaws.{clash, run-of, run-moves, opens-before, word-held, word-body}
-use Rattle.segment_places.proofs.WordLaws.{word-open, word-shut, word-past, unstarted, past-unstarted}
+use Rattle.segment_cores.specs.Views.{word, Whole, RunOf, Rest, Place}
+use Rattle.segment_cores.proofs.WordLaws.{clash, run-of, run-moves, opens-before, word-held, word-body}
+use Rattle.segment_cores.proofs.WordLaws.{word-open, word-shut, word-past, unstarted, past-unstarted}
 
 -- the control words before and after, with x free units from a on below the block at p and y above it
 pub record Placed (b c : ℕ → ℤ) (a x p n y : ℕ) : Type 0 where

@@ -12,7 +12,7 @@ use Rattle.ledger.specs.Records.{Ledger}
 use Rattle.ledger.specs.Units.{valid, free, owned}
 use Rattle.stored_forms.specs.Segments.{segmentRule, controlWord, segmentIndex, opens, depth}
 use Rattle.segment_blocks.specs.Upkeep.{Sizes}
-use Rattle.segment_places.specs.Views.{Adds}
+use Rattle.segment_cores.specs.Views.{Adds}
 
 -- the arena of a ledger, over what holders wrote in v
 unfoldable pub arenaOf : Ledger → List ℤ → List ℤ

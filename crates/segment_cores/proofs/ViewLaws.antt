@@ -19,7 +19,7 @@ use Rattle.ledger.specs.Units.{span, addressAt, first, past, valid, covers, own
 use Rattle.ledger.specs.declared.Row.{Row}
 use Rattle.ledger.proofs.UnitLaws.{Fitted, valid-at, covers-in, covers-of, disjoint}
 use Rattle.stored_forms.specs.Segments.{segmentRule, controlWord, startsAt}
-use Rattle.segment_places.specs.Views.{word, ownedBy, Whole}
+use Rattle.segment_cores.specs.Views.{word, ownedBy, Whole}
 
 pub control-word : (W : ℕ) (L : Ledger) (u : ℕ) → controlWord W L u ≡ word (free segmentRule L) (startsAt L) W u
 unfolding controlWord word

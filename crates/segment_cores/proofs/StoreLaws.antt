@@ -13,10 +13,10 @@ use lib.Seq.{getD-set-same, getD-set-other}
 use Rattle.words.specs.Places.{stamp, wiped}
 use Rattle.words.proofs.PlaceLaws.{stamp-is, length-wiped, wiped-in, wiped-out}
 use Rattle.words.proofs.Tests.{of-lt, of-ge, eqb-ne, within-low, within-high}
-use Rattle.segment_places.specs.Stores.{putRest, granted, pastOld}
-use Rattle.segment_places.specs.Views.{word, ownedBy, Whole, RunOf, Rest, Place}
-use Rattle.segment_places.proofs.PlaceLaws.{Placed, placed, all-free}
-use Rattle.segment_places.proofs.WordLaws.{clash}
+use Rattle.segment_cores.specs.Stores.{putRest, granted, pastOld}
+use Rattle.segment_cores.specs.Views.{word, ownedBy, Whole, RunOf, Rest, Place}
+use Rattle.segment_cores.proofs.PlaceLaws.{Placed, placed, all-free}
+use Rattle.segment_cores.proofs.WordLaws.{clash}
 
 put-length : (v : List ℤ) (e y : ℕ) → length (putRest v e y) ≡ length v
 put-length v e y = go (ltb 0 y)

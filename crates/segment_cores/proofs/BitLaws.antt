@@ -18,7 +18,7 @@ use Rattle.ledger.specs.Records.{Ledger}
 use Rattle.ledger.specs.Units.{valid, owned}
 use Rattle.stored_forms.specs.Segments.{segmentRule, controlWord, segmentWord, mostWords}
 use Rattle.stored_forms.proofs.SegmentLaws.{control-fits}
-use Rattle.segment_places.specs.Stores.{arenaOf}
+use Rattle.segment_cores.specs.Stores.{arenaOf}
 
 map-at : (v : List ℤ) (i : ℕ) → i < length v → getD (map (ofZ w32) v) i 0 ≡ ofZ w32 (getD v i (pos 0))
 map-at [] i h = absurd (omega arith)

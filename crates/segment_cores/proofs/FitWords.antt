@@ -13,9 +13,9 @@ use Rattle.words.proofs.Tests.{false-of, of-not}
 use Rattle.ledger.specs.Units.{lowestFit}
 use Rattle.ledger.proofs.FitLaws.{fit-is, fit-nothing, fit-lowest}
 use Rattle.stored_forms.specs.Segments.{weight, freeFrom, opens}
-use Rattle.segment_places.specs.Views.{word, Whole, RunOf}
-use Rattle.segment_places.proofs.WholeLaws.{Kind, held, free, none, kind}
-use Rattle.segment_places.proofs.WordLaws.{clash, run-of, word-open, word-held, unstarted}
+use Rattle.segment_cores.specs.Views.{word, Whole, RunOf}
+use Rattle.segment_cores.proofs.WholeLaws.{Kind, held, free, none, kind}
+use Rattle.segment_cores.proofs.WordLaws.{clash, run-of, word-open, word-held, unstarted}
 
 -- where the run of a free unit begins
 pub record Opening (f : ℕ → Bool) (j a : ℕ) : Type 0 where

@@ -16,11 +16,11 @@ use Rattle.ledger.proofs.UnitLaws.{valid-blank}
 use Rattle.stored_forms.specs.Segments.{segmentRule, startsAt}
 use Rattle.segment_index.specs.Index.{indexOf}
 use Rattle.segment_blocks.specs.Upkeep.{Sizes, Ground}
-use Rattle.segment_places.specs.Stores.{arenaOf, Unheld, Becomes}
-use Rattle.segment_places.specs.Views.{ownedBy, RunOf}
-use Rattle.segment_places.proofs.ChangeLaws.{controls, arena-view, stored-long, stored-blocks, index-view}
-use Rattle.segment_places.proofs.ViewLaws.{ledger-whole}
-use Rattle.segment_places.proofs.WordLaws.{clash, opens-before, word-open, word-shut, unstarted}
+use Rattle.segment_cores.specs.Stores.{arenaOf, Unheld, Becomes}
+use Rattle.segment_cores.specs.Views.{ownedBy, RunOf}
+use Rattle.segment_cores.proofs.ChangeLaws.{controls, arena-view, stored-long, stored-blocks, index-view}
+use Rattle.segment_cores.proofs.ViewLaws.{ledger-whole}
+use Rattle.segment_cores.proofs.WordLaws.{clash, opens-before, word-open, word-shut, unstarted}
 
 -- a table of empty records holds nothing
 pub blank-unheld : (k W : ℕ) → Unheld (replicate k emptyRow) W

@@ -18,14 +18,14 @@ use Rattle.control_words.proofs.SignLaws.{abs-neg}
 use Rattle.segment_index.specs.Index.{indexOf}
 use Rattle.segment_blocks.specs.Blocks.{Blocks}
 use Rattle.segment_blocks.specs.Upkeep.{Touched}
-use Rattle.segment_places.specs.Stores.{arenaOf, Sound, Granting, Releasing, Becomes, granted, merged}
-use Rattle.segment_places.specs.Views.{word, ownedBy, Whole, RunOf, Rest}
-use Rattle.segment_places.proofs.PlaceLaws.{Placed, placed}
-use Rattle.segment_places.proofs.StoreLaws.{released, grants}
-use Rattle.segment_places.proofs.ViewLaws.{ledger-whole, ledger-owned, control-word}
-use Rattle.segment_places.proofs.WholeLaws.{Kind, held, free as free-kind, none, kind, whole-blocks}
-use Rattle.segment_places.proofs.WholeLaws.{begins-free}
-use Rattle.segment_places.proofs.WordLaws.{clash}
+use Rattle.segment_cores.specs.Stores.{arenaOf, Sound, Granting, Releasing, Becomes, granted, merged}
+use Rattle.segment_cores.specs.Views.{word, ownedBy, Whole, RunOf, Rest}
+use Rattle.segment_cores.proofs.PlaceLaws.{Placed, placed}
+use Rattle.segment_cores.proofs.StoreLaws.{released, grants}
+use Rattle.segment_cores.proofs.ViewLaws.{ledger-whole, ledger-owned, control-word}
+use Rattle.segment_cores.proofs.WholeLaws.{Kind, held, free as free-kind, none, kind, whole-blocks}
+use Rattle.segment_cores.proofs.WholeLaws.{begins-free}
+use Rattle.segment_cores.proofs.WordLaws.{clash}
 
 -- the readings of a ledger
 abbrev pub controls : Ledger → ℕ → ℕ → ℤ

@@ -20,8 +20,8 @@ use Rattle.ledger.proofs.UnitLaws.{Fitted, valid-record, valid-apart, span-pos,
 use Rattle.ledger.proofs.UnitLaws.{covers-of, free-not, free-settle, free-enter}
 use Rattle.stored_forms.specs.Segments.{segmentRule, startsAt}
 use Rattle.stored_forms.proofs.SegmentLaws.{starts-held}
-use Rattle.segment_places.specs.Views.{Adds}
-use Rattle.segment_places.proofs.ViewLaws.{free-nowhere}
+use Rattle.segment_cores.specs.Views.{Adds}
+use Rattle.segment_cores.proofs.ViewLaws.{free-nowhere}
 
 -- a record begins at unit u
 abbrev begins : ℕ → Row → Bool

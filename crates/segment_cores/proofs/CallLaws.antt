@@ -18,11 +18,11 @@ use Rattle.ledger.specs.declared.Row.{Row}
 use Rattle.ledger.proofs.FitLaws.{fit-lowest}
 use Rattle.ledger.proofs.UnitLaws.{valid-enter, valid-settle}
 use Rattle.stored_forms.specs.Segments.{segmentRule, startsAt, depth}
-use Rattle.segment_places.specs.Stores.{Sound, Granting, Releasing}
-use Rattle.segment_places.proofs.AddLaws.{grant-adds, release-adds}
-use Rattle.segment_places.proofs.ChangeLaws.{sound-whole}
-use Rattle.segment_places.proofs.FitWords.{fit-opens}
-use Rattle.segment_places.proofs.UnitLaws.{span-words}
+use Rattle.segment_cores.specs.Stores.{Sound, Granting, Releasing}
+use Rattle.segment_cores.proofs.AddLaws.{grant-adds, release-adds}
+use Rattle.segment_cores.proofs.ChangeLaws.{sound-whole}
+use Rattle.segment_cores.proofs.FitWords.{fit-opens}
+use Rattle.segment_cores.proofs.UnitLaws.{span-words}
 
 module _ (L : Ledger) (v : List ℤ) (t : Words) (s g : ℕ) (S : Sound L v t s g) where
   -- the lowest fit for n words is at k, a record is empty, and there is a next ticket

@@ -8,7 +8,7 @@ use mathlib.Core.Path.{_≡_, refl, sym, ap, _∙_}
 use lib.IntN.{pos, negℤ}
 use Rattle.words.proofs.Tests.{of-lt}
 use Rattle.stored_forms.specs.Segments.{freeFrom, opens}
-use Rattle.segment_places.specs.Views.{word, Whole, RunOf}
+use Rattle.segment_cores.specs.Views.{word, Whole, RunOf}
 
 pub clash : {X : Type 0} {b : Bool} → b ≡ true → b ≡ false → X
 clash t f = absurd (true≢false (sym t ∙ f))

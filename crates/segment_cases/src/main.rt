@@ -8,24 +8,24 @@
 //   head N             next ticket
 //   format             allocate N      release T A W      find T A W      look T A W
 //   list N K V..       a list of N words, V over and over, with K words for its answers, which start as sevens
-use any_place::least;
-use any_place::put_all;
-use any_place::word;
 use ledger::Row;
-use script_lines::is;
-use script_lines::mixed;
-use script_lines::print;
-use script_lines::print_number;
-use script_lines::read_line;
-use script_lines::row;
-use script_lines::show;
-use script_lines::show_answer;
-use script_lines::show_sum;
-use script_lines::until;
-use script_lines::write;
-use script_lines::write_list;
 use segment_pool::Head;
 use segment_pool::Outcome;
+use testing::is;
+use testing::least;
+use testing::mixed;
+use testing::print;
+use testing::print_number;
+use testing::put_all;
+use testing::read_line;
+use testing::row;
+use testing::show;
+use testing::show_answer;
+use testing::show_sum;
+use testing::until;
+use testing::word;
+use testing::write;
+use testing::write_list;
 ghost use Prim.Native.Nat.{_<_};
 
 // The head of the pool, the number of segments, and how many words of the three buffers are lent to it.

@@ -29,12 +29,12 @@ use Rattle.record_table.proofs.CheckLaws.{all-slots}
 use Rattle.stored_forms.specs.Segments.{segmentRule, startsAt, opens}
 use Rattle.control_words.specs.Control.{freeSize}
 use Rattle.control_words.proofs.SignLaws.{abs-neg, free-neg}
-use Rattle.segment_places.specs.Stores.{arenaOf}
-use Rattle.segment_places.specs.Views.{word, ownedBy, Whole, RunOf}
-use Rattle.segment_places.proofs.ChangeLaws.{controls, arena-view, stored-word}
-use Rattle.segment_places.proofs.UnitLaws.{span-words}
-use Rattle.segment_places.proofs.ViewLaws.{ledger-whole, slot-starts, begun-slot}
-use Rattle.segment_places.proofs.WordLaws.{clash, opens-before, word-held, word-open, word-shut, unstarted}
+use Rattle.segment_cores.specs.Stores.{arenaOf}
+use Rattle.segment_cores.specs.Views.{word, ownedBy, Whole, RunOf}
+use Rattle.segment_cores.proofs.ChangeLaws.{controls, arena-view, stored-word}
+use Rattle.segment_cores.proofs.UnitLaws.{span-words}
+use Rattle.segment_cores.proofs.ViewLaws.{ledger-whole, slot-starts, begun-slot}
+use Rattle.segment_cores.proofs.WordLaws.{clash, opens-before, word-held, word-open, word-shut, unstarted}
 use Rattle.record_table.proofs.PartitionLaws.{valid-row, valid-new}
 use Rattle.segment_check.specs.BitMaps.{bitAt}
 use Rattle.segment_check.specs.Laid.{blockRight, Kept, Sets, Good}

@@ -22,9 +22,9 @@ use Rattle.stored_forms.specs.Segments.{segmentRule}
 use Rattle.control_words.specs.Control.{freeSize}
 use Rattle.record_table.proofs.PairLaws.{every-last}
 use Rattle.record_table.proofs.CheckLaws.{all-slots}
-use Rattle.segment_places.specs.Stores.{arenaOf}
-use Rattle.segment_places.proofs.UnitLaws.{span-words, address-after}
-use Rattle.segment_places.proofs.ChangeLaws.{controls}
+use Rattle.segment_cores.specs.Stores.{arenaOf}
+use Rattle.segment_cores.proofs.UnitLaws.{span-words, address-after}
+use Rattle.segment_cores.proofs.ChangeLaws.{controls}
 use Rattle.segment_check.specs.Right.{heldRight, treeRight, segmentRight, Measured}
 use Rattle.segment_check.proofs.IndexLaws.{stored-ground, index-stored}
 use Rattle.record_table.specs.Partition.{Noted, Joins}

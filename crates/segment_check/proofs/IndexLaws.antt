@@ -14,8 +14,8 @@ use Rattle.words.proofs.Tests.{and-l, and-r, and-i, eqb-eq, eqb-same}
 use Rattle.stored_forms.specs.Segments.{segmentRule, segmentIndex, largest, firstBlock, segmentSize}
 use Rattle.ledger.specs.Records.{Ledger}
 use Rattle.ledger.specs.Units.{valid}
-use Rattle.segment_places.specs.Stores.{arenaOf}
-use Rattle.segment_places.proofs.ChangeLaws.{controls, index-view, stored-blocks}
+use Rattle.segment_cores.specs.Stores.{arenaOf}
+use Rattle.segment_cores.proofs.ChangeLaws.{controls, index-view, stored-blocks}
 use Rattle.segment_index.specs.Index.{indexOf, Agree}
 use Rattle.segment_index.specs.Tree.{Heap}
 use Rattle.segment_index.proofs.IndexLaws.{index-is, index-zero, index-heap, index-agrees}

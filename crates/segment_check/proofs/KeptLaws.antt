@@ -17,9 +17,9 @@ use Rattle.words.proofs.Tests.{false-of}
 use Rattle.control_words.specs.Control.{freeSize}
 use Rattle.control_words.proofs.SignLaws.{free-neg}
 use Rattle.segment_blocks.specs.Blocks.{Blocks, Scan}
-use Rattle.segment_places.specs.Views.{word, ownedBy, Whole, RunOf}
-use Rattle.segment_places.proofs.WholeLaws.{Kind, held, free as free-kind, none, kind, whole-blocks}
-use Rattle.segment_places.proofs.WordLaws.{clash, word-held}
+use Rattle.segment_cores.specs.Views.{word, ownedBy, Whole, RunOf}
+use Rattle.segment_cores.proofs.WholeLaws.{Kind, held, free as free-kind, none, kind, whole-blocks}
+use Rattle.segment_cores.proofs.WordLaws.{clash, word-held}
 use Rattle.segment_check.specs.Right.{runRight}
 use Rattle.segment_check.specs.BitMaps.{bitAt}
 use Rattle.segment_check.specs.Laid.{HeldBlock, FreeBlock, Kept, Led}

@@ -15,7 +15,7 @@ use Rattle.ledger.specs.Runs.{Run, Gapped, covered}
 use Rattle.stored_forms.specs.Segments.{segmentRule, segmentIndex, largest}
 use Rattle.segment_blocks.specs.Blocks.{Scan, Reaches}
 use Rattle.segment_blocks.specs.Upkeep.{Ground}
-use Rattle.segment_places.specs.Stores.{arenaOf}
+use Rattle.segment_cores.specs.Stores.{arenaOf}
 use Rattle.segment_check.specs.Right.{runRight, heldRight, segmentRight}
 use Rattle.record_table.specs.Partition.{newAt, Noted, Joins, Entered, total}
 use Rattle.record_table.specs.Checks.{rowOk}

@@ -23,11 +23,11 @@ use Rattle.segment_index.proofs.RangeLaws.{weight-size, begins-not, FirstIn, fi
 use Rattle.segment_index.proofs.SizeLaws.{segment-low, segment-high, segment-in}
 use Rattle.segment_blocks.specs.Blocks.{Blocks, Chain, EndsAt}
 use Rattle.segment_blocks.proofs.UpkeepLaws.{sizes-some, sizes-few, sizes-each, sizes-narrow}
-use Rattle.segment_places.specs.Stores.{Releasing}
-use Rattle.segment_places.specs.Views.{Whole, RunOf, Rest}
-use Rattle.segment_places.proofs.ChangeLaws.{controls, sound-whole, sound-blocks, sound-index}
-use Rattle.segment_places.proofs.WholeLaws.{Kind, held, free as free-kind, none, kind}
-use Rattle.segment_places.proofs.WordLaws.{run-moves, opens-before, word-held}
+use Rattle.segment_cores.specs.Stores.{Releasing}
+use Rattle.segment_cores.specs.Views.{Whole, RunOf, Rest}
+use Rattle.segment_cores.proofs.ChangeLaws.{controls, sound-whole, sound-blocks, sound-index}
+use Rattle.segment_cores.proofs.WholeLaws.{Kind, held, free as free-kind, none, kind}
+use Rattle.segment_cores.proofs.WordLaws.{run-moves, opens-before, word-held}
 use Rattle.segment_cores.specs.Cores.{Seat, Begun, Sitting, Beneath, restAt}
 
 -- ---- a block below p

@@ -21,8 +21,8 @@ use Rattle.segment_index.proofs.SizeLaws.{segment-low, segment-high, segment-in
 use Rattle.segment_index.proofs.WayLaws.{under}
 use Rattle.segment_blocks.specs.Blocks.{Blocks, Seeking, FirstFit}
 use Rattle.segment_blocks.proofs.UpkeepLaws.{sizes-some, sizes-few, sizes-each}
-use Rattle.segment_places.proofs.ChangeLaws.{controls, sound-whole, sound-blocks, sound-index}
-use Rattle.segment_places.proofs.FitWords.{word-fit, word-none}
+use Rattle.segment_cores.proofs.ChangeLaws.{controls, sound-whole, sound-blocks, sound-index}
+use Rattle.segment_cores.proofs.FitWords.{word-fit, word-none}
 use Rattle.segment_cores.specs.Cores.{Searching, unitOr}
 
 module _ (L : Ledger) (v : List ℤ) (t : Words) (s d n : ℕ) (K : Searching L v t s d n) where

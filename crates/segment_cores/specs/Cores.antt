@@ -13,8 +13,8 @@ use Rattle.stored_forms.specs.Segments.{segmentSize, startsAt, depth}
 use Rattle.control_words.specs.Control.{freeSize}
 use Rattle.segment_index.specs.Index.{indexOf}
 use Rattle.segment_blocks.specs.Upkeep.{Sizes}
-use Rattle.segment_places.specs.Stores.{Sound}
-use Rattle.segment_places.specs.Views.{Rest}
+use Rattle.segment_cores.specs.Stores.{Sound}
+use Rattle.segment_cores.specs.Views.{Rest}
 
 -- a sound pool of 2 ^ d segments, in which n words are sought, the control word counted
 pub record Searching (L : Ledger) (v : List ℤ) (t : Words) (s d n : ℕ) : Type 0 where

@@ -11,7 +11,7 @@ ghost use Rattle.ledger.specs.Records.{Ledger};
 ghost use Rattle.ledger.specs.Units.{free, lowestFit};
 ghost use Rattle.stored_forms.specs.Segments.{segmentRule, mostWords};
 ghost use Rattle.segment_blocks.specs.Upkeep.{Sizes};
-ghost use Rattle.segment_places.specs.Stores.{Unheld, Granting, Releasing, Becomes, putRest, pastOld, merged};
+ghost use Rattle.segment_cores.specs.Stores.{Unheld, Granting, Releasing, Becomes, putRest, pastOld, merged};
 ghost use Rattle.segment_cores.specs.Cores.{Searching, unitOr, Seat, Begun, Sitting, Beneath, restAt};
 use control_words::free_at;
 use control_words::put_free;

@@ -10,8 +10,8 @@ use Rattle.words.specs.Lists.{Words}
 use Rattle.ledger.specs.Records.{Ledger, emptyRow, tableOf, recordWords, slots}
 use Rattle.stored_forms.specs.Segments.{segmentSize}
 use Rattle.segment_blocks.specs.Upkeep.{Sizes}
-use Rattle.segment_places.specs.Stores.{Unheld, Becomes}
-use Rattle.segment_places.proofs.BlankLaws.{blank-unheld}
+use Rattle.segment_cores.specs.Stores.{Unheld, Becomes}
+use Rattle.segment_cores.proofs.BlankLaws.{blank-unheld}
 use Rattle.calls.specs.declared.Answer.{Answer}
 use Rattle.calls.specs.Pool.{Pool, firstTicket, lengths}
 use Rattle.calls.specs.Step.{refusal, zeroAnswer, format, behind, gate, perform, step}

@@ -19,8 +19,8 @@ use Rattle.ledger.specs.Units.{valid, owned}
 use Rattle.ledger.proofs.RecordLaws.{table-records}
 use Rattle.stored_forms.specs.Segments.{segmentRule, segmentRange, segmentWord, segmentIndex, segmentSize}
 use Rattle.stored_forms.specs.Segments.{isPower, depth}
-use Rattle.segment_places.specs.Stores.{arenaOf}
-use Rattle.segment_places.proofs.BitLaws.{arena-words, words-arena}
+use Rattle.segment_cores.specs.Stores.{arenaOf}
+use Rattle.segment_cores.proofs.BitLaws.{arena-words, words-arena}
 use Rattle.words.specs.Flags.{Says}
 use Rattle.segment_check.specs.Right.{Measured}
 use Rattle.segment_check.specs.Laid.{Shown}

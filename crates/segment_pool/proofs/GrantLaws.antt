@@ -23,9 +23,9 @@ use Rattle.ledger.specs.Units.{span, addressAt, past, free, lowestFit}
 use Rattle.ledger.proofs.FitLaws.{fit-lowest}
 use Rattle.ledger.proofs.UnitLaws.{past-new}
 use Rattle.stored_forms.specs.Segments.{segmentRule, segmentSize}
-use Rattle.segment_places.specs.Stores.{Sound, Granting, Becomes}
-use Rattle.segment_places.proofs.CallLaws.{granting}
-use Rattle.segment_places.proofs.UnitLaws.{span-words, address-after}
+use Rattle.segment_cores.specs.Stores.{Sound, Granting, Becomes}
+use Rattle.segment_cores.proofs.CallLaws.{granting}
+use Rattle.segment_cores.proofs.UnitLaws.{span-words, address-after}
 use Rattle.segment_cores.specs.Cores.{unitOr}
 use Rattle.calls.specs.Pool.{Pool, nextAfter}
 use Rattle.calls.specs.Step.{ask, success, fitOf, answerTo, poolAfter}

@@ -12,8 +12,8 @@ use Rattle.ledger.specs.declared.Row.{Row}
 use Rattle.ledger.specs.Records.{Ledger, emptyRow, slots, recordsOf, recordOf, tableOf, vacate, member, settle}
 use Rattle.ledger.specs.Units.{span, first}
 use Rattle.stored_forms.specs.Segments.{segmentRule, segmentSize, depth}
-use Rattle.segment_places.specs.Stores.{Releasing, Becomes}
-use Rattle.segment_places.proofs.CallLaws.{releasing}
+use Rattle.segment_cores.specs.Stores.{Releasing, Becomes}
+use Rattle.segment_cores.proofs.CallLaws.{releasing}
 use Rattle.calls.specs.Pool.{Pool, sound}
 use Rattle.calls.specs.Step.{give, success, answerTo, poolAfter}
 use Rattle.calls.specs.Engines.{segmentEngine}

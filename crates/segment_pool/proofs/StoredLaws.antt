@@ -14,8 +14,8 @@ use Rattle.words.specs.Places.{stamp}
 use Rattle.ledger.specs.Records.{Ledger, recordsOf, tableOf}
 use Rattle.ledger.specs.Units.{valid, owned}
 use Rattle.stored_forms.specs.Segments.{segmentRule, segmentWord, segmentIndex, segmentSize}
-use Rattle.segment_places.specs.Stores.{Sound, Becomes}
-use Rattle.segment_places.proofs.BitLaws.{arena-words, words-arena}
+use Rattle.segment_cores.specs.Stores.{Sound, Becomes}
+use Rattle.segment_cores.proofs.BitLaws.{arena-words, words-arena}
 use Rattle.calls.specs.Pool.{Pool, store, sound}
 use Rattle.calls.specs.Engines.{segmentEngine}
 use Rattle.calls.proofs.StoreLaws.{sound-lengths, sound-valid, is-store}

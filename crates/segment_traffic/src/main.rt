@@ -1,23 +1,23 @@
 // Random traffic on the segment pool, held to a plain ledger whose units are words. Each holder writes its ticket into
 // all its words, and they and the control word are read again before its release. A round ends with the release of
 // all; the memory must then be as a format leaves it.
-use any_place::all_are;
-use any_place::least;
-use any_place::word;
 use calls::Answer;
 use ledger::Row;
-use plain_ledger::Tally;
-use plain_ledger::book_grant;
-use plain_ledger::book_release;
-use plain_ledger::chosen;
-use plain_ledger::drawn;
-use plain_ledger::entry;
-use plain_ledger::first_run;
-use plain_ledger::next_after;
-use plain_ledger::print_count;
-use plain_ledger::same;
-use plain_ledger::verdict;
 use segment_pool::Head;
+use testing::Tally;
+use testing::all_are;
+use testing::book_grant;
+use testing::book_release;
+use testing::chosen;
+use testing::drawn;
+use testing::entry;
+use testing::first_run;
+use testing::least;
+use testing::next_after;
+use testing::print_count;
+use testing::same;
+use testing::verdict;
+use testing::word;
 
 // What a round has come to: the pool's head and number of segments, and the ledger's side.
 struct Round {
@@ -136,7 +136,7 @@ fn past(held: Answer) -> usize {
 fn plan(book: &[u32], map: &[u32], slots: usize, next: u32, words: u32) -> Answer {
     let start = first_run(map, span_of(words));
     let address = (start % 65536 + 1) as u32;
-    plain_ledger::plan(book, slots, next, words, start < map.len(), address)
+    testing::plan(book, slots, next, words, start < map.len(), address)
 }
 
 // The record with the address of its control word, and with a word more.
@@ -156,7 +156,7 @@ fn counted(round: Round, head: Head, next: u32, answer: Answer, agrees: bool) ->
     Round {
         head,
         segments: round.segments,
-        tally: plain_ledger::counted(round.tally, next, answer, all),
+        tally: testing::counted(round.tally, next, answer, all),
     }
 }
 
@@ -264,7 +264,7 @@ fn turn(
     let on = Round {
         head,
         segments: round.segments,
-        tally: plain_ledger::reseeded(tally, draw.seed),
+        tally: testing::reseeded(tally, draw.seed),
     };
     if draw.kind < 6 {
         return try_allocate(on, arena, table, index, book, map, slots, draw.words);
@@ -369,7 +369,7 @@ fn report(round: Round, arena: &[i32], table: &[u32], index: &[u32]) {
     print_count(round.segments as u64, b" segments, ");
     print_count(table.len() as u64 / 3, b" records: ");
     let fresh = is_fresh(round.segments as usize, arena, table, index);
-    plain_ledger::report(round.tally, fresh);
+    testing::report(round.tally, fresh);
 }
 
 // A formatted pool, with the next ticket set.
@@ -385,7 +385,7 @@ fn opened(
     Round {
         head: Head { next },
         segments,
-        tally: plain_ledger::opened(formatted.answer, most, next),
+        tally: testing::opened(formatted.answer, most, next),
     }
 }
 

@@ -7,20 +7,20 @@
 //   head R N           root link and next ticket
 //   format             allocate N      release T A W      find T A W      look T A W
 //   list N K V..       a list of N words, V over and over, with K words for its answers, which start as sevens
-use any_place::least;
-use any_place::put_all;
-use any_place::word;
 use ledger::Row;
-use script_lines::is;
-use script_lines::print;
-use script_lines::print_number;
-use script_lines::read_line;
-use script_lines::row;
-use script_lines::show;
-use script_lines::show_answer;
-use script_lines::until;
-use script_lines::write;
-use script_lines::write_list;
+use testing::is;
+use testing::least;
+use testing::print;
+use testing::print_number;
+use testing::put_all;
+use testing::read_line;
+use testing::row;
+use testing::show;
+use testing::show_answer;
+use testing::until;
+use testing::word;
+use testing::write;
+use testing::write_list;
 use tree_pool::Head;
 use tree_pool::Outcome;
 

@@ -1,23 +1,23 @@
 // Random traffic on the tree pool, held to a plain ledger whose units are cells of two words. Each holder writes its
 // ticket into all words of its cells, and they are read again before its release. A round ends with the release of
 // all; the memory must then be as a format leaves it.
-use any_place::all_are;
-use any_place::least;
-use any_place::put_all;
-use any_place::word;
 use calls::Answer;
 use ledger::Row;
-use plain_ledger::Tally;
-use plain_ledger::book_grant;
-use plain_ledger::book_release;
-use plain_ledger::chosen;
-use plain_ledger::drawn;
-use plain_ledger::entry;
-use plain_ledger::first_run;
-use plain_ledger::next_after;
-use plain_ledger::print_count;
-use plain_ledger::same;
-use plain_ledger::verdict;
+use testing::Tally;
+use testing::all_are;
+use testing::book_grant;
+use testing::book_release;
+use testing::chosen;
+use testing::drawn;
+use testing::entry;
+use testing::first_run;
+use testing::least;
+use testing::next_after;
+use testing::print_count;
+use testing::put_all;
+use testing::same;
+use testing::verdict;
+use testing::word;
 use tree_pool::Head;
 
 // What a round has come to: the pool's head, and the ledger's side.
@@ -77,7 +77,7 @@ fn past_cell(held: Answer) -> usize {
 fn plan(book: &[u32], map: &[u32], slots: usize, next: u32, words: u32) -> Answer {
     let start = first_run(map, cells_of(words));
     let address = ((start % 2147483648) * 2) as u32;
-    plain_ledger::plan(book, slots, next, words, start < map.len(), address)
+    testing::plan(book, slots, next, words, start < map.len(), address)
 }
 
 // The record with the address of the next cell, and with a word less.
@@ -96,7 +96,7 @@ fn counted(round: Round, head: Head, next: u32, answer: Answer, agrees: bool) ->
     let all = agrees & (head.next == next);
     Round {
         head,
-        tally: plain_ledger::counted(round.tally, next, answer, all),
+        tally: testing::counted(round.tally, next, answer, all),
     }
 }
 
@@ -198,7 +198,7 @@ fn turn(
     let head = round.head;
     let on = Round {
         head,
-        tally: plain_ledger::reseeded(tally, draw.seed),
+        tally: testing::reseeded(tally, draw.seed),
     };
     if draw.kind < 6 {
         return try_allocate(on, arena, table, book, map, slots, draw.words);
@@ -271,7 +271,7 @@ fn is_fresh(head: Head, arena: &[u32], table: &[u32]) -> bool {
 fn report(round: Round, arena: &[u32], table: &[u32]) {
     print_count(arena.len() as u64, b" words, ");
     print_count(table.len() as u64 / 3, b" records: ");
-    plain_ledger::report(round.tally, is_fresh(round.head, arena, table));
+    testing::report(round.tally, is_fresh(round.head, arena, table));
 }
 
 // A formatted pool, with the next ticket set.
@@ -283,7 +283,7 @@ fn opened(arena: &mut [u32], table: &mut [u32], most: u64, next: u32) -> Round {
             root: head.root,
             next,
         },
-        tally: plain_ledger::opened(formatted.answer, most, next),
+        tally: testing::opened(formatted.answer, most, next),
     }
 }
 

@@ -6,9 +6,9 @@ use mathlib.Core.Path.{_≡_, _∙_, ap}
 use borrow.Author.Needs.{needs}
 use lib.IntN.{ℤ, pos, negℤ, natAbs}
 use lib.ListN.{getD, set}
-use Rattle.segment_places.specs.Stores.{granted}
-use Rattle.segment_places.proofs.ChangeLaws.{controls, grant-inside, grant-large, grant-fits, grant-touches}
-use Rattle.segment_places.proofs.ChangeLaws.{grant-becomes}
+use Rattle.segment_cores.specs.Stores.{granted}
+use Rattle.segment_cores.proofs.ChangeLaws.{controls, grant-inside, grant-large, grant-fits, grant-touches}
+use Rattle.segment_cores.proofs.ChangeLaws.{grant-becomes}
 use Rattle.segment_cores.proofs.allot.Statement.{statement}
 use Rattle.segment_cores.proofs.allot.Tie as tie
 

@@ -1,6 +1,6 @@
 -- `segment_cores::free_below` meets its contract. Assumes nothing.
 use native.Mathlib.Omega.{arith}
-use Rattle.segment_places.proofs.ChangeLaws.{controls}
+use Rattle.segment_cores.proofs.ChangeLaws.{controls}
 use Rattle.segment_cores.proofs.NearLaws.{seat, chain, beneath-none, before-inside, beneath}
 use Rattle.segment_cores.proofs.free_below.Statement.{statement}
 use Rattle.segment_cores.proofs.free_below.Tie as tie

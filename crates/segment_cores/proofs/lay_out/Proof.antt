@@ -9,9 +9,9 @@ use lib.ListN.{length, getD, set, replicate, length-set, length-replicate}
 use lib.Seq.{getD-set-same}
 use Rattle.ledger.specs.Records.{Ledger, emptyRow}
 use Rattle.segment_blocks.specs.Upkeep.{Sizes, OneBlock}
-use Rattle.segment_places.specs.Stores.{Unheld}
-use Rattle.segment_places.proofs.BlankLaws.{blank-unheld, blank-ground, blank-becomes}
-use Rattle.segment_places.proofs.ChangeLaws.{controls}
+use Rattle.segment_cores.specs.Stores.{Unheld}
+use Rattle.segment_cores.proofs.BlankLaws.{blank-unheld, blank-ground, blank-becomes}
+use Rattle.segment_cores.proofs.ChangeLaws.{controls}
 use Rattle.segment_cores.proofs.lay_out.Statement.{statement}
 use Rattle.segment_cores.proofs.lay_out.Tie as tie
 

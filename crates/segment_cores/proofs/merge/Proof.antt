@@ -7,7 +7,7 @@ use borrow.Author.Needs.{needs}
 use lib.IntN.{ℤ, pos}
 use lib.ListN.{set}
 use Rattle.words.specs.Places.{wiped}
-use Rattle.segment_places.proofs.StoreLaws.{past-low, past-high}
+use Rattle.segment_cores.proofs.StoreLaws.{past-low, past-high}
 use Rattle.segment_cores.proofs.merge.Statement.{statement}
 use Rattle.segment_cores.proofs.merge.Tie as tie
 

@@ -6,9 +6,9 @@ use lib.ListN.{length}
 use Rattle.ledger.specs.Records.{Ledger}
 use Rattle.ledger.specs.Units.{free}
 use Rattle.stored_forms.specs.Segments.{segmentRule}
-use Rattle.segment_places.specs.Stores.{Releasing}
-use Rattle.segment_places.specs.Views.{RunOf}
-use Rattle.segment_places.proofs.ChangeLaws.{controls, release-touches, release-becomes}
+use Rattle.segment_cores.specs.Stores.{Releasing}
+use Rattle.segment_cores.specs.Views.{RunOf}
+use Rattle.segment_cores.proofs.ChangeLaws.{controls, release-touches, release-becomes}
 use Rattle.segment_cores.proofs.NearLaws.{sitting, rest-below, rest-above}
 use Rattle.segment_cores.proofs.release.Statement.{statement}
 use Rattle.segment_cores.proofs.release.Tie as tie

@@ -1,7 +1,7 @@
 -- `segment_cores::search` meets its contract. Assumes nothing.
 use native.Mathlib.Omega.{arith}
 use lib.ListN.{length}
-use Rattle.segment_places.proofs.ChangeLaws.{controls}
+use Rattle.segment_cores.proofs.ChangeLaws.{controls}
 use Rattle.segment_cores.proofs.SearchLaws.{few-segments, index-long, root-inside, heap, search-none, leaf-low}
 use Rattle.segment_cores.proofs.SearchLaws.{leaf-inside, search-scan, search-found}
 use Rattle.segment_cores.proofs.search.Statement.{statement}

@@ -5,7 +5,7 @@ use mathlib.Core.List.{[], _∷_}
 use borrow.Author.Needs.{needs}
 use denote.Ref.{now}
 use Rattle.ledger.specs.Records.{Ledger, recordsOf, vacate, member, settle}
-use Rattle.segment_places.specs.Stores.{Releasing}
+use Rattle.segment_cores.specs.Stores.{Releasing}
 use Rattle.calls.specs.Pool.{Pool}
 use Rattle.segment_pool.specs.Promises.{segmentPool, vacated}
 use Rattle.calls.specs.Step.{give}

@@ -12,7 +12,7 @@ use Rattle.words.proofs.Tests.{or-r, not-lt}
 use Rattle.ledger.specs.Records.{Ledger, recordsOf}
 use Rattle.ledger.specs.Units.{span, free, lowestFit}
 use Rattle.stored_forms.specs.Segments.{segmentRule}
-use Rattle.segment_places.proofs.UnitLaws.{span-words}
+use Rattle.segment_cores.proofs.UnitLaws.{span-words}
 use Rattle.segment_cores.specs.Cores.{Searching, unitOr}
 use Rattle.calls.specs.Pool.{Pool}
 use Rattle.calls.specs.Engines.{segmentEngine}

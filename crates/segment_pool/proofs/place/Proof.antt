@@ -11,7 +11,7 @@ use Rattle.words.specs.Places.{wiped}
 use Rattle.ledger.specs.Records.{Ledger, row, recordsOf, enter}
 use Rattle.ledger.specs.Units.{span, addressAt}
 use Rattle.stored_forms.specs.Segments.{segmentRule}
-use Rattle.segment_places.specs.Stores.{Granting, Becomes}
+use Rattle.segment_cores.specs.Stores.{Granting, Becomes}
 use Rattle.calls.specs.Pool.{Pool, nextAfter}
 use Rattle.calls.specs.Step.{ask}
 use Rattle.calls.specs.Step as machine

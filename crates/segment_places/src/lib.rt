@@ -1,1 +1,0 @@
-// The laws by which a grant and a release change the control words: no code.

@@ -10,14 +10,14 @@ ghost use Rattle.stored_forms.specs.Segments.{largest};
 ghost use Rattle.segment_index.specs.Index.{indexOf};
 ghost use Rattle.segment_blocks.specs.Blocks.{Scan, Seeking, FirstFit, Chain, EndsAt, Reaches};
 ghost use Rattle.segment_blocks.specs.Upkeep.{OneBlock, Ready, Refreshed, RefreshedIf, Touched, firstFrom};
-use control_words::size_at;
-use control_words::weight_at;
 use segment_index::index_word;
 use segment_index::larger;
 use segment_index::lesser;
 use segment_index::raise;
 use segment_index::raise_most;
 use segment_index::segment_of;
+use segment_index::size_at;
+use segment_index::weight_at;
 use words::wipe_part;
 
 // The first free block of n words or more from `from` on. There is one: the leaf of the segment says so.

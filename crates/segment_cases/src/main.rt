@@ -45,7 +45,7 @@ fn print_signed(x: i32) {
     } else {
         print(b" ");
     }
-    io::print_decimal(1, control_words::size_of(x) as u64);
+    io::print_decimal(1, segment_index::size_of(x) as u64);
 }
 
 fn print_signed_words(s: &[i32]) {
@@ -63,7 +63,7 @@ fn mixed_signed(sum: u64, x: i32) -> u64
     ensures { λ r. ⌜ r < 4294967291 ⌝ }
 {
     let sign = if x < 0 { 1 } else { 0 };
-    mixed(mixed(sum, sign), control_words::size_of(x))
+    mixed(mixed(sum, sign), segment_index::size_of(x))
 }
 
 fn checksum_signed(s: &[i32]) -> u64
@@ -113,14 +113,14 @@ fn put_signed(s: &mut [i32], i: usize, v: u32) {
         return;
     }
     if v < 2147483648 {
-        control_words::put_free(s, i, v as usize);
+        segment_index::put_free(s, i, v as usize);
         return;
     }
     if v == 2147483648 {
         s[i] = -2147483648;
         return;
     }
-    control_words::put_held(s, i, 4294967296 - v as usize);
+    segment_index::put_held(s, i, 4294967296 - v as usize);
 }
 
 fn write_signed(s: &mut [i32], given: &[u32], count: usize) {

@@ -27,8 +27,8 @@ use Rattle.ledger.proofs.RunLaws.{Next, runs-next, runs-empty}
 use Rattle.ledger.proofs.UnitLaws.{valid-at}
 use Rattle.record_table.proofs.CheckLaws.{all-slots}
 use Rattle.stored_forms.specs.Segments.{segmentRule, startsAt, opens}
-use Rattle.control_words.specs.Control.{freeSize}
-use Rattle.control_words.proofs.SignLaws.{abs-neg, free-neg}
+use Rattle.segment_index.specs.Control.{freeSize}
+use Rattle.segment_index.proofs.SignLaws.{abs-neg, free-neg}
 use Rattle.segment_cores.specs.Stores.{arenaOf}
 use Rattle.segment_cores.specs.Views.{word, ownedBy, Whole, RunOf}
 use Rattle.segment_cores.proofs.ChangeLaws.{controls, arena-view, stored-word}

@@ -19,7 +19,7 @@ use Rattle.ledger.specs.Records.{Ledger, recordAt, recordsOf, slots, isEmpty}
 use Rattle.ledger.specs.Units.{first, past, valid, free}
 use Rattle.ledger.proofs.UnitLaws.{fits-facts, covers-in}
 use Rattle.stored_forms.specs.Segments.{segmentRule}
-use Rattle.control_words.specs.Control.{freeSize}
+use Rattle.segment_index.specs.Control.{freeSize}
 use Rattle.record_table.proofs.PairLaws.{every-last}
 use Rattle.record_table.proofs.CheckLaws.{all-slots}
 use Rattle.segment_cores.specs.Stores.{arenaOf}

@@ -14,8 +14,8 @@ use Rattle.words.specs.Lists.{Words}
 use Rattle.words.specs.Signed.{isZeroZ, zeroAtZ}
 use Rattle.words.proofs.CountedLaws.{every-of}
 use Rattle.words.proofs.Tests.{false-of}
-use Rattle.control_words.specs.Control.{freeSize}
-use Rattle.control_words.proofs.SignLaws.{free-neg}
+use Rattle.segment_index.specs.Control.{freeSize}
+use Rattle.segment_index.proofs.SignLaws.{free-neg}
 use Rattle.segment_blocks.specs.Blocks.{Blocks, Scan}
 use Rattle.segment_cores.specs.Views.{word, ownedBy, Whole, RunOf}
 use Rattle.segment_cores.proofs.WholeLaws.{Kind, held, free as free-kind, none, kind, whole-blocks}

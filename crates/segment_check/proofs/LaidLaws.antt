@@ -16,7 +16,7 @@ use Rattle.words.proofs.Tests.{and-l, and-r, and-i, or-l, or-r, eqb-same, lt-of
 use Rattle.words.proofs.ListLaws.{all-append}
 use Rattle.ledger.specs.Runs.{Run, run, Gapped, covered}
 use Rattle.stored_forms.specs.Segments.{weight}
-use Rattle.control_words.specs.Control.{freeSize}
+use Rattle.segment_index.specs.Control.{freeSize}
 use Rattle.segment_check.specs.Right.{runRight}
 use Rattle.record_table.specs.Partition.{total}
 use Rattle.segment_check.specs.BitMaps.{bitAt}

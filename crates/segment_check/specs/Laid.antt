@@ -19,7 +19,7 @@ use Rattle.segment_cores.specs.Stores.{arenaOf}
 use Rattle.segment_check.specs.Right.{runRight, heldRight, segmentRight}
 use Rattle.record_table.specs.Partition.{newAt, Noted, Joins, Entered, total}
 use Rattle.record_table.specs.Checks.{rowOk}
-use Rattle.control_words.specs.Control.{freeSize}
+use Rattle.segment_index.specs.Control.{freeSize}
 use Rattle.segment_check.specs.BitMaps.{bitAt}
 
 -- how many words from k on the map and the control word there say are held

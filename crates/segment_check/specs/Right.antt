@@ -1,7 +1,7 @@
 -- What the check of the segment pool compares: control words of records and of free runs, and the words of the index.
 -- Assumes nothing.
 use Prim.Native.Nat.{ℕ, _+_, _-_, _*_, max}
-use mathlib.Core.Bool.{Bool, true, _&&_, _||_}
+use mathlib.Core.Bool.{Bool, _&&_, _||_}
 use mathlib.Core.List.{List}
 use mathlib.Core.Path.{_≡_}
 use lib.Dec.{eqb, leb}
@@ -13,7 +13,7 @@ use Rattle.words.specs.Signed.{zeroAtZ}
 use Rattle.ledger.specs.Records.{isEmpty}
 use Rattle.ledger.specs.declared.Row.{Row}
 use Rattle.stored_forms.specs.Segments.{segmentSize, largest, firstBlock}
-use Rattle.control_words.specs.Control.{freeSize}
+use Rattle.segment_index.specs.Control.{freeSize}
 use Rattle.segment_blocks.specs.Upkeep.{Sizes}
 
 -- ---- the arena

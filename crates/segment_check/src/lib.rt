@@ -1,13 +1,13 @@
 // The check of the segment pool: blocks that lie side by side from the first word to the last, and an index that is
 // theirs. No unit is marked: the map has a bit for each word, set only where a record's block begins.
 // Slices are lent on as `&*slice`, which keeps pointer and length in registers (docs/DECISIONS.md, what crosses calls).
-use control_words::free_at;
-use control_words::is_held;
-use control_words::size_at;
 use ledger::Rule;
 use record_table::read_row;
+use segment_index::free_at;
+use segment_index::is_held;
 use segment_index::larger;
 use segment_index::lesser;
+use segment_index::size_at;
 use words::zero_part_signed;
 ghost use mathlib.Core.Path.{_≡_};
 ghost use mathlib.Core.Bool.{true, _||_};
@@ -19,7 +19,7 @@ ghost use Rattle.words.specs.Lists.{all, isZero};
 ghost use Rattle.words.specs.Counted.{every};
 ghost use Rattle.words.specs.Flags.{Says};
 ghost use Rattle.ledger.specs.Records.{slots};
-ghost use Rattle.control_words.specs.Control.{freeSize};
+ghost use Rattle.segment_index.specs.Control.{freeSize};
 ghost use Rattle.segment_check.specs.Right.{Measured, nodeRight, treeRight};
 ghost use Rattle.record_table.specs.Partition.{Noted};
 ghost use Rattle.segment_check.specs.BitMaps.{bitAt};

@@ -14,7 +14,7 @@ use Rattle.words.proofs.PlaceLaws.{length-stamp, stamp-same, stamp-sets, length
 use Rattle.ledger.specs.Records.{Ledger}
 use Rattle.ledger.specs.Units.{valid, free, owned}
 use Rattle.stored_forms.specs.Segments.{segmentRule, controlWord, segmentIndex, startsAt}
-use Rattle.control_words.proofs.SignLaws.{abs-neg}
+use Rattle.segment_index.proofs.SignLaws.{abs-neg}
 use Rattle.segment_index.specs.Index.{indexOf}
 use Rattle.segment_blocks.specs.Blocks.{Blocks}
 use Rattle.segment_blocks.specs.Upkeep.{Touched}

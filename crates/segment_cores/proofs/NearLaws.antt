@@ -14,8 +14,8 @@ use Rattle.ledger.specs.Records.{Ledger}
 use Rattle.ledger.specs.Units.{free}
 use Rattle.stored_forms.specs.Segments.{segmentRule, largest, firstBlock, startsAt, opens}
 use Rattle.stored_forms.proofs.SegmentLaws.{largest-at, largest-begun}
-use Rattle.control_words.specs.Control.{freeSize}
-use Rattle.control_words.proofs.SignLaws.{abs-neg, free-neg}
+use Rattle.segment_index.specs.Control.{freeSize}
+use Rattle.segment_index.proofs.SignLaws.{abs-neg, free-neg}
 use Rattle.segment_index.specs.Climb.{Later}
 use Rattle.segment_index.specs.Tree.{Heap, LastIn}
 use Rattle.segment_index.proofs.IndexLaws.{length-indexOf, index-heap, index-agrees}

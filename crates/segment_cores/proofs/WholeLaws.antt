@@ -9,7 +9,7 @@ use lib.IntN.{ℤ, pos, natAbs}
 use lib.ListN.{length, getD}
 use Rattle.words.proofs.Tests.{eqb-ne}
 use Rattle.stored_forms.specs.Segments.{freeFrom, opens}
-use Rattle.control_words.proofs.SignLaws.{abs-neg}
+use Rattle.segment_index.proofs.SignLaws.{abs-neg}
 use Rattle.segment_blocks.specs.Blocks.{Blocks}
 use Rattle.segment_cores.specs.Views.{word, ownedBy, Whole, RunOf}
 use Rattle.segment_cores.proofs.WordLaws.{clash, run-of, opens-before, word-held, word-body, word-open}

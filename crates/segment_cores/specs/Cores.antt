@@ -10,7 +10,7 @@ use lib.ListN.{length, getD}
 use Rattle.words.specs.Lists.{Words}
 use Rattle.ledger.specs.Records.{Ledger}
 use Rattle.stored_forms.specs.Segments.{segmentSize, startsAt, depth}
-use Rattle.control_words.specs.Control.{freeSize}
+use Rattle.segment_index.specs.Control.{freeSize}
 use Rattle.segment_index.specs.Index.{indexOf}
 use Rattle.segment_blocks.specs.Upkeep.{Sizes}
 use Rattle.segment_cores.specs.Stores.{Sound}

@@ -1,4 +1,6 @@
--- Laws of the segment tree and of the index.
+-- Laws of control words, of the number of segments, of the segment tree and of the index.
+pub mod SignLaws
+pub mod PowerLaws
 pub mod WayLaws
 pub mod BranchLaws
 pub mod ClimbLaws

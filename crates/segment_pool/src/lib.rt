@@ -40,7 +40,7 @@ fn right_lengths(s: u32, arena: &[i32], table: &[u32], index: &[u32]) -> bool
 {
     let w = arena.len();
     let t = table.len();
-    let one = control_words::is_segments(s);
+    let one = segment_index::is_segments(s);
     (2 <= w)
         & (w <= 16384)
         & one
@@ -68,7 +68,7 @@ fn is_stored(s: u32, next: u32, arena: &[i32], table: &[u32], index: &[u32]) -> 
         ≡ stored segmentEngine (segmentPool s next (now (arena .entry)) (now (table .entry)) (now (index .entry))) ⌝ }
 {
     ranged(arena);
-    let g = segment_index::segment_size(arena.len(), control_words::depth_of(s));
+    let g = segment_index::segment_size(arena.len(), segment_index::depth_of(s));
     segment_check::is_shown(next, &*arena, &*table, &*index, s as usize, g)
 }
 
@@ -144,7 +144,7 @@ pub fn format(s: u32, arena: &mut [i32], table: &mut [u32], index: &mut [u32]) -
             answer: call_parts::refused(8),
         };
     }
-    let g = segment_index::segment_size(arena.len(), control_words::depth_of(s));
+    let g = segment_index::segment_size(arena.len(), segment_index::depth_of(s));
     segment_cores::lay_out(arena, index, s as usize, g);
     words::wipe(table);
     let none = Row {
@@ -197,7 +197,7 @@ fn place(
         (segmentPool s (head .next) (now (arena .entry)) (now (table .entry)) (now (index .entry))) ⌝ }
 {
     let n = record_table::span_of(Rule { unit: 1, lead: 1 }, words);
-    let g = segment_index::segment_size(arena.len(), control_words::depth_of(s));
+    let g = segment_index::segment_size(arena.len(), segment_index::depth_of(s));
     segment_cores::allot(arena, index, s as usize, g, at, n);
     let address = (at + 1) as u32;
     let new = Row {
@@ -234,7 +234,7 @@ fn grant(
         return no_effect(4);
     }
     ranged(arena);
-    let d = control_words::depth_of(s);
+    let d = segment_index::depth_of(s);
     let at = segment_cores::search(arena, index, s as usize, d, words + 1);
     if at == arena.len() {
         return no_effect(5);
@@ -305,7 +305,7 @@ fn give_back(
     ranged(arena);
     let at = record_table::first_unit(Rule { unit: 1, lead: 1 }, named);
     let n = record_table::span_of(Rule { unit: 1, lead: 1 }, named.words);
-    let d = control_words::depth_of(s);
+    let d = segment_index::depth_of(s);
     let g = segment_index::segment_size(arena.len(), d);
     segment_cores::release(arena, index, s as usize, d, g, at, n);
     let none = Row {

@@ -75,7 +75,7 @@ fn mark(s: &mut [i32], i: usize, v: u32) {
     if i >= s.len() {
         return;
     }
-    control_words::put_free(s, i, (v % 2147483648) as usize);
+    segment_index::put_free(s, i, (v % 2147483648) as usize);
 }
 
 fn mark_all(s: &mut [i32], from: usize, to: usize, v: u32) {
@@ -92,7 +92,7 @@ fn is_marked(s: &[i32], i: usize, v: u32) -> bool {
         return false;
     }
     let n = (v % 2147483648) as usize;
-    (control_words::size_at(s, i) == n) & (control_words::free_at(s, i) == n)
+    (segment_index::size_at(s, i) == n) & (segment_index::free_at(s, i) == n)
 }
 
 // Whether each word from `from` up to `to` is what mark makes of v.
@@ -112,7 +112,7 @@ fn is_held(s: &[i32], i: usize, n: usize) -> bool {
     if i >= s.len() {
         return false;
     }
-    (control_words::size_at(s, i) == n) & (control_words::free_at(s, i) == 0)
+    (segment_index::size_at(s, i) == n) & (segment_index::free_at(s, i) == 0)
 }
 
 // ---- blocks

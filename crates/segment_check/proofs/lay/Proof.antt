@@ -10,7 +10,7 @@ use lib.IntN.{ℤ, pos, natAbs}
 use lib.ListN.{length, getD}
 use Rattle.words.proofs.Tests.{not-true, not-false}
 use Rattle.stored_forms.specs.Segments.{largest}
-use Rattle.control_words.specs.Control.{freeSize}
+use Rattle.segment_index.specs.Control.{freeSize}
 use Rattle.segment_blocks.specs.Blocks.{Scan}
 use Rattle.segment_blocks.proofs.ScanLaws.{Coming, come-start, come-on, come-end, leaf-on}
 use Rattle.segment_check.specs.Laid.{Laid, HeldBlock, FreeBlock, Kept, Led}

@@ -10,8 +10,8 @@ use lib.IntN.{pos, natAbs}
 use lib.ListN.{length, getD}
 use Rattle.words.proofs.Tests.{not-true, not-false}
 use Rattle.ledger.specs.declared.Row.{Row}
-use Rattle.control_words.specs.Control.{freeSize}
-use Rattle.control_words.proofs.SignLaws.{abs-neg, free-neg}
+use Rattle.segment_index.specs.Control.{freeSize}
+use Rattle.segment_index.proofs.SignLaws.{abs-neg, free-neg}
 use Rattle.segment_check.proofs.HeadLaws.{head-inside, held-word, joined-none, joined-live}
 use Rattle.segment_check.proofs.map_row.Statement.{statement}
 use Rattle.segment_check.proofs.map_row.Tie as tie

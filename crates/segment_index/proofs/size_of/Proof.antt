@@ -1,13 +1,13 @@
--- `control_words::size_of` meets its contract. Assumes nothing.
+-- `segment_index::size_of` meets its contract. Assumes nothing.
 use mathlib.Core.Path.{subst, _≡_, _∙_, sym}
 use borrow.Author.Needs.{needs}
 use lib.IntN.{pos, negℤ, _-ℤ_}
 use mir.Facts.{toZ-ofZ, sfits-widen}
 use mir.Syntax.{w32, w64}
 use mir.Val.{Fits, toZ, ofZ}
-use Rattle.control_words.proofs.SignLaws.{zero-sub, neg-fits-wide, neg-nonneg, ge-nonneg, abs-fits, abs-neg}
-use Rattle.control_words.proofs.size_of.Statement.{statement}
-use Rattle.control_words.proofs.size_of.Tie as tie
+use Rattle.segment_index.proofs.SignLaws.{zero-sub, neg-fits-wide, neg-nonneg, ge-nonneg, abs-fits, abs-neg}
+use Rattle.segment_index.proofs.size_of.Statement.{statement}
+use Rattle.segment_index.proofs.size_of.Tie as tie
 
 cast-result : tie.Need-cast-result
 cast-result c = rw (toZ-ofZ (c .before .fits .v)) (sfits-widen tt (c .before .fits .v))

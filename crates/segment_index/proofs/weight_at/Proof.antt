@@ -1,12 +1,12 @@
--- `control_words::weight_at` meets its contract. Assumes nothing.
+-- `segment_index::weight_at` meets its contract. Assumes nothing.
 use mathlib.Core.Path.{_∙_, ap}
 use borrow.Author.Needs.{needs}
 use lib.IntN.{pos}
 use lib.ListN.{getD}
 use Rattle.stored_forms.specs.Segments.{weight}
-use Rattle.control_words.proofs.SignLaws.{reads-back}
-use Rattle.control_words.proofs.weight_at.Statement.{statement}
-use Rattle.control_words.proofs.weight_at.Tie as tie
+use Rattle.segment_index.proofs.SignLaws.{reads-back}
+use Rattle.segment_index.proofs.weight_at.Statement.{statement}
+use Rattle.segment_index.proofs.weight_at.Tie as tie
 
 mul-z : tie.Need-mul-z
 mul-z c = search needs

@@ -1,11 +1,11 @@
--- `control_words::size_at` meets its contract. Assumes nothing.
+-- `segment_index::size_at` meets its contract. Assumes nothing.
 use mathlib.Core.Path.{_∙_, ap}
 use borrow.Author.Needs.{needs}
 use lib.IntN.{pos, natAbs}
 use lib.ListN.{getD}
-use Rattle.control_words.proofs.SignLaws.{reads-back}
-use Rattle.control_words.proofs.size_at.Statement.{statement}
-use Rattle.control_words.proofs.size_at.Tie as tie
+use Rattle.segment_index.proofs.SignLaws.{reads-back}
+use Rattle.segment_index.proofs.size_at.Statement.{statement}
+use Rattle.segment_index.proofs.size_at.Tie as tie
 
 mul-z : tie.Need-mul-z
 mul-z c = search needs

@@ -1,8 +1,8 @@
--- `control_words::put_free` meets its contract. Assumes nothing.
+-- `segment_index::put_free` meets its contract. Assumes nothing.
 use borrow.Author.Needs.{needs}
-use Rattle.control_words.proofs.SignLaws.{reads-back}
-use Rattle.control_words.proofs.put_free.Statement.{statement}
-use Rattle.control_words.proofs.put_free.Tie as tie
+use Rattle.segment_index.proofs.SignLaws.{reads-back}
+use Rattle.segment_index.proofs.put_free.Statement.{statement}
+use Rattle.segment_index.proofs.put_free.Tie as tie
 
 cast-free-word : tie.Need-cast-free-word
 cast-free-word c = search needs

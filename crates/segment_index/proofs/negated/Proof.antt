@@ -1,9 +1,9 @@
--- `control_words::negated` meets its contract. Assumes nothing.
+-- `segment_index::negated` meets its contract. Assumes nothing.
 use mathlib.Core.Path.{_∙_}
 use mir.Facts.{toZ-ofZ}
-use Rattle.control_words.proofs.SignLaws.{zero-sub, neg-fits}
-use Rattle.control_words.proofs.negated.Statement.{statement}
-use Rattle.control_words.proofs.negated.Tie as tie
+use Rattle.segment_index.proofs.SignLaws.{zero-sub, neg-fits}
+use Rattle.segment_index.proofs.negated.Statement.{statement}
+use Rattle.segment_index.proofs.negated.Tie as tie
 
 sub-result : tie.Need-sub-result
 sub-result c = rw (toZ-ofZ (c .fits .v), zero-sub (c .args .v)) (neg-fits (c .args .v) (c .pre))

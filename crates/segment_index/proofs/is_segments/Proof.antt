@@ -1,8 +1,8 @@
--- `control_words::is_segments` meets its contract. Assumes nothing.
+-- `segment_index::is_segments` meets its contract. Assumes nothing.
 use mathlib.Core.Path.{sym}
-use Rattle.control_words.proofs.PowerLaws.{power-large, ones-power}
-use Rattle.control_words.proofs.is_segments.Statement.{statement}
-use Rattle.control_words.proofs.is_segments.Tie as tie
+use Rattle.segment_index.proofs.PowerLaws.{power-large, ones-power}
+use Rattle.segment_index.proofs.is_segments.Statement.{statement}
+use Rattle.segment_index.proofs.is_segments.Tie as tie
 
 returns : tie.Need-returns
 returns c = sym (power-large (c .before .args .s) (c .if1 .taken))

@@ -1,9 +1,9 @@
--- `control_words::put_held` meets its contract. Assumes nothing.
+-- `segment_index::put_held` meets its contract. Assumes nothing.
 use native.Mathlib.Omega.{arith}
 use borrow.Author.Needs.{needs}
-use Rattle.control_words.proofs.SignLaws.{reads-back}
-use Rattle.control_words.proofs.put_held.Statement.{statement}
-use Rattle.control_words.proofs.put_held.Tie as tie
+use Rattle.segment_index.proofs.SignLaws.{reads-back}
+use Rattle.segment_index.proofs.put_held.Statement.{statement}
+use Rattle.segment_index.proofs.put_held.Tie as tie
 
 cast-free-word : tie.Need-cast-free-word
 cast-free-word c = search needs

@@ -1,4 +1,4 @@
--- `control_words::is_held` meets its contract: words with the same bits are the same. Assumes nothing.
+-- `segment_index::is_held` meets its contract: words with the same bits are the same. Assumes nothing.
 use native.Mathlib.Omega.{arith}
 use mathlib.Core.Path.{_≡_, _∙_, sym, ap}
 use borrow.Author.Needs.{needs}
@@ -9,9 +9,9 @@ use lib.ListN.{getD}
 use mir.Syntax.{w32}
 use mir.Val.{toZ, ofZ}
 use Rattle.words.proofs.Tests.{eqb-eq, eqb-same}
-use Rattle.control_words.proofs.SignLaws.{reads-back}
-use Rattle.control_words.proofs.is_held.Statement.{statement}
-use Rattle.control_words.proofs.is_held.Tie as tie
+use Rattle.segment_index.proofs.SignLaws.{reads-back}
+use Rattle.segment_index.proofs.is_held.Statement.{statement}
+use Rattle.segment_index.proofs.is_held.Tie as tie
 
 cast-free-word : tie.Need-cast-free-word
 cast-free-word c = search needs

@@ -1,8 +1,8 @@
--- `control_words::free_word` meets its contract. Assumes nothing.
+-- `segment_index::free_word` meets its contract. Assumes nothing.
 use borrow.Author.Needs.{needs}
 use mir.Facts.{toZ-ofZ}
-use Rattle.control_words.proofs.free_word.Statement.{statement}
-use Rattle.control_words.proofs.free_word.Tie as tie
+use Rattle.segment_index.proofs.free_word.Statement.{statement}
+use Rattle.segment_index.proofs.free_word.Tie as tie
 
 cast-result : tie.Need-cast-result
 cast-result c = search needs

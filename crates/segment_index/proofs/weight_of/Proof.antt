@@ -1,11 +1,11 @@
--- `control_words::weight_of` meets its contract. Assumes nothing.
+-- `segment_index::weight_of` meets its contract. Assumes nothing.
 use mathlib.Core.Path.{_∙_, ap}
 use borrow.Author.Needs.{needs}
 use lib.IntN.{natAbs}
 use mir.Facts.{toZ-ofZ}
-use Rattle.control_words.proofs.SignLaws.{weight-held, weight-else}
-use Rattle.control_words.proofs.weight_of.Statement.{statement}
-use Rattle.control_words.proofs.weight_of.Tie as tie
+use Rattle.segment_index.proofs.SignLaws.{weight-held, weight-else}
+use Rattle.segment_index.proofs.weight_of.Statement.{statement}
+use Rattle.segment_index.proofs.weight_of.Tie as tie
 
 size-of-requires : tie.Need-size-of-requires
 size-of-requires c κs = search needs

@@ -1,11 +1,11 @@
--- `control_words::free_size` meets its contract. Assumes nothing.
+-- `segment_index::free_size` meets its contract. Assumes nothing.
 use mathlib.Core.Path.{_∙_, ap}
 use borrow.Author.Needs.{needs}
 use lib.IntN.{natAbs}
 use mir.Facts.{toZ-ofZ}
-use Rattle.control_words.proofs.SignLaws.{size-free, size-else}
-use Rattle.control_words.proofs.free_size.Statement.{statement}
-use Rattle.control_words.proofs.free_size.Tie as tie
+use Rattle.segment_index.proofs.SignLaws.{size-free, size-else}
+use Rattle.segment_index.proofs.free_size.Statement.{statement}
+use Rattle.segment_index.proofs.free_size.Tie as tie
 
 size-of-requires : tie.Need-size-of-requires
 size-of-requires c κs = search needs

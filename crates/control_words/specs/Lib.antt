@@ -1,2 +1,0 @@
--- What code reads off a control word.
-pub mod Control

@@ -92,8 +92,18 @@ fn is_shown_sparse(root: u32, next: u32, arena: &[u32], table: &[u32]) -> bool
     is_shown_over(root, next, &*arena, &*table, &mut map, &mut seen, 128)
 }
 
-// At most 2,048 cells.
+// At most 1,024 cells.
 fn is_shown_middle(root: u32, next: u32, arena: &[u32], table: &[u32]) -> bool
+    requires { ⌜ (length (now arena) ≤ 2048) × (slots (now table) ≤ 256) ⌝ }
+    ensures { λ r. ⌜ Says r (Shown root next (now (arena .entry)) (now (table .entry))) ⌝ }
+{
+    let mut map: [u8; 1024] = [0; 1024];
+    let mut seen: [u8; 128] = [0; 128];
+    is_shown_over(root, next, &*arena, &*table, &mut map, &mut seen, 128)
+}
+
+// At most 2,048 cells.
+fn is_shown_wide(root: u32, next: u32, arena: &[u32], table: &[u32]) -> bool
     requires { ⌜ (length (now arena) ≤ 4096) × (slots (now table) ≤ 256) ⌝ }
     ensures { λ r. ⌜ Says r (Shown root next (now (arena .entry)) (now (table .entry))) ⌝ }
 {
@@ -129,10 +139,13 @@ fn is_shown_other(root: u32, next: u32, arena: &[u32], table: &[u32]) -> bool
 {
     let slots = table.len() / 3;
     if arena.len() <= 4096 {
-        if slots <= 16 {
+        if 16 < slots {
+            return is_shown_busy(root, next, &*arena, &*table);
+        }
+        if arena.len() <= 2048 {
             return is_shown_middle(root, next, &*arena, &*table);
         }
-        return is_shown_busy(root, next, &*arena, &*table);
+        return is_shown_wide(root, next, &*arena, &*table);
     }
     if slots <= 32 {
         return is_shown_sparse(root, next, &*arena, &*table);

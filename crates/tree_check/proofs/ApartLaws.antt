@@ -1,4 +1,4 @@
--- A valid table whose records the map leads through: its free runs lie apart from the first unit to the last, with
+-- A valid table whose records the map leads through: its free runs lie apart from the first cell to the last, with
 -- records between them. Assumes nothing.
 use Prim.Native.Nat.{ℕ, suc, _+_, _-_, _/_, _≤_, _<_}
 use native.Mathlib.Omega.{arith}

@@ -40,7 +40,7 @@ gapped-wider a e N [] h g = tt
 gapped-wider a e N (r ∷ rs) h g =
     (g .0, g .1, omega arith, gapped-wider (suc (r .start + r .size)) e N rs h (g .3))
 
--- runs up to unit e, and runs behind it
+-- runs up to cell e, and runs behind it
 pub gapped-join : (a e N : ℕ) (xs ys : List Run) → a ≤ earliest e → e ≤ N → Gapped a e xs → Gapped (earliest e) N ys
     → Gapped a N (xs ++ ys)
 gapped-join a e N [] ys l h g k = gapped-weaken a (earliest e) N ys l k

@@ -1,4 +1,4 @@
--- Searches in a map, and units that they lead through. Assumes nothing.
+-- Searches in a map, and cells that they lead through. Assumes nothing.
 use Prim.Native.Nat.{ℕ, _+_, _≤_, _<_}
 use native.Mathlib.Decide.{decLe, decLt}
 use native.Mathlib.Omega.{arith}
@@ -8,7 +8,7 @@ use lib.Dec.{eqb}
 use lib.ListN.{getD}
 use Rattle.words.specs.Lists.{Words}
 use Rattle.words.proofs.Tests.{eqb-eq, eqb-same}
-use Rattle.tree_check.specs.Maps.{isEntries, unitsAt, Covers, CoversAll}
+use Rattle.tree_check.specs.Maps.{isEntries, cellsAt, Covers, CoversAll}
 use Rattle.record_table.specs.Leads.{here, more}
 use Rattle.record_table.proofs.LeadLaws.{leads-up}
 use Rattle.tree_check.specs.Maps.{Next, Leads}
@@ -16,7 +16,7 @@ use Rattle.words.specs.Flags.{Says}
 
 -- ---- one search
 
--- a byte for each unit
+-- a byte for each cell
 pub byte-next : (map : Words) (k : ℕ) → isEntries map ≡ false → 0 < getD map k 0 → Next map k (getD map k 0)
 byte-next map k bytes h = record {
   place = k;
@@ -46,9 +46,9 @@ module _ {map : Words} where
           split (no l) (yes m) = absurd (a .reached e .1 (b .place) (b .reached e .0) m .1 (b .is))
           split (no l) (no m) =
               let same : a .place ≡ b .place = omega arith in
-              sym (a .units) ∙ ap (unitsAt map) same ∙ b .units
+              sym (a .units) ∙ ap (cellsAt map) same ∙ b .units
 
-  -- ---- units that are led through
+  -- ---- cells that are led through
 
   pub leads-cover : {lo hi : ℕ} → Leads map lo hi → CoversAll map lo hi
   leads-cover (here e) u a b = absurd (omega arith)

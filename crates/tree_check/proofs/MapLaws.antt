@@ -41,7 +41,7 @@ past-is : (r : Row) → past cellRule r ≡ first cellRule r + span cellRule (r 
 unfolding past
 past-is r = refl
 
--- a record with units lies in the arena
+-- a record with cells lies in the arena
 module _ (W next : ℕ) (r : Row) (n : ℕ) (some : n ≢ 0) (ok : rowOk cellRule W next r ≡ true)
     (units : n ≡ unitsOf cellRule r) where
   live-row : Fitted cellRule W next r × (n ≡ span cellRule (r .words))
@@ -69,7 +69,7 @@ home-low W next r most ok = go (isEmpty r) refl
         let some = f .nonempty in
         omega arith
 
--- the map with the units of slot i
+-- the map with the cells of slot i
 known-next : (W next : ℕ) (t map map′ : Words) (i n : ℕ) → Joins cellRule W next t i n
     → Adds map map′ (first cellRule (recordAt t i)) n → Known t map i → Known t map′ (i + 1)
 known-next W next t map map′ i n (ok, new, units) adds known u c =
@@ -147,7 +147,7 @@ module _ (W next : ℕ) (t map map′ : Words) (i n : ℕ) (in-table : i < slots
             (led-new (ap (λ k. isLive (recordAt t k)) (sym e) ∙ live))
         go (no e) = led-old j (omega arith) live (led j (omega arith) live)
 
--- the first records of a valid table have few units together
+-- the first records of a valid table have few cells together
 pub rows-few : (W next : ℕ) (t : Words) → valid cellRule W next (recordsOf t) ≡ true
     → {i held : ℕ} → i ≤ slots t → Entered cellRule W next t i held → held ≤ W
 rows-few W next t good {i} h e =

@@ -11,24 +11,24 @@ use lib.Seq.{getD-set-same, getD-set-other}
 use Rattle.words.specs.Lists.{Words, all, isZero}
 use Rattle.words.proofs.Tests.{eqb-eq}
 use Rattle.words.proofs.ListLaws.{zeros-at}
-use Rattle.tree_check.specs.Maps.{pairAt, isEntries, firstAt, unitsAt, Covers, Adds}
+use Rattle.tree_check.specs.Maps.{pairAt, isEntries, firstAt, cellsAt, Covers, Adds}
 use Rattle.record_table.specs.Leads.{here, more}
 use Rattle.tree_check.specs.Maps.{Next, Leads, Bare, Grows}
 use Rattle.tree_check.proofs.LeadLaws.{byte-next, byte-found}
 
 -- ---- no span
 
--- a map that is all zero has no units at any place
-pub no-units : (map : Words) → all isZero map ≡ true → (p : ℕ) → unitsAt map p ≡ 0
+-- a map that is all zero has no cells at any place
+pub no-units : (map : Words) → all isZero map ≡ true → (p : ℕ) → cellsAt map p ≡ 0
 no-units map zeros p = go (isEntries map) refl
   where
-    go : (b : Bool) → isEntries map ≡ b → unitsAt map p ≡ 0
+    go : (b : Bool) → isEntries map ≡ b → cellsAt map p ≡ 0
     go true e = rw e (omega (arith, zeros-at map zeros (4 * p + 2), zeros-at map zeros (4 * p + 2 + 1)))
     go false e = rw e (zeros-at map zeros p)
 
 -- ---- a span that is noted
 
--- in a byte, where the map has one for each unit
+-- in a byte, where the map has one for each cell
 pub adds-byte : (map map′ : Words) (lo n at v : ℕ) → isEntries map′ ≡ false → at < length map′ → lo ≤ at
     → at + v ≤ lo + n → Adds map map′ lo n → Adds map (set map′ at v) lo n
 adds-byte map map′ lo n at v bytes h low high old u (p, a, b) out =
@@ -43,8 +43,8 @@ adds-byte map map′ lo n at v bytes h low high old u (p, a, b) out =
         absurd (out (omega arith) (omega arith))
     go (no e) a b = let there = getD-set-other map′ at p v 0 e in old u (p, rw bytes a, rw bytes (omega arith)) out
 
--- A loop writes them: it has come to unit `at`, and `left` units are left. A map that has the bytes up to there leads
--- from unit lo to it.
+-- A loop writes them: it has come to cell `at`, and `left` cells are left. A map that has the bytes up to there leads
+-- from cell lo to it.
 pub record Spanning (map map′ : Words) (lo n at left : ℕ) : Type 0 where
   pub long : length map′ ≡ length map
   pub sum : at + left ≡ lo + n
@@ -199,14 +199,14 @@ module _ (map : Words) (i a b c d : ℕ) where
           let first′ = noted-other (4 * p + 1) (λ x y. e (omega arith)) in
           rw (still, entries) (omega arith)
 
-      other-units : (p : ℕ) → 4 * p ≢ i → unitsAt noted p ≡ unitsAt map p
+      other-units : (p : ℕ) → 4 * p ≢ i → cellsAt noted p ≡ cellsAt map p
       other-units p e =
           let units = noted-other (4 * p + 2) (λ x y. e (omega arith)) in
           let units′ = noted-other (4 * p + 2 + 1) (λ x y. e (omega arith)) in
           rw (still, entries) (omega arith)
 
-      -- a place with units is another one
-      apart : (p : ℕ) → 0 < unitsAt map p → 4 * p ≢ i
+      -- a place with cells is another one
+      apart : (p : ℕ) → 0 < cellsAt map p → 4 * p ≢ i
       apart p h e =
           let is : pairAt map (4 * p + 2) ≡ 0 = ap (λ j. pairAt map (j + 2)) e ∙ empty in
           let units : 0 < pairAt map (4 * p + 2) = rw entries at h in
@@ -233,8 +233,8 @@ module _ (map : Words) (i a b c d : ℕ) where
             );
           }
 
-      -- the search for unit lo has met no empty place before
-      module _ (begin : 4 * (lo / 128) ≤ i) (met : (q : ℕ) → lo / 128 ≤ q → 4 * q < i → 0 < unitsAt map q) where
+      -- the search for cell lo has met no empty place before
+      module _ (begin : 4 * (lo / 128) ≤ i) (met : (q : ℕ) → lo / 128 ≤ q → 4 * q < i → 0 < cellsAt map q) where
         entry-bare : (p : ℕ) → Bare map p → lo / 128 ≤ p → p < 96 → Bare noted (p + 1)
         entry-bare p bare l h e q g =
             other-units q (λ is. let full = met p l (omega arith) in omega (arith, bare entries p (omega arith)))
@@ -272,17 +272,17 @@ module _ (map : Words) (i a b c d : ℕ) where
 
 -- the search for a place goes on
 pub entry-met : (map : Words) (lo i : ℕ) → isEntries map ≡ true → i % 4 ≡ 0
-    → ((q : ℕ) → lo / 128 ≤ q → 4 * q < i → 0 < unitsAt map q) → 0 < pairAt map (i + 2)
-    → (q : ℕ) → lo / 128 ≤ q → 4 * q < i + 4 → 0 < unitsAt map q
+    → ((q : ℕ) → lo / 128 ≤ q → 4 * q < i → 0 < cellsAt map q) → 0 < pairAt map (i + 2)
+    → (q : ℕ) → lo / 128 ≤ q → 4 * q < i + 4 → 0 < cellsAt map q
 entry-met map lo i entries whole met full q l h = go (decLt (4 * q) i)
   where
-    go : Dec (4 * q < i) → 0 < unitsAt map q
+    go : Dec (4 * q < i) → 0 < cellsAt map q
     go (yes g) = met q l g
     go (no g) = let at : 4 * q ≡ i = omega arith in rw (entries, at) full
 
 -- nothing is written where all places from the first on are taken
 pub entry-full : (map : Words) (lo n i : ℕ) → length map ≤ i + 3 → isEntries map ≡ true
-    → ((q : ℕ) → lo / 128 ≤ q → 4 * q < i → 0 < unitsAt map q) → Grows map map lo n
+    → ((q : ℕ) → lo / 128 ≤ q → 4 * q < i → 0 < cellsAt map q) → Grows map map lo n
 entry-full map lo n i end entries met =
     let size = eqb-eq (length map) 384 entries in
     let none : (p : ℕ) → Bare map p → lo / 128 ≤ p → p < 96 → ⊥ =
@@ -294,7 +294,7 @@ entry-full map lo n i end entries met =
       leads = λ p b l h. absurd (none p b l h);
     }
 
--- no units are noted
+-- no cells are noted
 pub grows-none : (map : Words) (lo n : ℕ) → n ≡ 0 → Grows map map lo n
 grows-none map lo n e = record {
   adds = λ u k out. k;
@@ -314,7 +314,7 @@ getD-past (x ∷ l) (suc k) h = getD-past l k (omega arith)
 pub record Searching (map : Words) (k i : ℕ) : Type 0 where
   pub whole : i % 4 ≡ 0
   pub begin : 4 * (k / 128) ≤ i
-  pub met : (q : ℕ) → k / 128 ≤ q → 4 * q < i → (0 < unitsAt map q) × (firstAt map q ≢ k)
+  pub met : (q : ℕ) → k / 128 ≤ q → 4 * q < i → (0 < cellsAt map q) × (firstAt map q ≢ k)
 
 pub search-start : (map : Words) (k : ℕ) → Searching map k (4 * (k / 128))
 search-start map k = record { whole = omega arith; begin = omega arith; met = λ q l h. absurd (omega arith) }
@@ -326,7 +326,7 @@ module _ {map : Words} {k i : ℕ} (entries : isEntries map ≡ true) (s : Searc
       let begin = s .begin in
       record { whole = omega arith; begin = omega arith; met = λ q l h. go q l h (decLt (4 * q) i) }
     where
-      go : (q : ℕ) → k / 128 ≤ q → 4 * q < i + 4 → Dec (4 * q < i) → (0 < unitsAt map q) × (firstAt map q ≢ k)
+      go : (q : ℕ) → k / 128 ≤ q → 4 * q < i + 4 → Dec (4 * q < i) → (0 < cellsAt map q) × (firstAt map q ≢ k)
       go q l h (yes g) = s .met q l g
       go q l h (no g) =
           let whole = s .whole in
@@ -356,7 +356,7 @@ module _ {map : Words} {k i : ℕ} (entries : isEntries map ≡ true) (s : Searc
       let (low, before) = f .reached entries in
       go low before units some (decLt (4 * f .place) i) (decLt i (4 * f .place)) (decLt (i + 3) (length map))
     where
-      go : k / 128 ≤ f .place → ((q : ℕ) → k / 128 ≤ q → q < f .place → (0 < unitsAt map q) × (firstAt map q ≢ k))
+      go : k / 128 ≤ f .place → ((q : ℕ) → k / 128 ≤ q → q < f .place → (0 < cellsAt map q) × (firstAt map q ≢ k))
           → pairAt map (4 * f .place + 2) ≡ x → 0 < x → Dec (4 * f .place < i) → Dec (i < 4 * f .place)
           → Dec (i + 3 < length map) → ⊥
       go low before units some (yes l) d e = s .met (f .place) low l .1 (f .is)

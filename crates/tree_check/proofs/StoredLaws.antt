@@ -1,4 +1,4 @@
--- Free blocks and records from the first unit to the last, with as many units as the arena has: the table is a valid
+-- Free blocks and records from the first cell to the last, with as many cells as the arena has: the table is a valid
 -- ledger's, and the arena has the tree of its free runs; and back. Assumes nothing.
 use Prim.Native.Nat.{ℕ, _+_, _/_, _≤_, _<_}
 use native.Mathlib.Decide.{decLe}

@@ -58,7 +58,7 @@ module _ {m map : Words} {N : ℕ} where
     abbrev b : Tree
     b = y .tree
 
-    -- a unit in none of the runs lies before the node, or behind it
+    -- a cell in none of the runs lies before the node, or behind it
     join-known : (u : ℕ) → k ≤ u → u < last → covered (inorder (node a q b)) u ≡ false → Covers map u
     join-known u lo hi e =
         let parts = sym (covered-append (inorder a) (q ∷ inorder b) u) ∙ e in

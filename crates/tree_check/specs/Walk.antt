@@ -13,7 +13,7 @@ use Rattle.stored_forms.specs.Blocks.{Zeros, Holds}
 use Rattle.record_table.specs.Partition.{total}
 use Rattle.tree_check.specs.Maps.{Covers, Leads, Roomy}
 
--- where a free run may begin at the earliest, behind blocks that end at unit k: no two free runs touch
+-- where a free run may begin at the earliest, behind blocks that end at cell k: no two free runs touch
 abbrev pub earliest : ℕ → ℕ
 earliest k = k + min k 1
 
@@ -21,27 +21,27 @@ earliest k = k + min k 1
 abbrev pub under : ℕ → Run → Bool
 under z r = ltb (r .size) z
 
--- N units of two words, and a map with room for them; a link to any of them fits in 16 bits.
+-- N cells of two words, and a map with room for them; a link to any of them fits in 16 bits.
 pub record Ready (m map : Words) (N : ℕ) : Type 0 where
   pub places : Roomy map N
   pub cells : 2 * N ≤ length m
   pub small : N < 65536
 
--- A block of z cells at cell c lies between units k and hi, and is shorter than the limit.
+-- A block of z cells at cell c lies between cells k and hi, and is shorter than the limit.
 pub record Between (k hi limit c z : ℕ) : Type 0 where
   pub low : k ≤ c
   pub some : 1 ≤ z
   pub high : c + z ≤ hi
   pub short : z < limit
 
--- The node of z cells at cell c follows records that begin at unit k, and its block's other words are zero.
+-- The node of z cells at cell c follows records that begin at cell k, and its block's other words are zero.
 pub record Placed (m map : Words) (k c z : ℕ) : Type 0 where
   pub apart : earliest k ≤ c
   pub led : Leads map k c
   pub clear : Zeros m (2 * c + 2) (2 * (c + z))
 
--- A tree lies at the link l: its runs are shorter than the limit and lie apart from unit k up to unit `next`, where
--- every other unit is held. `free` counts their units besides the `before` that were counted already.
+-- A tree lies at the link l: its runs are shorter than the limit and lie apart from cell k up to cell `next`, where
+-- every other cell is held. `free` counts their cells besides the `before` that were counted already.
 pub record Found (m map : Words) (N l limit k before next free : ℕ) : Type 0 where
   pub tree : Tree
   pub linked : link tree ≡ l
@@ -55,19 +55,19 @@ pub record Found (m map : Words) (N l limit k before next free : ℕ) : Type 0 w
   pub few : free ≤ next
   pub known : (u : ℕ) → k ≤ u → u < next → covered (inorder tree) u ≡ false → Covers map u
 
--- The runs lie apart from unit k on, and the map leads to each from the one before.
+-- The runs lie apart from cell k on, and the map leads to each from the one before.
 abbrev pub Apart : Words → ℕ → List Run → Type 0
 Apart map k [] = Unit {0}
 Apart map k (r ∷ rs) =
     (earliest k ≤ r .start) × Leads map k (r .start) × (1 ≤ r .size) × Apart map (r .start + r .size) rs
 
--- the unit past the last of some runs, k if there is none
+-- the cell past the last of some runs, k if there is none
 abbrev pub ends : ℕ → List Run → ℕ
 ends k [] = k
 ends k (r ∷ rs) = ends (r .start + r .size) rs
 
--- The tree t lies at the link l: its runs are shorter than the limit, and lie apart from unit k up to
--- unit N.
+-- The tree t lies at the link l: its runs are shorter than the limit, and lie apart from cell k up to
+-- cell N.
 pub record LiesAt (m map : Words) (N l limit k : ℕ) (t : Tree) : Type 0 where
   pub linked : link t ≡ l
   pub holds : Holds formOne m t
@@ -77,7 +77,7 @@ pub record LiesAt (m map : Words) (N l limit k : ℕ) (t : Tree) : Type 0 where
   pub inside : ends k (inorder t) ≤ N
 
 -- Where such a tree lies, of no more nodes than are allowed, the walk comes to the end of its runs and has counted their
--- units.
+-- cells.
 pub record Passes (m map : Words) (N l limit k allowed before next free : ℕ) : Type 0 where
   pub meets : (t : Tree) → LiesAt m map N l limit k t → length (inorder t) ≤ allowed
       → (next ≡ ends k (inorder t)) × (free ≡ before + total (inorder t))

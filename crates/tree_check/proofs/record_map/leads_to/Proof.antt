@@ -1,4 +1,4 @@
--- `tree_check::record_map::leads_to` meets its contract: up to unit k, records lie side by side. Assumes nothing.
+-- `tree_check::record_map::leads_to` meets its contract: up to cell k, records lie side by side. Assumes nothing.
 use Prim.Native.Nat.{_≤_, _-_}
 use native.Mathlib.Omega.{arith}
 use mathlib.Core.Bool.{false≢true}

@@ -7,7 +7,7 @@ use denote.Ref.{now}
 use lib.ListN.{length, length-set}
 use Rattle.words.specs.Lists.{Words}
 use Rattle.words.proofs.Tests.{eqb-eq}
-use Rattle.tree_check.specs.Maps.{unitsAt, Grows}
+use Rattle.tree_check.specs.Maps.{cellsAt, Grows}
 use Rattle.tree_check.proofs.SpanLaws.{entry-grows, entry-met, entry-full}
 use Rattle.tree_check.proofs.record_map.note_entry.Statement.{statement}
 use Rattle.tree_check.proofs.record_map.note_entry.Tie as tie
@@ -15,7 +15,7 @@ use Rattle.tree_check.proofs.record_map.note_entry.Tie as tie
 abbrev Inv-loop : tie.InvT-loop
 Inv-loop map₀ lo n i₀ map i =
     (map ≡ map₀) × (i % 4 ≡ 0) × (i < 2 ^ 60) × (4 * (lo / 128) ≤ i)
-    × ((q : ℕ) → lo / 128 ≤ q → 4 * q < i → 0 < unitsAt map₀ q)
+    × ((q : ℕ) → lo / 128 ≤ q → 4 * q < i → 0 < cellsAt map₀ q)
 
 abbrev μ-loop : tie.MeasureT-loop
 μ-loop map₀ lo n i₀ map i = length map - i

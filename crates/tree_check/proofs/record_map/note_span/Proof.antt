@@ -1,4 +1,4 @@
--- `tree_check::record_map::note_span` meets its contract: up to unit `at` the span is noted. Assumes nothing.
+-- `tree_check::record_map::note_span` meets its contract: up to cell `at` the span is noted. Assumes nothing.
 use Prim.Native.Nat.{_+_, _≤_, _<_}
 use native.Mathlib.Omega.{arith}
 use mathlib.Core.Path.{_≡_, refl}

@@ -6,7 +6,7 @@ pub mod tree_walk;
 
 use record_map::leads_to;
 use record_map::map_rows;
-use tree_walk::walk;
+use tree_walk::walk_all;
 ghost use mathlib.Core.Path.{_≡_};
 ghost use mathlib.Core.Bool.{true};
 ghost use Prim.Native.Nat.{_/_, _<_, _≤_};
@@ -45,15 +45,7 @@ fn is_shown_over(
     let cells = words / 2;
     let allowed = table.len() / 3 + 1;
     let mut sum: usize = 0;
-    let end = walk(
-        &*arena,
-        &*map,
-        root as usize,
-        cells + 1,
-        0,
-        &mut sum,
-        allowed,
-    );
+    let end = walk_all(&*arena, &*map, root as usize, cells + 1, &mut sum, allowed);
     if cells < end {
         return false;
     }
@@ -92,18 +84,8 @@ fn is_shown_sparse(root: u32, next: u32, arena: &[u32], table: &[u32]) -> bool
     is_shown_over(root, next, &*arena, &*table, &mut map, &mut seen, 128)
 }
 
-// At most 1,024 cells.
-fn is_shown_middle(root: u32, next: u32, arena: &[u32], table: &[u32]) -> bool
-    requires { ⌜ (length (now arena) ≤ 2048) × (slots (now table) ≤ 256) ⌝ }
-    ensures { λ r. ⌜ Says r (Shown root next (now (arena .entry)) (now (table .entry))) ⌝ }
-{
-    let mut map: [u8; 1024] = [0; 1024];
-    let mut seen: [u8; 128] = [0; 128];
-    is_shown_over(root, next, &*arena, &*table, &mut map, &mut seen, 128)
-}
-
 // At most 2,048 cells.
-fn is_shown_wide(root: u32, next: u32, arena: &[u32], table: &[u32]) -> bool
+fn is_shown_middle(root: u32, next: u32, arena: &[u32], table: &[u32]) -> bool
     requires { ⌜ (length (now arena) ≤ 4096) × (slots (now table) ≤ 256) ⌝ }
     ensures { λ r. ⌜ Says r (Shown root next (now (arena .entry)) (now (table .entry))) ⌝ }
 {
@@ -139,13 +121,10 @@ fn is_shown_other(root: u32, next: u32, arena: &[u32], table: &[u32]) -> bool
 {
     let slots = table.len() / 3;
     if arena.len() <= 4096 {
-        if 16 < slots {
-            return is_shown_busy(root, next, &*arena, &*table);
-        }
-        if arena.len() <= 2048 {
+        if slots <= 16 {
             return is_shown_middle(root, next, &*arena, &*table);
         }
-        return is_shown_wide(root, next, &*arena, &*table);
+        return is_shown_busy(root, next, &*arena, &*table);
     }
     if slots <= 32 {
         return is_shown_sparse(root, next, &*arena, &*table);

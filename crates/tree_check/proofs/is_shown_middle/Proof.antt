@@ -1,4 +1,4 @@
--- `tree_check::is_shown_middle` meets its contract: the map has a byte for each of 1,024 cells. Assumes nothing.
+-- `tree_check::is_shown_middle` meets its contract: the map has a byte for each of 2,048 cells. Assumes nothing.
 use native.Mathlib.Omega.{arith}
 use mathlib.Core.Path.{refl}
 use borrow.Author.Needs.{needs}

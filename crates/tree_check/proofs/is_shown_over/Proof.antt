@@ -28,11 +28,11 @@ returns c =
 add-allowed : tie.Need-add-allowed
 add-allowed c = search needs
 
-add-walk : tie.Need-add-walk
-add-walk c = search needs
+add-walk-all : tie.Need-add-walk-all
+add-walk-all c = search needs
 
-walk-requires : tie.Need-walk-requires
-walk-requires c κs =
+walk-all-requires : tie.Need-walk-all-requires
+walk-all-requires c κs =
     let r = c .before .before .before .before .before .before .before in
     let s = r .before .before .before .before .before .before .before in
     let most = s .pre .0 .0 in
@@ -42,7 +42,7 @@ walk-requires c κs =
         cells = omega arith;
         small = omega arith;
       },
-      (omega arith, omega arith),
+      omega arith,
     )
 
 same-length-3 : tie.Need-same-length-3
@@ -57,7 +57,7 @@ returns-2 c =
     let r = w .before .before .before .before .before .before .before .before in (
       λ e. absurd (false≢true e),
       λ shown.
-          let low = end-low _ _ _ _ _ _ (r .map-rows .ensures .0 (w .before .before .before .if1 .left)) shown (w .walk .ensures .1)
+          let low = end-low _ _ _ _ _ _ (r .map-rows .ensures .0 (w .before .before .before .if1 .left)) shown (w .walk-all .ensures .1)
           in
           absurd (omega arith),
     )
@@ -67,7 +67,7 @@ add-whole c =
     let w = c .before in
     let r = w .before .before .before .before .before .before .before .before in
     let s = r .before .before .before .before .before .before .before in
-    let found = w .walk .ensures .0 (c .if2 .left) in
+    let found = w .walk-all .ensures .0 (c .if2 .left) in
     let held = w .before .before .before .if1 .left in
     let most = s .pre .0 .0 in
     omega arith
@@ -91,7 +91,7 @@ returns-3 c =
     let w = c .before .before .before in
     let r = w .before .before .before .before .before .before .before .before in
     both-say (c .leads-to .result) (r .map-rows .ensures .0 (w .before .before .before .if1 .left))
-    (w .walk .ensures .0 (c .before .before .if2 .left)) (w .walk .ensures .1) (c .leads-to .ensures)
+    (w .walk-all .ensures .0 (c .before .before .if2 .left)) (w .walk-all .ensures .1) (c .leads-to .ensures)
 
 pub is-shown-over-spec : {M : Type 1} → statement M
 is-shown-over-spec =
@@ -102,8 +102,8 @@ is-shown-over-spec =
     same-length-2
     returns
     add-allowed
-    add-walk
-    walk-requires
+    add-walk-all
+    walk-all-requires
     same-length-3
     same-length-4
     returns-2

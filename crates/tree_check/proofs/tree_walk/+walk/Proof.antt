@@ -26,14 +26,14 @@ use Rattle.tree_check.proofs.tree_walk.node_ok.Reads as node-ok-reads
 use Rattle.tree_check.proofs.tree_walk.+walk.{statement}
 use Rattle.tree_check.proofs.tree_walk.+walk.Tie.{close}
 
-abbrev μ-walk : Measures 3 walk-kinds.ps ℕ
+abbrev μ-walk : Measures 5 walk-kinds.ps ℕ
 μ-walk κs a = a .1 .1 .1 .1 .1 .1 .0
 
-abbrev walk-at : ℕ → In 3 walk-kinds.ps
-walk-at t = and 3 walk-kinds.ps (is 3 walk-kinds.ps μ-walk t) walk.Pre
+abbrev walk-at : ℕ → In 5 walk-kinds.ps
+walk-at t = and 5 walk-kinds.ps (is 5 walk-kinds.ps μ-walk t) walk.Pre
 
-abbrev walk-below : ℕ → In 3 walk-kinds.ps
-walk-below t = and 3 walk-kinds.ps (falls 3 walk-kinds.ps _<_ μ-walk t) walk.Pre
+abbrev walk-below : ℕ → In 5 walk-kinds.ps
+walk-below t = and 5 walk-kinds.ps (falls 5 walk-kinds.ps _<_ μ-walk t) walk.Pre
 
 abbrev walk-claims : ℕ → walk-lts.Claims
 walk-claims t = (
@@ -54,35 +54,35 @@ walk-claims t = (
 -- the entry, seen from where the node's place and length are tested
 abbrev start : (t : ℕ) → walk-lts.Else4 (walk-claims t) (walk-at t) walk.Post
     → walk-lts.Start (walk-claims t) (walk-at t) walk.Post
-start t c = c .before .before .before .before .before .before .before .before
+start t c = c .before .before .before .before .before .before .before
 
 at-cell : (t : ℕ) (c : walk-lts.Else4 (walk-claims t) (walk-at t) walk.Post)
     → (let a = start t c .args in a .link ≡ suc (a .link - 1))
-at-cell t c = let some = c .before .before .before .before .before .if1 .left in omega arith
+at-cell t c = let some = c .before .before .before .before .before .before .if1 .left in omega arith
 
 -- nodes are allowed
 may : (t : ℕ) (c : walk-lts.Else4 (walk-claims t) (walk-at t) walk.Post)
     → (let a = start t c .args in a .allowed ≡ suc (a .allowed - 1))
-may t c = let some = c .before .before .before .if3 .left in omega arith
+may t c = let some = c .before .before .before .before .if3 .left in omega arith
 
 fit : (t : ℕ) (c : walk-lts.Else4 (walk-claims t) (walk-at t) walk.Post)
     → (let a = start t c .args in
-    Between (a .k) (length (now (a .arena)) / 2) (a .limit) (a .link - 1) (c .before .before .length-of .result))
+    Between (a .k) (length (now (now (a .arena))) / 2) (a .limit) (a .link - 1) (c .before .before .length-of .result))
 fit t c = c .before .is-between .ensures .0 (not-false _ (c .if4 .left))
 
 -- the left part is found right, or there is none
 left-done : (t : ℕ) (c : walk-lts.Joined5 (walk-claims t) (walk-at t) walk.Post)
     → (let f = c .before in
-    let e = f .before in
+    let e = f .before .before in
     let a = start t e .args in
     let z = e .before .before .length-of .result in
-    Found (now (a .arena)) (now (a .map)) (length (now (a .arena)) / 2) (f .left-of .result) z (a .k) (now (a .free))
+    Found (now (now (a .arena))) (now (now (a .map))) (length (now (now (a .arena))) / 2) (f .left-of .result) z (a .k) (now (a .free))
     (c .if5 .next) (c .if5 .free)
     × (c .if5 .next ≤ a .link - 1)
-    × Passes (now (a .arena)) (now (a .map)) (length (now (a .arena)) / 2) (f .left-of .result) z (a .k)
+    × Passes (now (now (a .arena))) (now (now (a .map))) (length (now (now (a .arena))) / 2) (f .left-of .result) z (a .k)
     (a .allowed - 1) (now (a .free)) (c .if5 .next) (c .if5 .free))
 left-done t c =
-    let e = c .before .before in
+    let e = c .before .before .before in
     let b = fit t e in
     let s = start t e in
     let p = s .pre .1 in
@@ -97,25 +97,25 @@ left-done t c =
 
 -- the node is found right
 node-placed : (t : ℕ) (c : walk-lts.Else7 (walk-claims t) (walk-at t) walk.Post)
-    → (let d = c .before .before in
-    let e = d .before .before in
+    → (let d = c .before .before .before .before in
+    let e = d .before .before .before in
     let a = start t e .args in
-    Placed (now (a .arena)) (now (a .map)) (d .if5 .next) (a .link - 1) (e .before .before .length-of .result))
+    Placed (now (now (a .arena))) (now (now (a .map))) (d .if5 .next) (a .link - 1) (e .before .before .length-of .result))
 node-placed t c = c .before .node-ok .ensures .0 (not-false _ (c .if7 .left))
 
 walk-returns : (t : ℕ) → walk-lts.Need-returns (walk-claims t) (walk-at t) walk.Post
-walk-returns t c = let p = c .before .before .before .pre .1 in
+walk-returns t c = let p = c .before .pre .1 in
     ((λ h. none-found (c .if1 .taken) (p .1 .0) (p .1 .1)), passes-none (p .0) (c .if1 .taken))
 
 walk-returns-2 : (t : ℕ) → walk-lts.Need-returns-2 (walk-claims t) (walk-at t) walk.Post
 walk-returns-2 t c =
-    let s = c .before .before .before .before in
+    let s = c .before .before in
     ((λ h. absurd (omega (arith, s .pre .1 .0 .small))), not-inside (s .pre .1 .0) (c .if2 .taken))
 
 walk-returns-3 : (t : ℕ) → walk-lts.Need-returns-3 (walk-claims t) (walk-at t) walk.Post
 walk-returns-3 t c =
     let l = c .before .before in
-    let s = l .before .before .before in
+    let s = l .before in
     ((λ h. absurd (omega (arith, s .pre .1 .0 .small))), not-allowed (s .pre .1 .0) (l .if1 .left) (c .if3 .taken))
 
 walk-sub-c : (t : ℕ) → walk-lts.Need-sub-c (walk-claims t) (walk-at t) walk.Post
@@ -134,7 +134,7 @@ walk-is-between-requires t c κs = omega arith
 walk-returns-4 : (t : ℕ) → walk-lts.Need-returns-4 (walk-claims t) (walk-at t) walk.Post
 walk-returns-4 t c =
     let l = c .before .before in
-    let s = l .before .before .before .before .before .before in (
+    let s = l .before .before .before .before .before in (
       (λ h. absurd (omega (arith, s .pre .1 .0 .small))),
       not-between (s .pre .1 .0) (omega arith) (l .length-of .ensures) refl refl
           (λ b. true≢false (sym (c .before .is-between .ensures .1 b) ∙ not-true _ (c .if4 .taken))),
@@ -149,7 +149,7 @@ walk-sub-walk t c = omega arith
 
 walk-walk-requires : (t : ℕ) → walk-lts.Need-walk-requires (walk-claims t) (walk-at t) walk.Post
 walk-walk-requires t c κs =
-    let e = c .before .before .before in
+    let e = c .before .before .before .before in
     let s = start t e in
     let b = fit t e in
     let low = b .low in
@@ -161,7 +161,7 @@ walk-returns-5 : (t : ℕ) → walk-lts.Need-returns-5 (walk-claims t) (walk-at 
 walk-returns-5 t c =
     let w = c .before in
     let f = w .before .before .before in
-    let e = f .before in (
+    let e = f .before .before in (
       (λ h. absurd (omega (arith, start t e .pre .1 .0 .small))),
       not-left (start t e .pre .1 .0) (at-cell t e) (e .before .before .length-of .ensures) (f .left-of .ensures) refl
           (may t e) (w .walk .ensures .1) (c .if6 .taken),
@@ -169,17 +169,18 @@ walk-returns-5 t c =
 
 walk-node-ok-requires : (t : ℕ) → walk-lts.Need-node-ok-requires (walk-claims t) (walk-at t) walk.Post
 walk-node-ok-requires t c κs =
-    let e = c .before .before in
+    let d = c .before .before in
+    let e = d .before .before .before in
     let b = fit t e in
-    let (x, inner, p) = left-done t c in
+    let (x, inner, p) = left-done t d in
     (inner, b .some, ready-part (b .high) (start t e .pre .1 .0))
 
 walk-returns-6 : (t : ℕ) → walk-lts.Need-returns-6 (walk-claims t) (walk-at t) walk.Post
 walk-returns-6 t c =
     let n = c .before in
-    let d = n .before in
+    let d = n .before .before .before in
     let f = d .before in
-    let e = f .before in (
+    let e = f .before .before in (
       (λ h. absurd (omega (arith, start t e .pre .1 .0 .small))),
       not-placed (start t e .pre .1 .0) (at-cell t e) (e .before .before .length-of .ensures) (f .left-of .ensures) refl
           (may t e) (left-done t d .2) (λ p. true≢false (sym (n .node-ok .ensures .1 p) ∙ not-true _ (c .if7 .taken))),
@@ -187,8 +188,8 @@ walk-returns-6 t c =
 
 walk-add-free : (t : ℕ) → walk-lts.Need-add-free (walk-claims t) (walk-at t) walk.Post
 walk-add-free t c =
-    let d = c .before .before .before in
-    let e = d .before .before in
+    let d = c .before .before .before .before .before in
+    let e = d .before .before .before in
     let (x, inner, p) = left-done t d in
     let b = fit t e in
     let few = x .few in
@@ -206,10 +207,10 @@ walk-add-result t c = omega arith
 walk-returns-7 : (t : ℕ) → walk-lts.Need-returns-7 (walk-claims t) (walk-at t) walk.Post
 walk-returns-7 t c =
     let r = c .before in
-    let n = r .before .before in
-    let d = n .before .before in
+    let n = r .before .before .before in
+    let d = n .before .before .before .before in
     let f = d .before in
-    let e = f .before in
+    let e = f .before .before in
     let s = start t e in
     let b = fit t e in
     let (x, inner, p) = left-done t d in
@@ -233,8 +234,8 @@ walk-sub-walk-2 t c = omega arith
 
 walk-walk-requires-2 : (t : ℕ) → walk-lts.Need-walk-requires-2 (walk-claims t) (walk-at t) walk.Post
 walk-walk-requires-2 t c κs =
-    let d = c .before .before .before .before .before .before in
-    let e = d .before .before in
+    let d = c .before .before .before .before .before .before .before .before .before in
+    let e = d .before .before .before in
     let (x, inner, p) = left-done t d in
     let b = fit t e in
     let s = start t e in
@@ -247,10 +248,10 @@ walk-walk-requires-2 t c κs =
 walk-returns-8 : (t : ℕ) → walk-lts.Need-returns-8 (walk-claims t) (walk-at t) walk.Post
 walk-returns-8 t c =
     let r = c .before .before .before in
-    let n = r .before .before in
-    let d = n .before .before in
+    let n = r .before .before .before in
+    let d = n .before .before .before .before in
     let f = d .before in
-    let e = f .before in
+    let e = f .before .before in
     let s = start t e in
     let b = fit t e in
     let (x, inner, p) = left-done t d in

@@ -38,10 +38,10 @@
  *     transfer unit writes to its buffers, or reads those that the call writes.
  *   - The archive links on x86-64 Linux. It needs memset, from a C library or your own, and nothing else.
  *   - Stack, as seen on x86-64, on any memory, at most:
- *       tree pools of up to  1,024 words and  16 records  3.4 KB
- *                            4,096 words and  64 records   20 KB
- *                           16,384 words and  16 records   14 KB
- *                           16,384 words and 256 records   45 KB
+ *       tree pools of up to  1,024 words and  16 records  2.5 KB
+ *                            4,096 words and  64 records   17 KB
+ *                           16,384 words and  16 records   13 KB
+ *                           16,384 words and 256 records   22 KB
  *       segment pools of any size                         4.5 KB
  *   - Time: it grows with arena and table, since each call checks the whole pool, damaged or not. On damaged memory a
  *     call takes no longer than the slowest on a sound pool of the same lengths was seen to take (docs/benchmark.md).

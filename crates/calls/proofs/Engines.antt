@@ -27,10 +27,12 @@ use Rattle.calls.specs.Engines.{treeEngine, segmentEngine}
 use Rattle.calls.specs.Demand1.{Demand1}
 use Rattle.calls.specs.Demand2.{Demand2}
 use Rattle.calls.specs.Demand3.{Demand3}
+use Rattle.calls.specs.Monotone.{Monotone}
 use Rattle.calls.proofs.StoreLaws.{arena-store, sound-valid, is-store}
 use Rattle.calls.proofs.Demand1.{demand1}
 use Rattle.calls.proofs.Demand2.{demand2}
 use Rattle.calls.proofs.Demand3.{demand3}
+use Rattle.calls.proofs.Monotone.{monotone}
 
 -- a block of the tree pool has no word before its address
 pub tree-laws : Laws treeEngine
@@ -173,3 +175,9 @@ tree-demand3 = demand3 treeEngine tree-laws
 
 pub segment-demand3 : Demand3 segmentEngine
 segment-demand3 = demand3 segmentEngine segment-laws
+
+pub tree-monotone : Monotone treeEngine
+tree-monotone = monotone treeEngine tree-laws
+
+pub segment-monotone : Monotone segmentEngine
+segment-monotone = monotone segmentEngine segment-laws

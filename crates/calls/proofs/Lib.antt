@@ -14,4 +14,5 @@ pub mod Strays
 pub mod WholeCalls
 pub mod Demand3
 pub mod AnyOrder
+pub mod Monotone
 pub mod Engines

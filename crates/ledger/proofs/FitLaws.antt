@@ -1,18 +1,18 @@
--- Laws of the lowest fit: what `lowestFit` finds, and that the first run that is long enough begins there.
--- Assumes nothing.
+-- Laws of the lowest fit: what `lowestFit` finds, that it is no higher where more is free, and that the first run that is
+-- long enough begins there. Assumes nothing.
 use Prim.Native.Nat.{ℕ, suc, _+_, _-_, _≤_, _<_}
 use native.Mathlib.Nat.{sub-zero}
 use native.Mathlib.Omega.{arith}
 use native.Mathlib.Decide.{decLe}
-use mathlib.Core.Path.{_≡_, refl, sym, ap}
-use mathlib.Core.Bool.{Bool, true, false, cond}
+use mathlib.Core.Path.{_≡_, refl, sym, ap, _∙_}
+use mathlib.Core.Bool.{Bool, true, false, cond, true≢false}
 use mathlib.Core.List.{List, [], _∷_}
 use mathlib.Core.Option.{Option, none, some}
 use lib.Dec.{leb}
 use Rattle.words.specs.Lists.{firstThat}
 use Rattle.words.specs.Counted.{every}
 use Rattle.words.proofs.Tests.{le-of, not-le}
-use Rattle.words.proofs.CountedLaws.{every-of, lowest-some, lowest-none, lowest-is, lowest-nothing, every-breaks}
+use Rattle.words.proofs.CountedLaws.{every-at, every-of, lowest-some, lowest-none, lowest-is, lowest-nothing, every-breaks}
 use Rattle.ledger.specs.Units.{lowestFit}
 use Rattle.ledger.specs.Runs.{Run, runsFrom}
 use Rattle.ledger.proofs.RunLaws.{Next, runs-next, runs-empty}
@@ -45,6 +45,28 @@ module _ (f : ℕ → Bool) (N m : ℕ) where
   pub fit-nothing : ((k : ℕ) → k + m ≤ N → every f k m ≡ false) → lowestFit f N m ≡ none
   unfolding lowestFit
   fit-nothing h = lowest-nothing (λ j. every f j m) 0 (suc N - m) (λ k a b. h k (omega arith))
+
+  -- where m units pass, the lowest fit is no higher
+  fit-below : (k : ℕ) → k + m ≤ N → every f k m ≡ true → (j : ℕ) × (j ≤ k) × (lowestFit f N m ≡ some j)
+  fit-below k room passes = go (lowestFit f N m) refl
+    where
+      low : (j : ℕ) → FitAt f N m j → Dec (j ≤ k) → j ≤ k
+      low j a (yes h) = h
+      low j a (no h) = absurd (true≢false (sym passes ∙ a .least k (omega arith)))
+
+      go : (o : Option ℕ) → lowestFit f N m ≡ o → (j : ℕ) × (j ≤ k) × (lowestFit f N m ≡ some j)
+      go none e = absurd (true≢false (sym passes ∙ fit-none e k room))
+      go (some j) e = (j, low j (fit-lowest j e) (decLe j k), e)
+
+-- With every unit that passes passing still, among no fewer units, no more of them asked for, there is a fit, and it is
+-- no higher.
+pub fit-mono : (f g : ℕ → Bool) (N M m n k : ℕ) → ((u : ℕ) → u < N → f u ≡ true → g u ≡ true) → N ≤ M → n ≤ m
+    → lowestFit f N m ≡ some k → (j : ℕ) × (j ≤ k) × (lowestFit g M n ≡ some j)
+fit-mono f g N M m n k more size less e =
+    let a = fit-lowest f N m k e in
+    let room = a .room in
+    fit-below g M n k (omega arith)
+    (every-of g k n (λ u x y. more u (omega arith) (every-at f k m (a .passes) u x (omega arith))))
 
 -- ---- the first run that is long enough
 

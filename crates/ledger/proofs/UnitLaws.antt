@@ -2,7 +2,7 @@
 -- Assumes nothing; where a unit must have words, `0 < ρ .unit` is asked for.
 use Prim.Native.Nat.{ℕ, _+_, _-_, _*_, _/_, _%_, _≤_, _<_, max}
 use native.Mathlib.Nat.{add-sub-cancel, mul-div-right, mul-mod-right, mul-div-le, div-add-mod, le-trans}
-use native.Mathlib.Nat.{mul-le-mul-left, le-div-iff-mul-le, div-lt-iff-lt-mul, one-mul, mul-comm}
+use native.Mathlib.Nat.{mul-le-mul-left, le-div-iff-mul-le, div-lt-iff-lt-mul, one-mul, mul-comm, div-mul-le-self}
 use native.Mathlib.Omega.{arith}
 use native.Mathlib.Decide.{decLe}
 use mathlib.Core.Path.{_≡_, refl, sym, ap, _∙_, subst}
@@ -46,10 +46,22 @@ pub record Fitted (ρ : Rule) (W next : ℕ) (r : Row) : Type 0 where
   pub inside : ρ .unit * past ρ r ≤ W
   pub units : past ρ r ≤ W / ρ .unit
 
+pub address-mono : (ρ : Rule) (j k : ℕ) → j ≤ k → addressAt ρ j ≤ addressAt ρ k
+unfolding addressAt
+address-mono ρ j k h = omega (arith, mul-le-mul-left (ρ .unit) h)
+
 module _ (ρ : Rule) (pos : 0 < ρ .unit) where
   pub span-pos : (n : ℕ) → 1 ≤ n → 1 ≤ span ρ n
   unfolding span
   span-pos n h = le-div-iff-mul-le pos .1 (rw (one-mul (ρ .unit)) (omega arith))
+
+  -- more words have no fewer units
+  pub units-mono : (m n : ℕ) → m ≤ n → m / ρ .unit ≤ n / ρ .unit
+  units-mono m n h = le-div-iff-mul-le pos .1 (le-trans (div-mul-le-self m (ρ .unit)) h)
+
+  pub span-mono : (m n : ℕ) → m ≤ n → span ρ m ≤ span ρ n
+  unfolding span
+  span-mono m n h = units-mono (m + ρ .lead + (ρ .unit - 1)) (n + ρ .lead + (ρ .unit - 1)) (omega arith)
 
   pub first-new : (t k n : ℕ) → first ρ (row t (addressAt ρ k) n) ≡ k
   unfolding first addressAt

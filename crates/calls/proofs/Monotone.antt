@@ -79,10 +79,11 @@ module _ (E : Engine) where
     unfolding fitOf
     asked-there k asked =
         let ρ = ruleOf E p in
+        let there = free (ruleOf E q) (ledger q) in
         let limit = ap (λ (f : Rule × ℕ). f .1) (freer .form) in
         let (j, low, fit) =
-        fit-mono (free ρ (ledger p)) (free (ruleOf E q) (ledger q)) (wordCount p / ρ .unit) (wordCount q / ρ .unit)
-        (span ρ n) (span ρ m) k (freer .units)
+        fit-mono (free ρ (ledger p)) there (wordCount p / ρ .unit) (wordCount q / ρ .unit) (span ρ n) (span ρ m) k
+        (freer .units)
         (units-mono ρ (laws .unit (p .shape)) (wordCount p) (wordCount q) (freer .size))
         (span-mono ρ (laws .unit (p .shape)) m n less) (asked .fit) in (
           j,
@@ -92,8 +93,7 @@ module _ (E : Engine) where
                 ∙ size-less (E .limit (p .shape)) n m one less (asked .size);
             slot = false-of (full (ledger q)) (λ h. freer .slot (record-test q .0 h));
             ticket = false-of (eqb (q .head .next) 0) (λ h. freer .ticket (ticket-test q .0 h));
-            fit = ap (λ (r : Rule). lowestFit (free (ruleOf E q) (ledger q)) (wordCount q / r .unit) (span r m)) (sym rule)
-                ∙ fit;
+            fit = ap (λ (r : Rule). lowestFit there (wordCount q / r .unit) (span r m)) (sym rule) ∙ fit;
           },
         )
 

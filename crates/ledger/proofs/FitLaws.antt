@@ -1,5 +1,5 @@
--- Laws of the lowest fit: what `lowestFit` finds, that it is no higher where more is free, and that the first run that is
--- long enough begins there. Assumes nothing.
+-- Laws of the lowest fit: what `lowestFit` finds, that it is no higher where more is free, and that the first run that
+-- is long enough begins there. Assumes nothing.
 use Prim.Native.Nat.{ℕ, suc, _+_, _-_, _≤_, _<_}
 use native.Mathlib.Nat.{sub-zero}
 use native.Mathlib.Omega.{arith}
@@ -12,7 +12,8 @@ use lib.Dec.{leb}
 use Rattle.words.specs.Lists.{firstThat}
 use Rattle.words.specs.Counted.{every}
 use Rattle.words.proofs.Tests.{le-of, not-le}
-use Rattle.words.proofs.CountedLaws.{every-at, every-of, lowest-some, lowest-none, lowest-is, lowest-nothing, every-breaks}
+use Rattle.words.proofs.CountedLaws.{every-at, every-of, every-breaks, lowest-some, lowest-none, lowest-is}
+use Rattle.words.proofs.CountedLaws.{lowest-nothing}
 use Rattle.ledger.specs.Units.{lowestFit}
 use Rattle.ledger.specs.Runs.{Run, runsFrom}
 use Rattle.ledger.proofs.RunLaws.{Next, runs-next, runs-empty}

@@ -7,6 +7,7 @@ pub mod GrantLaws
 pub mod HeldLaws
 pub mod Demand1
 pub mod Demand2
+pub mod Monotone
 pub mod LentLaws
 pub mod CallLaws
 pub mod ProgressLaws
@@ -14,5 +15,4 @@ pub mod Strays
 pub mod WholeCalls
 pub mod Demand3
 pub mod AnyOrder
-pub mod Monotone
 pub mod Engines

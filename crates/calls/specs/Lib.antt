@@ -5,6 +5,6 @@ pub mod Engines
 pub mod Lent
 pub mod Demand1
 pub mod Demand2
-pub mod Demand3
 pub mod Monotone
+pub mod Demand3
 pub mod Computing

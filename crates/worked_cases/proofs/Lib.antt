@@ -1,4 +1,4 @@
 -- The worked cases hold.
 pub mod BenchSheet
-pub mod Sequences
 pub mod FreerPools
+pub mod Sequences

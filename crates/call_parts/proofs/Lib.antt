@@ -4,3 +4,6 @@ pub mod ListLaws
 pub mod FindLaws
 pub mod AskLaws
 pub mod WholeLists
+pub mod ResultLaws
+pub mod LookLaws
+pub mod FormatLaws

@@ -1,2 +1,3 @@
--- What the shared parts of the calls decide.
+-- What the shared parts of the calls decide, and what a call hands back and leaves.
 pub mod Parts
+pub mod Results

@@ -6,6 +6,7 @@ ghost use mathlib.Core.List.{[], _∷_};
 ghost use Rattle.ledger.specs.Records.{row};
 ghost use Rattle.calls.specs.Step.{format, allocate, release, find, list, step};
 ghost use Rattle.calls.specs.Engines.{treeEngine, segmentEngine};
+ghost use Rattle.call_parts.specs.Results.{resultOf};
 ghost use Rattle.tree_check.specs.Gate.{treePool};
 ghost use Rattle.segment_pool.specs.Promises.{segmentPool};
 ghost use Rattle.tree_pool.specs.Promises as tree;
@@ -104,7 +105,7 @@ fn c_segment_outcome(done: segment_pool::Outcome) -> SegmentOutcome
 #[no_mangle]
 pub extern "C" fn lf_tree_format(arena: &mut [u32], table: &mut [u32]) -> TreeOutcome
     ensures { λ r. ⌜ tree.handed (treeOutcome r) (now (arena .exit)) (now (table .exit)) []
-        ≡ tree.left (step treeEngine format (treePool 0 0 (now (arena .entry)) (now (table .entry)))) ⌝ }
+        ≡ resultOf (step treeEngine format (treePool 0 0 (now (arena .entry)) (now (table .entry)))) ⌝ }
 {
     let done = tree_pool::format(arena, table);
     c_tree_outcome(done)
@@ -118,7 +119,7 @@ pub extern "C" fn lf_tree_allocate(
     words: u32,
 ) -> TreeOutcome
     ensures { λ r. ⌜ tree.handed (treeOutcome r) (now (arena .exit)) (now (table .exit)) []
-        ≡ tree.left (step treeEngine (allocate words)
+        ≡ resultOf (step treeEngine (allocate words)
         (tree.poolOf (headOf head) (now (arena .entry)) (now (table .entry)))) ⌝ }
 {
     let pool = tree_pool::Head {
@@ -139,7 +140,7 @@ pub extern "C" fn lf_tree_release(
     words: u32,
 ) -> TreeOutcome
     ensures { λ r. ⌜ tree.handed (treeOutcome r) (now (arena .exit)) (now (table .exit)) []
-        ≡ tree.left (step treeEngine (release (row ticket address words))
+        ≡ resultOf (step treeEngine (release (row ticket address words))
         (tree.poolOf (headOf head) (now (arena .entry)) (now (table .entry)))) ⌝ }
 {
     let pool = tree_pool::Head {
@@ -190,7 +191,7 @@ pub extern "C" fn lf_tree_list(
     answers: &mut [u32],
 ) -> TreeOutcome
     ensures { λ r. ⌜ tree.handed (treeOutcome r) (now (arena .exit)) (now (table .exit)) (now (answers .exit) ∷ [])
-        ≡ tree.left (step treeEngine (list (now (requests .entry)) (now (answers .entry)))
+        ≡ resultOf (step treeEngine (list (now (requests .entry)) (now (answers .entry)))
         (tree.poolOf (headOf head) (now (arena .entry)) (now (table .entry)))) ⌝ }
 {
     let pool = tree_pool::Head {

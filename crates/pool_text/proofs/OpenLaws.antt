@@ -21,7 +21,8 @@ use Rattle.calls.proofs.Engines.{tree-demand2}
 use Rattle.tree_check.specs.Gate.{treePool}
 use Rattle.tree_check.proofs.GateLaws.{in-range}
 use Rattle.tree_pool.specs.declared.Outcome.{Outcome}
-use Rattle.tree_pool.specs.Promises.{Left, handed, left}
+use Rattle.call_parts.specs.Results.{Result, resultOf}
+use Rattle.tree_pool.specs.Promises.{handed}
 use Rattle.tree_pool.proofs.FormatLaws.{blank-owned}
 use Rattle.text.specs.Fields.{lineOf}
 use Rattle.pool_text.specs.Meaning.{serving, stopped, served, fresh, opened, refusalLine, mostWords}
@@ -116,9 +117,9 @@ too-large w s h = by-words (ltb 8192 w) refl h
 
 -- the code's format of words that lay anywhere
 module _ (a t : Words) (w s : ℕ) (ea : length a ≡ w) (et : length t ≡ recordWords * s) (d : Outcome) (b u : Words)
-    (e : handed d b u [] ≡ left (step treeEngine format (at a t))) where
+    (e : handed d b u [] ≡ resultOf (step treeEngine format (at a t))) where
   number-is : d .answer .number ≡ step treeEngine format (at a t) .answer .number
-  number-is = ap (λ (l : Left). l .answer .number) e
+  number-is = ap (λ (x : Result). x .answer .number) e
 
   arena-length : length a ≡ length (zeroWords w)
   arena-length = ea ∙ sym (length-replicate {A = ℕ} w 0)
@@ -141,13 +142,9 @@ module _ (a t : Words) (w s : ℕ) (ea : length a ≡ w) (et : length t ≡ reco
     zeros-formatted : step treeEngine format (zeros w s) ≡ formatDone treeEngine (zeros w s)
     zeros-formatted = right-done (zeros w s) (sym same-as-zeros ∙ right-lengths)
 
-    abbrev poolIn : Left → Pool
-    poolIn l = record { head = l .head; shape = 0; arena = l .arena; table = l .table; index = [] }
-
     stored-there : treePool (d .head .root) (d .head .next) b u
         ≡ store treeEngine (blank treeEngine (at a t)) firstTicket (at a t)
-    unfolding store treeEngine treeEngineOf
-    stored-there = ap poolIn (e ∙ ap left (right-done (at a t) right-lengths))
+    stored-there = ap (λ (x : Result). x .pool) (e ∙ ap resultOf (right-done (at a t) right-lengths))
 
     pool-is : treePool (d .head .root) (d .head .next) b u ≡ fresh w s .pool
     unfolding fresh

@@ -11,11 +11,13 @@ use Rattle.ledger.specs.Records.{recordWords}
 use Rattle.calls.specs.Pool.{sound}
 use Rattle.calls.specs.Step.{poolAfter}
 use Rattle.calls.specs.Engines.{treeEngine}
+use Rattle.calls.proofs.Engines.{tree-laws}
 use Rattle.call_parts.specs.declared.Request.{Request}
 use Rattle.call_parts.specs.Parts.{actOf}
+use Rattle.call_parts.specs.Results.{Result, acted}
+use Rattle.call_parts.proofs.ResultLaws.{acted-sound}
 use Rattle.tree_pool.specs.declared.Outcome.{Outcome}
-use Rattle.tree_pool.specs.Promises.{Left, handed, acted}
-use Rattle.tree_pool.proofs.RequestLaws.{acted-pool, acted-sound}
+use Rattle.tree_pool.specs.Promises.{handed}
 use Rattle.text.specs.Numbers.{Bytes}
 use Rattle.text.specs.Fields.{Wrote}
 use Rattle.text.specs.Lines.{Served}
@@ -62,21 +64,19 @@ became-stopped s a t out left at r n e la lt w = (
 
 -- a request served: what was asked of the pool before, and the words before and after
 module _ (o : Own) (a t b u line : Bytes) (q : Request) (d : Outcome) (asked : q ≡ requestOf line)
-    (e : handed d (take (o .words) b) (take (recordWords * o .slots) u) [] ≡ acted (actOf q) (ownPool o a t)) where
+    (e : handed d (take (o .words) b) (take (recordWords * o .slots) u) [] ≡ acted treeEngine (actOf q) (ownPool o a t)) where
   abbrev own : Own
   own = record { head = d .head; words = o .words; slots = o .slots }
 
   pool-after : ownPool own b u ≡ poolAfter treeEngine (ownPool o a t) (actOf q)
-  pool-after =
-      acted-pool (actOf q) (o .head) (take (o .words) a) (take (recordWords * o .slots) t) d (take (o .words) b)
-      (take (recordWords * o .slots) u) e
+  pool-after = ap (λ (x : Result). x .pool) e
 
   request-lent : Lent (Serving o) a t → length b ≡ length a → length u ≡ length t → Lent (Serving own) b u
   request-lent l lb lu =
       lent-own own b u (lb ∙ l .0) (lu ∙ l .1)
       (subst (λ (n : ℕ). o .words ≤ n) (sym lb) (arena-lies o a t l))
       (subst (λ (n : ℕ). recordWords * o .slots ≤ n) (sym lu) (table-lies o a t l))
-      (acted-sound (ownPool o a t) (actOf q) (ownPool own b u) pool-after (own-sound o a t l))
+      (acted-sound treeEngine tree-laws (ownPool o a t) (actOf q) (ownPool own b u) pool-after (own-sound o a t l))
 
   asked-line : actLine (ownPool o a t) (actOf q) ≡ serve (standingOf (Serving o) a t) line
   unfolding serve
@@ -89,5 +89,5 @@ module _ (o : Own) (a t b u line : Bytes) (q : Request) (d : Outcome) (asked : q
       became-as asked-line (Serving own) b u out left at r (
         request-lent l lb lu,
         ap serving pool-after,
-        subst (λ (x : Left). Wrote out left at r (answerLine (x .answer))) e w,
+        subst (λ (x : Result). Wrote out left at r (answerLine (x .answer))) e w,
       )

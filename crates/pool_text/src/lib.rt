@@ -17,8 +17,9 @@ ghost use Rattle.calls.specs.Pool.{sound};
 ghost use Rattle.calls.specs.Step.{format, step};
 ghost use Rattle.calls.specs.Engines.{treeEngine};
 ghost use Rattle.call_parts.specs.Parts.{actOf};
+ghost use Rattle.call_parts.specs.Results.{resultOf, acted};
 ghost use Rattle.tree_check.specs.Gate.{treePool};
-ghost use Rattle.tree_pool.specs.Promises.{poolOf, handed, left, acted};
+ghost use Rattle.tree_pool.specs.Promises.{poolOf, handed};
 ghost use Rattle.text.specs.Fields.{Wrote};
 ghost use Rattle.text.specs.Lines.{feed, finish};
 ghost use Rattle.pool_text.specs.Meaning.{begins, sizesOf, askOf, giveOf, requestOf, opened, firstLine};
@@ -147,7 +148,7 @@ fn stop(out: &mut [u8], at: usize, number: u32) -> Line
 fn format_front(arena: &mut [u32], n: usize, table: &mut [u32], t: usize) -> Outcome
     requires { ⌜ (n ≤ length (now arena)) × (t ≤ length (now table)) ⌝ }
     ensures { λ r. ⌜ handed r (take n (now (arena .exit))) (take t (now (table .exit))) []
-        ≡ left (step treeEngine format (treePool 0 0 (take n (now (arena .entry)))
+        ≡ resultOf (step treeEngine format (treePool 0 0 (take n (now (arena .entry)))
         (take t (now (table .entry))))) ⌝ }
 {
     let start = 0;
@@ -215,7 +216,7 @@ fn serve_front(
     requires { ⌜ (n ≤ length (now arena)) × (t ≤ length (now table)) ⌝ }
     requires { ⌜ sound treeEngine (poolOf head (take n (now arena)) (take t (now table))) ≡ true ⌝ }
     ensures { λ r. ⌜ handed r (take n (now (arena .exit))) (take t (now (table .exit))) []
-        ≡ acted (actOf request) (poolOf head (take n (now (arena .entry))) (take t (now (table .entry)))) ⌝ }
+        ≡ acted treeEngine (actOf request) (poolOf head (take n (now (arena .entry))) (take t (now (table .entry)))) ⌝ }
 {
     let start = 0;
     tree_pool::serve(head, &mut arena[start..n], &mut table[start..t], request)

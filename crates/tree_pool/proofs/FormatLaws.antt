@@ -7,7 +7,7 @@ use mathlib.Core.Bool.{true, false, false≢true}
 use mathlib.Core.List.{[], _∷_}
 use lib.ListN.{length, replicate, length-replicate, getD-replicate}
 use Rattle.words.specs.Lists.{Words}
-use Rattle.ledger.specs.Records.{emptyRow, tableOf, recordWords, slots}
+use Rattle.ledger.specs.Records.{emptyRow, slots}
 use Rattle.ledger.specs.Units.{free, owned, covers, owns}
 use Rattle.ledger.specs.Runs.{run, runsFrom, freeRuns}
 use Rattle.ledger.proofs.UnitLaws.{valid-blank}
@@ -16,14 +16,15 @@ use Rattle.stored_forms.specs.Tree.{formOne, formRule, freeTree, treeOf, node, 
 use Rattle.stored_forms.proofs.TreeLaws.{freeTree-one}
 use Rattle.stored_forms.specs.Blocks.{Holds, Zeros}
 use Rattle.tree_nodes.specs.Nodes.{NodePut}
-use Rattle.calls.specs.declared.Answer.{Answer}
-use Rattle.calls.specs.Pool.{Pool, firstTicket, lengths}
-use Rattle.calls.specs.Step.{zeroAnswer, format, behind, gate, perform, step}
+use Rattle.calls.specs.Pool.{Pool, firstTicket, lengths, store}
+use Rattle.calls.specs.Step.{blank, format, step}
 use Rattle.calls.specs.Engines.{treeEngineOf, treeEngine}
+use Rattle.call_parts.specs.Results.{resultOf}
+use Rattle.call_parts.proofs.FormatLaws.{zero-table, format-refused}
 use Rattle.tree_check.specs.Gate.{treePool}
 use Rattle.tree_check.proofs.GateLaws.{InRange, in-range}
 use Rattle.tree_pool.specs.declared.Outcome.{Outcome}
-use Rattle.tree_pool.specs.Promises.{Left, handed, left, refusedWith}
+use Rattle.tree_pool.specs.Promises.{handed, refusedWith}
 use Rattle.tree_pool.proofs.StoredLaws.{Shows, stored-pool}
 
 blank-free : (k u : ℕ) → free (formRule formOne) (replicate k emptyRow) u ≡ true
@@ -35,13 +36,6 @@ pub blank-owned : (k i : ℕ) → owned (formRule formOne) (replicate k emptyRow
 unfolding owned owns
 blank-owned zero i = refl
 blank-owned (suc k) i = blank-owned k i
-
--- the table of no records is all zeros
-blank-table : (k : ℕ) → replicate (recordWords * k) 0 ≡ tableOf (replicate k emptyRow)
-blank-table zero = refl
-blank-table (suc k) =
-    let e : recordWords * suc k ≡ suc (suc (suc (recordWords * k))) = omega arith in
-    rw e (ap (λ (l : Words). 0 ∷ 0 ∷ 0 ∷ l) (blank-table k))
 
 -- one block of all cells
 blank-tree : (W k : ℕ) → 2 ≤ W → freeTree formOne W (replicate k emptyRow) ≡ node leaf (run 0 (W / 2)) leaf
@@ -78,34 +72,21 @@ blank-shows a b k h even put =
 abbrev pub blankPool : Words → Words → Pool
 blankPool a t = treePool 0 0 a t
 
-pub format-refused : (a t : Words) (x : Outcome) → false ≡ lengths treeEngine (blankPool a t)
+pub head-refused : (a t : Words) (x : Outcome) → false ≡ lengths treeEngine (blankPool a t)
     → x ≡ refusedWith (record { root = 0; next = 0 }) 8
-    → handed x a t [] ≡ left (step treeEngine format (blankPool a t))
-unfolding step gate behind treeEngine treeEngineOf
-format-refused a t x e h = rw (← e, h)
+    → handed x a t [] ≡ resultOf (step treeEngine format (blankPool a t))
+unfolding treeEngine treeEngineOf
+head-refused a t x e h = ap (λ (o : Outcome). handed o a t []) h ∙ format-refused treeEngine (blankPool a t) e
 
 module _ (a t : Words) (right : true ≡ lengths treeEngine (blankPool a t)) where
   pub fit : InRange a t
   fit = in-range 0 0 a t (sym right)
 
-  zero-table : replicate (length t) 0 ≡ tableOf (replicate (slots t) emptyRow)
-  zero-table =
-      let threes : length t % 3 ≡ 0 = fit .threes in
-      let e : length t ≡ recordWords * slots t = omega arith in
-      ap (λ (n : ℕ). replicate n 0) e ∙ blank-table (slots t)
-
-  pub format-done : (b z : Words) (x : Answer) → NodePut formOne (replicate (length a) 0) b 0 (length a / 2) 0 0
-      → z ≡ replicate (length t) 0 → x ≡ zeroAnswer
-      → handed (record { head = record { root = 1; next = 1 }; answer = x }) b z []
-      ≡ left (step treeEngine format (blankPool a t))
-  unfolding step gate behind perform
-  format-done b z x put e h =
-      let L = replicate (slots t) emptyRow in
-      let pool = stored-pool (blankPool a t) L firstTicket firstTicket 1 b z refl (fit .even)
+  pub blank-pool : (b z : Words) → NodePut formOne (replicate (length a) 0) b 0 (length a / 2) 0 0
+      → z ≡ replicate (length t) 0
+      → treePool 1 1 b z ≡ store treeEngine (blank treeEngine (blankPool a t)) firstTicket (blankPool a t)
+  blank-pool b z put e =
+      stored-pool (blankPool a t) (replicate (slots t) emptyRow) firstTicket firstTicket 1 b z refl (fit .even)
       (valid-blank (formRule formOne) (length a) firstTicket (slots t))
       (blank-shows a b (slots t) (fit .some) (fit .even) put)
-      (e ∙ zero-table) in
-      rw (← right, h) (ap (λ (p : Pool). leftOf p) pool)
-    where
-      leftOf : Pool → Left
-      leftOf p = record { answer = zeroAnswer; head = p .head; arena = p .arena; table = p .table; buffers = [] }
+      (e ∙ zero-table t (fit .threes))

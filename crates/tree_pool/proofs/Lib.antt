@@ -2,8 +2,6 @@
 pub mod StoredLaws
 pub mod SoundLaws
 pub mod FormatLaws
-pub mod LookLaws
 pub mod ActedLaws
 pub mod GrantLaws
 pub mod ReleaseLaws
-pub mod RequestLaws

@@ -16,10 +16,10 @@ ghost use Rattle.calls.specs.Step.{format, allocate, release, find, look, list,
 ghost use Rattle.calls.specs.Step.{ask, give, answerTo, poolAfter};
 ghost use Rattle.calls.specs.Engines.{treeEngine};
 ghost use Rattle.call_parts.specs.Parts.{namedIn, actOf, requestAt, withAnswer};
+ghost use Rattle.call_parts.specs.Results.{resultOf, acted, ran, wholeSlice, sliceOf};
 ghost use Rattle.tree_check.specs.Gate.{treePool};
 ghost use Rattle.tree_pool.specs.Granting.{Found};
-ghost use Rattle.tree_pool.specs.Promises.{poolOf, handed, left, acted, ran, refusedWith, granted, vacated};
-ghost use Rattle.tree_pool.specs.Promises.{sliceOf, whole};
+ghost use Rattle.tree_pool.specs.Promises.{poolOf, handed, refusedWith, granted, vacated};
 
 // What a call is passed and hands back: the root link and the next ticket, 0 when none is left.
 pub struct Head {
@@ -67,7 +67,7 @@ pub fn look<'a>(
     placeholder: &'a [u32],
     named: Row,
 ) -> &'a [u32]
-    ensures { λ r. ⌜ whole r
+    ensures { λ r. ⌜ wholeSlice r
         ≡ sliceOf (step treeEngine (look named (now (placeholder .entry))) (poolOf head
         (now (arena .entry)) (now (table .entry))) .shown) (arena .entry) (placeholder .entry) ⌝ }
 {
@@ -97,7 +97,7 @@ fn refused_with(head: Head, number: u32) -> Outcome
 // and hands back a head of zeros.
 pub fn format(arena: &mut [u32], table: &mut [u32]) -> Outcome
     ensures { λ r. ⌜ handed r (now (arena .exit)) (now (table .exit)) []
-        ≡ left (step treeEngine format (treePool 0 0 (now (arena .entry)) (now (table .entry)))) ⌝ }
+        ≡ resultOf (step treeEngine format (treePool 0 0 (now (arena .entry)) (now (table .entry)))) ⌝ }
 {
     if !tree_check::right_lengths(arena, table) {
         return refused_with(Head { root: 0, next: 0 }, 8);
@@ -142,7 +142,7 @@ fn place(
 ) -> Effect
     requires { ⌜ Found head (now arena) (now table) words slot block over ⌝ }
     ensures { λ r. ⌜ handed (granted head words r) (now (arena .exit)) (now (table .exit)) []
-        ≡ acted (ask words) (poolOf head (now (arena .entry)) (now (table .entry))) ⌝ }
+        ≡ acted treeEngine (ask words) (poolOf head (now (arena .entry)) (now (table .entry))) ⌝ }
 {
     let cells = record_table::span_of(Rule { unit: 2, lead: 0 }, words);
     let root = free_blocks::take_cells(arena, head.root as usize, block, over, cells);
@@ -164,7 +164,7 @@ fn place(
 fn grant(head: Head, arena: &mut [u32], table: &mut [u32], words: u32) -> Effect
     requires { ⌜ sound treeEngine (poolOf head (now arena) (now table)) ≡ true ⌝ }
     ensures { λ r. ⌜ handed (granted head words r) (now (arena .exit)) (now (table .exit)) []
-        ≡ acted (ask words) (poolOf head (now (arena .entry)) (now (table .entry))) ⌝ }
+        ≡ acted treeEngine (ask words) (poolOf head (now (arena .entry)) (now (table .entry))) ⌝ }
 {
     if (words == 0) | (16384 < words) {
         return no_effect(2);
@@ -211,7 +211,7 @@ fn outcome_of_grant(head: Head, words: u32, done: Effect) -> Outcome
 // Words under the next ticket, at the lowest address where enough free cells lie together.
 pub fn allocate(head: Head, arena: &mut [u32], table: &mut [u32], words: u32) -> Outcome
     ensures { λ r. ⌜ handed r (now (arena .exit)) (now (table .exit)) []
-        ≡ left (step treeEngine (allocate words) (poolOf head (now (arena .entry)) (now (table .entry)))) ⌝ }
+        ≡ resultOf (step treeEngine (allocate words) (poolOf head (now (arena .entry)) (now (table .entry)))) ⌝ }
 {
     let number = tree_check::gate_number(head.root, head.next, &*arena, &*table);
     if number != 0 {
@@ -228,7 +228,7 @@ fn give_back(head: Head, arena: &mut [u32], table: &mut [u32], named: Row, slot:
     requires { ⌜ (sound treeEngine (poolOf head (now arena) (now table))
         ≡ true) × (namedIn (now table) named ≡ Named.Slot slot) ⌝ }
     ensures { λ r. ⌜ handed (vacated head named r) (now (arena .exit)) (now (table .exit)) []
-        ≡ acted (give named) (poolOf head (now (arena .entry)) (now (table .entry))) ⌝ }
+        ≡ acted treeEngine (give named) (poolOf head (now (arena .entry)) (now (table .entry))) ⌝ }
 {
     let lo = record_table::first_unit(Rule { unit: 2, lead: 0 }, named);
     let hi = record_table::past_unit(Rule { unit: 2, lead: 0 }, named);
@@ -250,7 +250,7 @@ fn give_back(head: Head, arena: &mut [u32], table: &mut [u32], named: Row, slot:
 fn vacate(head: Head, arena: &mut [u32], table: &mut [u32], named: Row) -> Effect
     requires { ⌜ sound treeEngine (poolOf head (now arena) (now table)) ≡ true ⌝ }
     ensures { λ r. ⌜ handed (vacated head named r) (now (arena .exit)) (now (table .exit)) []
-        ≡ acted (give named) (poolOf head (now (arena .entry)) (now (table .entry))) ⌝ }
+        ≡ acted treeEngine (give named) (poolOf head (now (arena .entry)) (now (table .entry))) ⌝ }
 {
     match call_parts::named_slot(table, named) {
         Named::Refused(number) => no_effect(number),
@@ -279,7 +279,7 @@ fn outcome_of_release(head: Head, named: Row, done: Effect) -> Outcome
 // it.
 pub fn release(head: Head, arena: &mut [u32], table: &mut [u32], named: Row) -> Outcome
     ensures { λ r. ⌜ handed r (now (arena .exit)) (now (table .exit)) []
-        ≡ left (step treeEngine (release named) (poolOf head (now (arena .entry)) (now (table .entry)))) ⌝ }
+        ≡ resultOf (step treeEngine (release named) (poolOf head (now (arena .entry)) (now (table .entry)))) ⌝ }
 {
     let number = tree_check::gate_number(head.root, head.next, &*arena, &*table);
     if number != 0 {
@@ -295,7 +295,7 @@ pub fn release(head: Head, arena: &mut [u32], table: &mut [u32], named: Row) -> 
 pub fn serve(head: Head, arena: &mut [u32], table: &mut [u32], request: Request) -> Outcome
     requires { ⌜ sound treeEngine (poolOf head (now arena) (now table)) ≡ true ⌝ }
     ensures { λ r. ⌜ handed r (now (arena .exit)) (now (table .exit)) []
-        ≡ acted (actOf request) (poolOf head (now (arena .entry)) (now (table .entry))) ⌝ }
+        ≡ acted treeEngine (actOf request) (poolOf head (now (arena .entry)) (now (table .entry))) ⌝ }
 {
     match request {
         Request::Ask(words) => {
@@ -345,7 +345,7 @@ fn serve_all(
     requires { ⌜ sound treeEngine (poolOf head (now arena) (now table)) ≡ true ⌝ }
     requires { ⌜ (length (now asked) % 4 ≡ 0) × (length (now asked) ≤ length (now answers)) ⌝ }
     ensures { λ r. ⌜ (poolOf r (now (arena .exit)) (now (table .exit)), now (answers .exit))
-        ≡ ran (now (asked .entry)) (now (answers .entry)) (poolOf head (now (arena .entry)) (now (table .entry))) ⌝ }
+        ≡ ran treeEngine (now (asked .entry)) (now (answers .entry)) (poolOf head (now (arena .entry)) (now (table .entry))) ⌝ }
 {
     let mut after = head;
     let mut i = 0;
@@ -366,7 +366,7 @@ pub fn list(
     answers: &mut [u32],
 ) -> Outcome
     ensures { λ r. ⌜ handed r (now (arena .exit)) (now (table .exit)) (now (answers .exit) ∷ [])
-        ≡ left (step treeEngine (list (now (asked .entry)) (now (answers .entry))) (poolOf head
+        ≡ resultOf (step treeEngine (list (now (asked .entry)) (now (answers .entry))) (poolOf head
         (now (arena .entry)) (now (table .entry)))) ⌝ }
 {
     if !call_parts::list_suits(asked, answers) {

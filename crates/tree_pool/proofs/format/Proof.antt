@@ -15,7 +15,8 @@ use Rattle.calls.specs.Pool.{lengths}
 use Rattle.calls.specs.Engines.{treeEngine}
 use Rattle.tree_check.specs.Gate.{treePool}
 use Rattle.tree_check.proofs.GateLaws.{InRange}
-use Rattle.tree_pool.proofs.FormatLaws.{format-refused, format-done, fit}
+use Rattle.call_parts.proofs.FormatLaws.{format-result}
+use Rattle.tree_pool.proofs.FormatLaws.{head-refused, blank-pool, fit}
 use Rattle.tree_pool.proofs.format.Statement.{statement}
 use Rattle.tree_pool.proofs.format.Tie as tie
 
@@ -46,7 +47,7 @@ returns : tie.Need-returns
 returns c =
     let r = c .before .before in
     let s = r .before .before .before .before .before in
-    format-refused (now (s .args .arena)) (now (s .args .table)) (c .refused-with .result)
+    head-refused (now (s .args .arena)) (now (s .args .table)) (c .refused-with .result)
     (sym (not-true _ (c .before .if1 .taken)) ∙ r .right-lengths .ensures 0 0) (c .refused-with .ensures)
 
 cast-cells : tie.Need-cast-cells
@@ -81,11 +82,12 @@ returns-2 c =
     let w = z .before .before .before .before in
     let i = w .before .before in
     let s = i .before .before .before .before .before .before in
-    format-done (now (s .args .arena)) (now (s .args .table)) (right i)
-    (n .put-node .last .0) (z .wipe2 .last .0) (c .succeeded .result)
+    format-result treeEngine (treePool 0 0 (now (s .args .arena)) (now (s .args .table))) (right i)
+    (c .succeeded .result) (treePool 1 1 (n .put-node .last .0) (z .wipe2 .last .0)) (c .succeeded .ensures)
+    (blank-pool (now (s .args .arena)) (now (s .args .table)) (right i) (n .put-node .last .0) (z .wipe2 .last .0)
     (subst (λ (m : Words). NodePut formOne m (n .put-node .last .0) 0 (length (now (s .args .arena)) / 2) 0 0)
     (w .wipe .ensures) (n .put-node .ensures))
-    (z .wipe2 .ensures) (c .succeeded .ensures)
+    (z .wipe2 .ensures))
 
 pub format-spec : {M : Type 1} → statement M
 format-spec =

@@ -12,8 +12,9 @@ use Rattle.ledger.specs.Runs.{freeRuns}
 use Rattle.stored_forms.specs.Tree.{formOne, formRule}
 use Rattle.free_blocks.specs.Blocks.{Gives, Given}
 use Rattle.calls.specs.Step.{give}
-use Rattle.tree_pool.specs.Promises.{poolOf, vacated}
-use Rattle.tree_pool.proofs.ActedLaws.{acted-left}
+use Rattle.calls.specs.Engines.{treeEngine}
+use Rattle.call_parts.proofs.ResultLaws.{acted-by}
+use Rattle.tree_pool.specs.Promises.{poolOf}
 use Rattle.tree_pool.proofs.ReleaseLaws.{release-range, release-slot, release-gives}
 use Rattle.tree_pool.proofs.ReleaseLaws.{release-answer, release-root, release-pool}
 use Rattle.tree_pool.proofs.give_back.Statement.{statement}
@@ -92,9 +93,7 @@ returns c =
     let q = release-pool h a t (s .args .named) (s .args .slot) (s .pre .0) (s .pre .1) (g .give-cells .last .0)
     (w .write-row .last .0)
     (g .give-cells .result) (given g) (w .write-row .ensures) in
-    acted-left (give (s .args .named)) (poolOf h a t)
-    (vacated h (s .args .named) (record { number = 0; root = g .give-cells .result; address = 0 }))
-    (g .give-cells .last .0) (w .write-row .last .0)
+    acted-by treeEngine (give (s .args .named)) (poolOf h a t) _ _
     (release-answer h a t (s .args .named) (s .args .slot) (s .pre .0) (s .pre .1)) q
 
 pub give-back-spec : {M : Type 1} → statement M

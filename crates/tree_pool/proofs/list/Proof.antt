@@ -1,15 +1,16 @@
 -- `tree_pool::list` meets its contract: row 8 of the list, the gate, then all requests. Assumes nothing.
-use mathlib.Core.Path.{_∙_, sym, refl}
+use mathlib.Core.Path.{_∙_, sym, ap, refl}
 use borrow.Author.Needs.{needs}
 use borrow.Author.Tests.{not-true, not-false}
 use denote.Ref.{now}
+use mathlib.Core.List.{[], _∷_}
 use Rattle.calls.specs.Step.{list}
 use Rattle.calls.specs.Engines.{treeEngine}
 use Rattle.calls.proofs.GateLaws.{gate-opens}
-use Rattle.tree_pool.specs.Promises.{poolOf}
-use Rattle.tree_pool.proofs.ActedLaws.{gate-left}
-use Rattle.tree_pool.proofs.RequestLaws.{list-unsuited, list-left}
+use Rattle.call_parts.proofs.ResultLaws.{gate-result, unsuited-result, list-result}
 use Rattle.call_parts.proofs.WholeLists.{suited-lengths}
+use Rattle.tree_pool.specs.declared.Outcome.{Outcome}
+use Rattle.tree_pool.specs.Promises.{poolOf, handed}
 use Rattle.tree_pool.proofs.list.Statement.{statement}
 use Rattle.tree_pool.proofs.list.Tie as tie
 
@@ -31,8 +32,9 @@ returns c =
     let t = now (s .args .table) in
     let rs = now (s .args .asked) in
     let bs = now (s .args .answers) in
-    list-unsuited h a t rs bs (sym (u .list-suits .ensures) ∙ not-true (u .list-suits .result) (c .before .if1 .taken))
-    (c .refused-with .result) (c .refused-with .ensures)
+    ap (λ (o : Outcome). handed o a t (bs ∷ [])) (c .refused-with .ensures)
+    ∙ unsuited-result treeEngine (poolOf h a t) rs bs
+    (sym (u .list-suits .ensures) ∙ not-true (u .list-suits .result) (c .before .if1 .taken))
 
 gate-number-requires : tie.Need-gate-number-requires
 gate-number-requires c κs = search needs
@@ -61,9 +63,9 @@ returns-2 c =
     let rs = now (s .args .asked) in
     let bs = now (s .args .answers) in
     let suits = sym (u .list-suits .ensures) ∙ not-false (u .list-suits .result) (f .if1 .left) in
-    gate-left h a t (c .refused-with2 .result) (g .gate-number .result) (g .gate-number .ensures)
-    (c .before .if2 .taken)
-    (list rs bs) refl suits (c .refused-with2 .ensures)
+    ap (λ (o : Outcome). handed o a t (bs ∷ [])) (c .refused-with2 .ensures)
+    ∙ gate-result treeEngine (poolOf h a t) (g .gate-number .result) (g .gate-number .ensures) (c .before .if2 .taken)
+    (list rs bs) refl suits
 
 serve-all-requires : tie.Need-serve-all-requires
 serve-all-requires c κs =
@@ -110,9 +112,9 @@ returns-3 c =
     let bs = now (s .args .answers) in
     let suits = sym (u .list-suits .ensures) ∙ not-false (u .list-suits .result) (f .if1 .left) in
     let ok = gate-opens treeEngine (poolOf h a t) (g .gate-number .result) (g .gate-number .ensures) (e .if2 .left) in
-    list-left h a t rs bs suits ok (record { head = d .serve-all .result; answer = c .succeeded .result })
-    (d .serve-all .last .1 .0) (d .serve-all .last .1 .1 .0) (d .serve-all .last .1 .1 .1 .1 .0)
-    (c .succeeded .ensures) (d .serve-all .ensures)
+    list-result treeEngine (poolOf h a t) rs bs suits ok (c .succeeded .result)
+    (poolOf (d .serve-all .result) (d .serve-all .last .1 .0) (d .serve-all .last .1 .1 .0))
+    (d .serve-all .last .1 .1 .1 .1 .0) (c .succeeded .ensures) (d .serve-all .ensures)
 
 pub list-spec : {M : Type 1} → statement M
 list-spec =

@@ -7,8 +7,8 @@ use Rattle.calls.specs.declared.Answer.{Answer}
 use Rattle.calls.specs.Engines.{treeEngine}
 use Rattle.calls.proofs.Engines.{tree-laws}
 use Rattle.call_parts.proofs.FindLaws.{found-inside}
+use Rattle.call_parts.proofs.LookLaws.{look-holds, look-found}
 use Rattle.tree_pool.specs.Promises.{poolOf}
-use Rattle.tree_pool.proofs.LookLaws.{look-holds, look-found}
 use Rattle.tree_pool.proofs.look.Statement.{statement}
 use Rattle.tree_pool.proofs.look.Tie as tie
 
@@ -20,8 +20,8 @@ returns c =
     let f = c .before in
     let s = f .before .before .before .before in
     let p = poolOf (s .args .head) (now (s .args .arena)) (now (s .args .table)) in
-    look-holds p (s .args .named) (s .args .arena) (s .args .placeholder) (f .find .result) (f .find .ensures)
-    (c .if1 .taken)
+    look-holds treeEngine p (s .args .named) (s .args .arena) (s .args .placeholder) (now (s .args .placeholder))
+    (f .find .result) (f .find .ensures) (c .if1 .taken)
 
 cast-from : tie.Need-cast-from
 cast-from c = search needs
@@ -56,8 +56,8 @@ returns-2 c =
     let s = f .before .before .before .before in
     let p = poolOf (s .args .head) (now (s .args .arena)) (now (s .args .table)) in
     rw (add-sub-cancel-left (s .args .named .address) (s .args .named .words))
-    (look-found p (s .args .named) (s .args .arena) (s .args .placeholder) (f .find .result) (f .find .ensures)
-    (i .if1 .left))
+    (look-found treeEngine p (s .args .named) (s .args .arena) (s .args .placeholder) (now (s .args .placeholder))
+    (f .find .result) (f .find .ensures) (i .if1 .left))
 
 pub look-spec : {M : Type 1} → statement M
 look-spec =

@@ -13,8 +13,9 @@ use Rattle.free_blocks.specs.Blocks.{Takes, Taken}
 use Rattle.tree_check.proofs.GateLaws.{InRange}
 use Rattle.ledger.specs.Units.{span}
 use Rattle.calls.specs.Step.{ask}
-use Rattle.tree_pool.specs.Promises.{poolOf, granted}
-use Rattle.tree_pool.proofs.ActedLaws.{acted-left}
+use Rattle.calls.specs.Engines.{treeEngine}
+use Rattle.call_parts.proofs.ResultLaws.{acted-by}
+use Rattle.tree_pool.specs.Promises.{poolOf}
 use Rattle.tree_pool.proofs.GrantLaws.{place-takes, place-inside, place-root, place-pool}
 use Rattle.tree_pool.proofs.GrantLaws.{place-answer, place-range, place-slot}
 use Rattle.tree_pool.proofs.place.Statement.{statement}
@@ -106,10 +107,7 @@ returns c =
     let q = place-pool h a u (s .args .words) (s .args .slot) (s .args .block) (s .args .over) (s .pre)
     (t .take-cells .last .0) (w .write-row .last .0)
     (t .take-cells .result) (taken t) (w .write-row .ensures) in
-    acted-left (ask (s .args .words)) (poolOf h a u)
-    (granted h (s .args .words)
-    (record { number = 0; root = t .take-cells .result; address = 2 * (s .args .block - 1) }))
-    (t .take-cells .last .0) (w .write-row .last .0)
+    acted-by treeEngine (ask (s .args .words)) (poolOf h a u) _ _
     (place-answer h a u (s .args .words) (s .args .slot) (s .args .block) (s .args .over) (s .pre)) q
 
 pub place-spec : {M : Type 1} → statement M

@@ -1,5 +1,5 @@
 -- `tree_pool::release` meets its contract: the gate, then one act, and the outcome of its effect. Assumes nothing.
-use mathlib.Core.Path.{refl}
+use mathlib.Core.Path.{refl, ap, _∙_}
 use borrow.Author.Needs.{needs}
 use denote.Ref.{now}
 use mathlib.Core.List.{[]}
@@ -7,7 +7,8 @@ use Rattle.calls.specs.Step.{release, give}
 use Rattle.calls.specs.Engines.{treeEngine}
 use Rattle.calls.proofs.GateLaws.{gate-opens}
 use Rattle.tree_pool.specs.Promises.{poolOf, handed}
-use Rattle.tree_pool.proofs.ActedLaws.{same-left, gate-left, one-left}
+use Rattle.call_parts.proofs.ResultLaws.{gate-result, single-result}
+use Rattle.tree_pool.specs.declared.Outcome.{Outcome}
 use Rattle.tree_pool.proofs.release.Statement.{statement}
 use Rattle.tree_pool.proofs.release.Tie as tie
 
@@ -27,9 +28,11 @@ returns : tie.Need-returns
 returns c =
     let g = c .before .before in
     let s = g .before .before .before .before .before in
-    gate-left (s .args .head) (now (s .args .arena)) (now (s .args .table)) (c .refused-with .result)
-    (g .gate-number .result)
-    (g .gate-number .ensures) (c .before .if1 .taken) (release (s .args .named)) refl refl (c .refused-with .ensures)
+    let a = now (s .args .arena) in
+    let t = now (s .args .table) in
+    ap (λ (o : Outcome). handed o a t []) (c .refused-with .ensures)
+    ∙ gate-result treeEngine (poolOf (s .args .head) a t) (g .gate-number .result) (g .gate-number .ensures)
+    (c .before .if1 .taken) (release (s .args .named)) refl refl
 
 vacate-requires : tie.Need-vacate-requires
 vacate-requires c κs =
@@ -58,8 +61,8 @@ returns-2 c =
     let p = poolOf (s .args .head) (now (s .args .arena)) (now (s .args .table)) in
     let ok = gate-opens treeEngine p (g .gate-number .result) (g .gate-number .ensures)
     (q .before .before .before .if1 .left) in
-    one-left p ok (handed (c .outcome-of-release .result) b u []) .1 (s .args .named)
-    (same-left (give (s .args .named)) p b u (c .outcome-of-release .ensures) (q .vacate .ensures))
+    ap (λ (o : Outcome). handed o b u []) (c .outcome-of-release .ensures) ∙ q .vacate .ensures
+    ∙ single-result treeEngine (give (s .args .named)) p ok
 
 pub release-spec : {M : Type 1} → statement M
 release-spec =

@@ -5,10 +5,13 @@ use denote.Ref.{now}
 use Rattle.calls.specs.Step.{bad}
 use Rattle.call_parts.specs.declared.Request.{Request}
 use Rattle.call_parts.specs.Parts.{actOf}
-use Rattle.tree_pool.specs.Promises.{poolOf, acted}
-use Rattle.tree_pool.proofs.ActedLaws.{same-left, refused-left}
+use mathlib.Core.List.{[]}
 use Rattle.calls.specs.Engines.{treeEngine}
+use Rattle.call_parts.specs.Results.{acted}
 use Rattle.call_parts.proofs.WholeLists.{bad-refused}
+use Rattle.tree_pool.specs.declared.Outcome.{Outcome}
+use Rattle.tree_pool.specs.Promises.{poolOf, handed}
+use Rattle.tree_pool.proofs.ActedLaws.{refused-acted}
 use Rattle.tree_pool.proofs.serve.Statement.{statement}
 use Rattle.tree_pool.proofs.serve.Tie as tie
 
@@ -48,9 +51,8 @@ returns c =
     let m = g .before .before .before .before in
     let s = m .before .before .before .before in
     let p = poolOf (s .args .head) (now (s .args .arena)) (now (s .args .table)) in
-    same-left (actOf (s .args .request)) p (g .grant .last .1 .0) (g .grant .last .1 .1 .0)
-    (c .outcome-of-grant .ensures)
-    (g .grant .ensures ∙ ap (λ (x : Request). acted (actOf x) p) (sym (m .request .given .1)))
+    ap (λ (o : Outcome). handed o (g .grant .last .1 .0) (g .grant .last .1 .1 .0) []) (c .outcome-of-grant .ensures)
+    ∙ g .grant .ensures ∙ ap (λ (x : Request). acted treeEngine (actOf x) p) (sym (m .request .given .1))
 
 same-length-3 : tie.Need-same-length-3
 same-length-3 c = search needs
@@ -64,18 +66,17 @@ returns-2 c =
     let m = g .before .before .before .before in
     let s = m .before .before .before .before in
     let p = poolOf (s .args .head) (now (s .args .arena)) (now (s .args .table)) in
-    same-left (actOf (s .args .request)) p (g .vacate .last .1 .0) (g .vacate .last .1 .1 .0)
-    (c .outcome-of-release .ensures)
-    (g .vacate .ensures ∙ ap (λ (x : Request). acted (actOf x) p) (sym (m .request2 .given .1)))
+    ap (λ (o : Outcome). handed o (g .vacate .last .1 .0) (g .vacate .last .1 .1 .0) []) (c .outcome-of-release .ensures)
+    ∙ g .vacate .ensures ∙ ap (λ (x : Request). acted treeEngine (actOf x) p) (sym (m .request2 .given .1))
 
 returns-3 : tie.Need-returns-3
 returns-3 c =
     let s = c .before .before .before .before .before in
     let a = now (s .args .arena) in
     let t = now (s .args .table) in
-    refused-left bad (s .args .head) a t (c .refused-with .result) 9 (c .refused-with .ensures)
+    refused-acted (s .args .head) a t bad (c .refused-with .result) 9 (c .refused-with .ensures)
     (bad-refused treeEngine (poolOf (s .args .head) a t))
-    ∙ ap (λ (x : Request). acted (actOf x) (poolOf (s .args .head) a t)) (sym (c .before .enum-told .given .1))
+    ∙ ap (λ (x : Request). acted treeEngine (actOf x) (poolOf (s .args .head) a t)) (sym (c .before .enum-told .given .1))
 
 pub serve-spec : {M : Type 1} → statement M
 serve-spec =

@@ -13,7 +13,8 @@ use Rattle.calls.specs.Engines.{treeEngine}
 use Rattle.call_parts.specs.Parts.{requestAt}
 use Rattle.call_parts.proofs.ListLaws.{Running, list-start, list-next, list-end}
 use Rattle.tree_pool.specs.Promises.{poolOf}
-use Rattle.tree_pool.proofs.RequestLaws.{acted-sound}
+use Rattle.calls.proofs.Engines.{tree-laws}
+use Rattle.call_parts.proofs.ResultLaws.{acted-sound}
 use Rattle.tree_pool.proofs.serve_all.Statement.{statement}
 use Rattle.tree_pool.proofs.serve_all.Tie as tie
 
@@ -59,7 +60,7 @@ loop-again c =
       d .serve-at .kept .1 .0 ∙ x .inv .0,
       d .serve-at .kept .1 .1 .0 ∙ x .inv .1,
       omega arith,
-      acted-sound q (requestAt rs (x .i)) q′ e (x .inv .3),
+      acted-sound treeEngine tree-laws q (requestAt rs (x .i)) q′ e (x .inv .3),
       list-next treeEngine p rs (now (s .args .answers)) (x .i) q q′ (x .answers) (d .serve-at .last .1 .1 .1 .1 .0)
           (omega arith) (omega (arith, v .size, s .pre .1 .1)) e (d .serve-at .ensures .1) v,
     )

@@ -5,8 +5,9 @@ use denote.Ref.{now}
 use Rattle.calls.specs.declared.Answer.{Answer}
 use Rattle.calls.specs.Step.{Act}
 use Rattle.call_parts.specs.Parts.{requestAt, withAnswer}
-use Rattle.tree_pool.specs.Promises.{Left, poolOf, acted}
-use Rattle.tree_pool.proofs.RequestLaws.{acted-pool}
+use Rattle.call_parts.specs.Results.{Result, acted}
+use Rattle.calls.specs.Engines.{treeEngine}
+use Rattle.tree_pool.specs.Promises.{poolOf}
 use Rattle.tree_pool.proofs.serve_at.Statement.{statement}
 use Rattle.tree_pool.proofs.serve_at.Tie as tie
 
@@ -37,11 +38,10 @@ returns c =
     let h = s .args .head in
     let a = now (s .args .arena) in
     let t = now (s .args .table) in
-    let act = requestAt (now (s .args .asked)) (s .args .i) in
-    let e = v .serve .ensures ∙ ap (λ (x : Act). acted x (poolOf h a t)) (q .request-at .ensures) in (
-      acted-pool act h a t (v .serve .result) (v .serve .last .1 .0) (v .serve .last .1 .1 .0) e,
+    let e = v .serve .ensures ∙ ap (λ (x : Act). acted treeEngine x (poolOf h a t)) (q .request-at .ensures) in (
+      ap (λ (l : Result). l .pool) e,
       w .put-answer .ensures
-          ∙ ap (λ (x : Answer). withAnswer (now (s .args .answers)) (s .args .i) x) (ap (λ (l : Left). l .answer) e),
+          ∙ ap (λ (x : Answer). withAnswer (now (s .args .answers)) (s .args .i) x) (ap (λ (l : Result). l .answer) e),
     )
 
 pub serve-at-spec : {M : Type 1} → statement M

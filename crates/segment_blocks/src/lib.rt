@@ -10,6 +10,7 @@ ghost use Rattle.stored_forms.specs.Segments.{largest};
 ghost use Rattle.segment_index.specs.Index.{indexOf};
 ghost use Rattle.segment_blocks.specs.Blocks.{Scan, Seeking, FirstFit, Chain, EndsAt, Reaches};
 ghost use Rattle.segment_blocks.specs.Upkeep.{OneBlock, Ready, Refreshed, RefreshedIf, Touched, firstFrom};
+use segment_index::Segments;
 use segment_index::index_word;
 use segment_index::larger;
 use segment_index::lesser;
@@ -88,13 +89,15 @@ pub fn first_from(from: usize, hi: usize, w: usize) -> u32
 }
 
 // Segment k is brought up to date, with the words above its leaf.
-pub fn refresh_segment(v: &[i32], t: &mut [u32], s: usize, g: usize, k: usize, from: usize)
-    requires { ⌜ ((c : ℕ → ℤ) × Ready (now v) c (now t) s g k from) ⌝ }
+pub fn refresh_segment(v: &[i32], t: &mut [u32], segments: Segments, k: usize, from: usize)
+    requires { ⌜ ((c : ℕ → ℤ) × Ready (now v) c (now t) (segments .count) (segments .size) k from) ⌝ }
     ensures { λ _. ⌜
-        ((c : ℕ → ℤ) → Ready (now (v .entry)) c (now (t .entry)) s g k from
-        → Refreshed c (length (now (v .entry))) s k (now (t .entry)) (now (t .exit)))
+        ((c : ℕ → ℤ) → Ready (now (v .entry)) c (now (t .entry)) (segments .count) (segments .size) k from
+        → Refreshed c (length (now (v .entry))) (segments .count) k (now (t .entry)) (now (t .exit)))
         ⌝ }
 {
+    let s = segments.count;
+    let g = segments.size;
     let w = v.len();
     let hi = lesser((k + 1) * g, w);
     let leaf = leaf_from(v, from, hi);
@@ -104,17 +107,17 @@ pub fn refresh_segment(v: &[i32], t: &mut [u32], s: usize, g: usize, k: usize, f
 }
 
 // The same where `on` says so.
-fn refresh_if(on: bool, v: &[i32], t: &mut [u32], s: usize, g: usize, k: usize, from: usize)
-    requires { ⌜ (on ≡ true → (c : ℕ → ℤ) × Ready (now v) c (now t) s g k from) ⌝ }
+fn refresh_if(on: bool, v: &[i32], t: &mut [u32], segments: Segments, k: usize, from: usize)
+    requires { ⌜ (on ≡ true → (c : ℕ → ℤ) × Ready (now v) c (now t) (segments .count) (segments .size) k from) ⌝ }
     ensures { λ _. ⌜
-        ((c : ℕ → ℤ) → (on ≡ true → Ready (now (v .entry)) c (now (t .entry)) s g k from)
-        → RefreshedIf on c (length (now (v .entry))) s k (now (t .entry)) (now (t .exit)))
+        ((c : ℕ → ℤ) → (on ≡ true → Ready (now (v .entry)) c (now (t .entry)) (segments .count) (segments .size) k from)
+        → RefreshedIf on c (length (now (v .entry))) (segments .count) k (now (t .entry)) (now (t .exit)))
         ⌝ }
 {
     if !on {
         return;
     }
-    refresh_segment(v, t, s, g, k, from);
+    refresh_segment(v, t, segments, k, from);
 }
 
 // The index follows a release, which changes at most three control words: at a and p, and at e if the y words there
@@ -122,43 +125,46 @@ fn refresh_if(on: bool, v: &[i32], t: &mut [u32], s: usize, g: usize, k: usize, 
 pub fn reindex(
     v: &[i32],
     t: &mut [u32],
-    s: usize,
-    g: usize,
+    segments: Segments,
     a: usize,
     p: usize,
     e: usize,
     end: usize,
     y: usize,
 )
-    requires { ⌜ ((b : ℕ → ℤ) × (c : ℕ → ℤ) × Touched b c (now v) (now t) s g a p e end y) ⌝ }
+    requires { ⌜ ((b : ℕ → ℤ) × (c : ℕ → ℤ) × Touched b c (now v) (now t) (segments .count) (segments .size) a p e end y) ⌝ }
     ensures { λ _. ⌜
-        ((b : ℕ → ℤ) → (c : ℕ → ℤ) → Touched b c (now (v .entry)) (now (t .entry)) s g a p e end y
-        → now (t .exit) ≡ indexOf c (length (now (v .entry))) s)
+        ((b : ℕ → ℤ) → (c : ℕ → ℤ) → Touched b c (now (v .entry)) (now (t .entry)) (segments .count) (segments .size) a p e end y
+        → now (t .exit) ≡ indexOf c (length (now (v .entry))) (segments .count))
         ⌝ }
 {
+    let s = segments.count;
+    let g = segments.size;
     let ka = segment_of(a, g);
     let kp = segment_of(p, g);
     let ke = segment_of(e, g);
     let from = index_word(t, 2 * s + ka);
-    refresh_segment(v, t, s, g, ka, from);
-    refresh_if(kp != ka, v, t, s, g, kp, end);
-    refresh_if((0 < y) & ((ke != ka) & (ke != kp)), v, t, s, g, ke, end);
+    refresh_segment(v, t, segments, ka, from);
+    refresh_if(kp != ka, v, t, segments, kp, end);
+    refresh_if((0 < y) & ((ke != ka) & (ke != kp)), v, t, segments, ke, end);
 }
 
 // The same after a grant, with less to ask: it changes only the control word at p and, where y words of the free run
 // are left, the one at e. p's segment is scanned, and e's from e on if it is another one.
-pub fn reindex_grant(v: &[i32], t: &mut [u32], s: usize, g: usize, p: usize, e: usize, y: usize)
-    requires { ⌜ ((b : ℕ → ℤ) × (c : ℕ → ℤ) × Touched b c (now v) (now t) s g p p e e y) ⌝ }
+pub fn reindex_grant(v: &[i32], t: &mut [u32], segments: Segments, p: usize, e: usize, y: usize)
+    requires { ⌜ ((b : ℕ → ℤ) × (c : ℕ → ℤ) × Touched b c (now v) (now t) (segments .count) (segments .size) p p e e y) ⌝ }
     ensures { λ _. ⌜
-        ((b : ℕ → ℤ) → (c : ℕ → ℤ) → Touched b c (now (v .entry)) (now (t .entry)) s g p p e e y
-        → now (t .exit) ≡ indexOf c (length (now (v .entry))) s)
+        ((b : ℕ → ℤ) → (c : ℕ → ℤ) → Touched b c (now (v .entry)) (now (t .entry)) (segments .count) (segments .size) p p e e y
+        → now (t .exit) ≡ indexOf c (length (now (v .entry))) (segments .count))
         ⌝ }
 {
+    let s = segments.count;
+    let g = segments.size;
     let kp = segment_of(p, g);
     let from = index_word(t, 2 * s + kp);
-    refresh_segment(v, t, s, g, kp, from);
+    refresh_segment(v, t, segments, kp, from);
     let ke = segment_of(e, g);
-    refresh_if((0 < y) & (ke != kp), v, t, s, g, ke, e);
+    refresh_if((0 < y) & (ke != kp), v, t, segments, ke, e);
 }
 
 // The words from lo on get the value x.
@@ -175,14 +181,15 @@ fn fill_from(t: &mut [u32], lo: usize, x: u32)
 }
 
 // The index of an arena that is one free block: what format writes.
-pub fn build_index(v: &[i32], t: &mut [u32], s: usize)
-    requires { ⌜ ((c : ℕ → ℤ) × (g : ℕ) × OneBlock (now v) c s g) ⌝ }
-    requires { ⌜ length (now t) ≡ 3 * s ⌝ }
+pub fn build_index(v: &[i32], t: &mut [u32], segments: Segments)
+    requires { ⌜ ((c : ℕ → ℤ) × OneBlock (now v) c (segments .count) (segments .size)) ⌝ }
+    requires { ⌜ length (now t) ≡ 3 * segments .count ⌝ }
     ensures { λ _. ⌜
-        ((c : ℕ → ℤ) → (g : ℕ) → OneBlock (now (v .entry)) c s g
-        → now (t .exit) ≡ indexOf c (length (now (v .entry))) s)
+        ((c : ℕ → ℤ) → OneBlock (now (v .entry)) c (segments .count) (segments .size)
+        → now (t .exit) ≡ indexOf c (length (now (v .entry))) (segments .count))
         ⌝ }
 {
+    let s = segments.count;
     let w = v.len();
     wipe_part(t, 0, 2 * s);
     fill_from(t, 2 * s, w as u32);

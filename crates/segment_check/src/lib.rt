@@ -3,6 +3,7 @@
 // Slices are lent on as `&*slice`, which keeps pointer and length in registers (docs/DECISIONS.md, what crosses calls).
 use ledger::Rule;
 use record_table::read_row;
+use segment_index::Segments;
 use segment_index::free_at;
 use segment_index::is_held;
 use segment_index::larger;
@@ -143,13 +144,15 @@ fn lay(v: &[i32], map: &[u64], from: usize, hi: usize, free: usize, after: bool)
 // The words of the free blocks together; more than there are, if blocks don't lie side by side up to the last word, or
 // two free ones do, or the index has another leaf or first block for a segment. One pass does both, since each block
 // that is passed costs a wait for its control word.
-fn lay_all(v: &[i32], map: &[u64], t: &[u32], s: usize, g: usize) -> usize
-    requires { ⌜ Measured (now v) (now t) s g × (length (now v) ≤ 64 * length (now map)) ⌝ }
+fn lay_all(v: &[i32], map: &[u64], t: &[u32], segments: Segments) -> usize
+    requires { ⌜ Measured (now v) (now t) (segments .count) (segments .size) × (length (now v) ≤ 64 * length (now map)) ⌝ }
     ensures { λ r. ⌜
-        (r ≤ length (now (v .entry)) → Matched (now (v .entry)) (now (map .entry)) (now (t .entry)) s g r)
-        × LaysAll (now (v .entry)) (now (map .entry)) (now (t .entry)) s g r
+        (r ≤ length (now (v .entry)) → Matched (now (v .entry)) (now (map .entry)) (now (t .entry)) (segments .count) (segments .size) r)
+        × LaysAll (now (v .entry)) (now (map .entry)) (now (t .entry)) (segments .count) (segments .size) r
         ⌝ }
 {
+    let s = segments.count;
+    let g = segments.size;
     let w = v.len();
     let mut at: usize = 0;
     let mut free: usize = 0;
@@ -286,29 +289,28 @@ fn is_shown_over(
     arena: &[i32],
     table: &[u32],
     index: &[u32],
-    s: usize,
-    g: usize,
+    segments: Segments,
     map: &mut [u64],
     seen: &mut [u8],
     m: usize,
 ) -> bool
-    requires { ⌜ Measured (now arena) (now index) s g × (length (now arena) ≤ 64 * length (now map)) × (0 < m)
+    requires { ⌜ Measured (now arena) (now index) (segments .count) (segments .size) × (length (now arena) ≤ 64 * length (now map)) × (0 < m)
         × (length (now seen) ≡ m) × (all isZero (now map) ≡ true) × (slots (now table) ≤ 256) ⌝ }
-    ensures { λ r. ⌜ Says r (Shown next (now (arena .entry)) (now (table .entry)) (now (index .entry)) s) ⌝ }
+    ensures { λ r. ⌜ Says r (Shown next (now (arena .entry)) (now (table .entry)) (now (index .entry)) (segments .count)) ⌝ }
 {
     let words = arena.len();
     let held = map_rows(&*arena, next, &*table, &mut *map, &mut *seen, m);
     if words < held {
         return false;
     }
-    let free = lay_all(&*arena, &*map, &*index, s, g);
+    let free = lay_all(&*arena, &*map, &*index, segments);
     if words < free {
         return false;
     }
     if free + held != words {
         return false;
     }
-    tree_right(&*index, s)
+    tree_right(&*index, segments.count)
 }
 
 // The residues and the map are wiped whole, so that few slots get few, and a small pool a small one.
@@ -317,13 +319,12 @@ fn is_shown_few(
     arena: &[i32],
     table: &[u32],
     index: &[u32],
-    s: usize,
-    g: usize,
+    segments: Segments,
     map: &mut [u64],
 ) -> bool
-    requires { ⌜ Measured (now arena) (now index) s g × (length (now arena) ≤ 64 * length (now map))
+    requires { ⌜ Measured (now arena) (now index) (segments .count) (segments .size) × (length (now arena) ≤ 64 * length (now map))
         × (all isZero (now map) ≡ true) × (slots (now table) ≤ 256) ⌝ }
-    ensures { λ r. ⌜ Says r (Shown next (now (arena .entry)) (now (table .entry)) (now (index .entry)) s) ⌝ }
+    ensures { λ r. ⌜ Says r (Shown next (now (arena .entry)) (now (table .entry)) (now (index .entry)) (segments .count)) ⌝ }
 {
     let mut seen: [u8; 128] = [0; 128];
     is_shown_over(
@@ -331,8 +332,7 @@ fn is_shown_few(
         &*arena,
         &*table,
         &*index,
-        s,
-        g,
+        segments,
         &mut *map,
         &mut seen,
         128,
@@ -344,13 +344,12 @@ fn is_shown_many(
     arena: &[i32],
     table: &[u32],
     index: &[u32],
-    s: usize,
-    g: usize,
+    segments: Segments,
     map: &mut [u64],
 ) -> bool
-    requires { ⌜ Measured (now arena) (now index) s g × (length (now arena) ≤ 64 * length (now map))
+    requires { ⌜ Measured (now arena) (now index) (segments .count) (segments .size) × (length (now arena) ≤ 64 * length (now map))
         × (all isZero (now map) ≡ true) × (slots (now table) ≤ 256) ⌝ }
-    ensures { λ r. ⌜ Says r (Shown next (now (arena .entry)) (now (table .entry)) (now (index .entry)) s) ⌝ }
+    ensures { λ r. ⌜ Says r (Shown next (now (arena .entry)) (now (table .entry)) (now (index .entry)) (segments .count)) ⌝ }
 {
     let mut seen: [u8; 2048] = [0; 2048];
     is_shown_over(
@@ -358,8 +357,7 @@ fn is_shown_many(
         &*arena,
         &*table,
         &*index,
-        s,
-        g,
+        segments,
         &mut *map,
         &mut seen,
         2048,
@@ -371,18 +369,17 @@ fn is_shown_by(
     arena: &[i32],
     table: &[u32],
     index: &[u32],
-    s: usize,
-    g: usize,
+    segments: Segments,
     map: &mut [u64],
 ) -> bool
-    requires { ⌜ Measured (now arena) (now index) s g × (length (now arena) ≤ 64 * length (now map))
+    requires { ⌜ Measured (now arena) (now index) (segments .count) (segments .size) × (length (now arena) ≤ 64 * length (now map))
         × (all isZero (now map) ≡ true) × (slots (now table) ≤ 256) ⌝ }
-    ensures { λ r. ⌜ Says r (Shown next (now (arena .entry)) (now (table .entry)) (now (index .entry)) s) ⌝ }
+    ensures { λ r. ⌜ Says r (Shown next (now (arena .entry)) (now (table .entry)) (now (index .entry)) (segments .count)) ⌝ }
 {
     if table.len() / 3 <= 16 {
-        return is_shown_few(next, &*arena, &*table, &*index, s, g, &mut *map);
+        return is_shown_few(next, &*arena, &*table, &*index, segments, &mut *map);
     }
-    is_shown_many(next, &*arena, &*table, &*index, s, g, &mut *map)
+    is_shown_many(next, &*arena, &*table, &*index, segments, &mut *map)
 }
 
 fn is_shown_small(
@@ -390,14 +387,13 @@ fn is_shown_small(
     arena: &[i32],
     table: &[u32],
     index: &[u32],
-    s: usize,
-    g: usize,
+    segments: Segments,
 ) -> bool
-    requires { ⌜ Measured (now arena) (now index) s g × (length (now arena) ≤ 128) × (slots (now table) ≤ 256) ⌝ }
-    ensures { λ r. ⌜ Says r (Shown next (now (arena .entry)) (now (table .entry)) (now (index .entry)) s) ⌝ }
+    requires { ⌜ Measured (now arena) (now index) (segments .count) (segments .size) × (length (now arena) ≤ 128) × (slots (now table) ≤ 256) ⌝ }
+    ensures { λ r. ⌜ Says r (Shown next (now (arena .entry)) (now (table .entry)) (now (index .entry)) (segments .count)) ⌝ }
 {
     let mut map: [u64; 2] = [0; 2];
-    is_shown_by(next, &*arena, &*table, &*index, s, g, &mut map)
+    is_shown_by(next, &*arena, &*table, &*index, segments, &mut map)
 }
 
 fn is_shown_middle(
@@ -405,14 +401,13 @@ fn is_shown_middle(
     arena: &[i32],
     table: &[u32],
     index: &[u32],
-    s: usize,
-    g: usize,
+    segments: Segments,
 ) -> bool
-    requires { ⌜ Measured (now arena) (now index) s g × (length (now arena) ≤ 2048) × (slots (now table) ≤ 256) ⌝ }
-    ensures { λ r. ⌜ Says r (Shown next (now (arena .entry)) (now (table .entry)) (now (index .entry)) s) ⌝ }
+    requires { ⌜ Measured (now arena) (now index) (segments .count) (segments .size) × (length (now arena) ≤ 2048) × (slots (now table) ≤ 256) ⌝ }
+    ensures { λ r. ⌜ Says r (Shown next (now (arena .entry)) (now (table .entry)) (now (index .entry)) (segments .count)) ⌝ }
 {
     let mut map: [u64; 32] = [0; 32];
-    is_shown_by(next, &*arena, &*table, &*index, s, g, &mut map)
+    is_shown_by(next, &*arena, &*table, &*index, segments, &mut map)
 }
 
 fn is_shown_large(
@@ -420,26 +415,25 @@ fn is_shown_large(
     arena: &[i32],
     table: &[u32],
     index: &[u32],
-    s: usize,
-    g: usize,
+    segments: Segments,
 ) -> bool
-    requires { ⌜ Measured (now arena) (now index) s g × (slots (now table) ≤ 256) ⌝ }
-    ensures { λ r. ⌜ Says r (Shown next (now (arena .entry)) (now (table .entry)) (now (index .entry)) s) ⌝ }
+    requires { ⌜ Measured (now arena) (now index) (segments .count) (segments .size) × (slots (now table) ≤ 256) ⌝ }
+    ensures { λ r. ⌜ Says r (Shown next (now (arena .entry)) (now (table .entry)) (now (index .entry)) (segments .count)) ⌝ }
 {
     let mut map: [u64; 256] = [0; 256];
-    is_shown_by(next, &*arena, &*table, &*index, s, g, &mut map)
+    is_shown_by(next, &*arena, &*table, &*index, segments, &mut map)
 }
 
 // Whether the table holds a valid ledger, and arena and index are its stored form.
-pub fn is_shown(next: u32, arena: &[i32], table: &[u32], index: &[u32], s: usize, g: usize) -> bool
-    requires { ⌜ Measured (now arena) (now index) s g × (slots (now table) ≤ 256) ⌝ }
-    ensures { λ r. ⌜ Says r (Shown next (now (arena .entry)) (now (table .entry)) (now (index .entry)) s) ⌝ }
+pub fn is_shown(next: u32, arena: &[i32], table: &[u32], index: &[u32], segments: Segments) -> bool
+    requires { ⌜ Measured (now arena) (now index) (segments .count) (segments .size) × (slots (now table) ≤ 256) ⌝ }
+    ensures { λ r. ⌜ Says r (Shown next (now (arena .entry)) (now (table .entry)) (now (index .entry)) (segments .count)) ⌝ }
 {
     if arena.len() <= 128 {
-        return is_shown_small(next, &*arena, &*table, &*index, s, g);
+        return is_shown_small(next, &*arena, &*table, &*index, segments);
     }
     if arena.len() <= 2048 {
-        return is_shown_middle(next, &*arena, &*table, &*index, s, g);
+        return is_shown_middle(next, &*arena, &*table, &*index, segments);
     }
-    is_shown_large(next, &*arena, &*table, &*index, s, g)
+    is_shown_large(next, &*arena, &*table, &*index, segments)
 }

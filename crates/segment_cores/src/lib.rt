@@ -18,6 +18,7 @@ use segment_blocks::build_index;
 use segment_blocks::first_fit;
 use segment_blocks::reindex;
 use segment_blocks::reindex_grant;
+use segment_index::Segments;
 use segment_index::descend;
 use segment_index::free_at;
 use segment_index::index_word;
@@ -31,13 +32,15 @@ use words::wipe_signed;
 
 // The lowest word from which n words are free, or the arena's length: the root, a descent, and the scan of one
 // segment.
-pub fn search(v: &[i32], t: &[u32], s: usize, d: u32, n: u32) -> usize
-    requires { ⌜ ((L : Ledger) × Searching L (now v) (now t) s d n) ⌝ }
+pub fn search(v: &[i32], t: &[u32], segments: Segments, n: u32) -> usize
+    requires { ⌜ ((L : Ledger) × Searching L (now v) (now t) (segments .count) (segments .log) n) ⌝ }
     ensures { λ r. ⌜
-        ((L : Ledger) → Searching L (now (v .entry)) (now (t .entry)) s d n
+        ((L : Ledger) → Searching L (now (v .entry)) (now (t .entry)) (segments .count) (segments .log) n
         → r ≡ unitOr (length (now (v .entry))) (lowestFit (free segmentRule L) (length (now (v .entry))) n))
         ⌝ }
 {
+    let s = segments.count;
+    let d = segments.log;
     if t[1] < n {
         return v.len();
     }
@@ -58,17 +61,17 @@ fn put_rest(v: &mut [i32], at: usize, y: usize)
 }
 
 // The block at p, of n words, is granted from the free run that begins there. Its words are zero already.
-pub fn allot(v: &mut [i32], t: &mut [u32], s: usize, g: usize, p: usize, n: usize)
-    requires { ⌜ ((L : Ledger) × (M : Ledger) × Granting L M (now v) (now t) s g p n) ⌝ }
+pub fn allot(v: &mut [i32], t: &mut [u32], segments: Segments, p: usize, n: usize)
+    requires { ⌜ ((L : Ledger) × (M : Ledger) × Granting L M (now v) (now t) (segments .count) (segments .size) p n) ⌝ }
     ensures { λ _. ⌜
-        ((L : Ledger) → (M : Ledger) → Granting L M (now (v .entry)) (now (t .entry)) s g p n
-        → Becomes M (wiped (pos 0) (p + 1) (p + n) (now (v .entry))) s (now (v .exit)) (now (t .exit)))
+        ((L : Ledger) → (M : Ledger) → Granting L M (now (v .entry)) (now (t .entry)) (segments .count) (segments .size) p n
+        → Becomes M (wiped (pos 0) (p + 1) (p + n) (now (v .entry))) (segments .count) (now (v .exit)) (now (t .exit)))
         ⌝ }
 {
     let y = size_at(v, p) - n;
     put_rest(v, p + n, y);
     put_held(v, p, n);
-    reindex_grant(&*v, &mut *t, s, g, p, p + n, y);
+    reindex_grant(&*v, &mut *t, segments, p, p + n, y);
 }
 
 // The free words from a place on at which a block begins, or the arena ends.
@@ -82,10 +85,13 @@ fn free_above(v: &[i32], at: usize) -> usize
 }
 
 // A block that begins below p: the first of p's segment, or of the last segment before it in which a block begins.
-fn begun_before(t: &[u32], s: usize, d: u32, g: usize, p: usize) -> usize
-    requires { ⌜ ((c : ℕ → ℤ) × (W : ℕ) × Seat c W (now t) s d g p) ⌝ }
-    ensures { λ r. ⌜ ((c : ℕ → ℤ) → (W : ℕ) → Seat c W (now (t .entry)) s d g p → Begun c p r) ⌝ }
+fn begun_before(t: &[u32], segments: Segments, p: usize) -> usize
+    requires { ⌜ ((c : ℕ → ℤ) × (W : ℕ) × Seat c W (now t) (segments .count) (segments .log) (segments .size) p) ⌝ }
+    ensures { λ r. ⌜ ((c : ℕ → ℤ) → (W : ℕ) → Seat c W (now (t .entry)) (segments .count) (segments .log) (segments .size) p → Begun c p r) ⌝ }
 {
+    let s = segments.count;
+    let d = segments.log;
+    let g = segments.size;
     let k = segment_of(p, g);
     let from = index_word(t, 2 * s + k);
     if from < p {
@@ -96,16 +102,16 @@ fn begun_before(t: &[u32], s: usize, d: u32, g: usize, p: usize) -> usize
 }
 
 // The free words right below the block at p; below word 0 there are none.
-fn free_below(v: &[i32], t: &[u32], s: usize, d: u32, g: usize, p: usize) -> usize
-    requires { ⌜ ((L : Ledger) × Sitting L (now v) (now t) s d g p) ⌝ }
+fn free_below(v: &[i32], t: &[u32], segments: Segments, p: usize) -> usize
+    requires { ⌜ ((L : Ledger) × Sitting L (now v) (now t) (segments .count) (segments .log) (segments .size) p) ⌝ }
     ensures { λ r. ⌜
-        ((L : Ledger) → Sitting L (now (v .entry)) (now (t .entry)) s d g p → Beneath (free segmentRule L) p r)
+        ((L : Ledger) → Sitting L (now (v .entry)) (now (t .entry)) (segments .count) (segments .log) (segments .size) p → Beneath (free segmentRule L) p r)
         ⌝ }
 {
     if p == 0 {
         return 0;
     }
-    let from = begun_before(t, s, d, g, p);
+    let from = begun_before(t, segments, p);
     let q = block_before(v, from, p);
     free_at(v, q)
 }
@@ -129,30 +135,30 @@ fn merge(v: &mut [i32], p: usize, n: usize, x: usize, y: usize)
 }
 
 // The block at p, of n words, is released, and coalesced with the free blocks beside it.
-pub fn release(v: &mut [i32], t: &mut [u32], s: usize, d: u32, g: usize, p: usize, n: usize)
-    requires { ⌜ ((L : Ledger) × (M : Ledger) × Releasing L M (now v) (now t) s d g p n) ⌝ }
+pub fn release(v: &mut [i32], t: &mut [u32], segments: Segments, p: usize, n: usize)
+    requires { ⌜ ((L : Ledger) × (M : Ledger) × Releasing L M (now v) (now t) (segments .count) (segments .log) (segments .size) p n) ⌝ }
     ensures { λ _. ⌜
-        ((L : Ledger) → (M : Ledger) → Releasing L M (now (v .entry)) (now (t .entry)) s d g p n
-        → Becomes M (now (v .entry)) s (now (v .exit)) (now (t .exit)))
+        ((L : Ledger) → (M : Ledger) → Releasing L M (now (v .entry)) (now (t .entry)) (segments .count) (segments .log) (segments .size) p n
+        → Becomes M (now (v .entry)) (segments .count) (now (v .exit)) (now (t .exit)))
         ⌝ }
 {
-    let x = free_below(v, t, s, d, g, p);
+    let x = free_below(v, t, segments, p);
     let y = free_above(v, p + n);
     merge(v, p, n, x, y);
-    reindex(&*v, &mut *t, s, g, p - x, p, p + n, p + n + y, y);
+    reindex(&*v, &mut *t, segments, p - x, p, p + n, p + n + y, y);
 }
 
 // One free block, and the index of it: the pool that format makes.
-pub fn lay_out(v: &mut [i32], t: &mut [u32], s: usize, g: usize)
-    requires { ⌜ Sizes (length (now v)) s g ⌝ }
-    requires { ⌜ length (now t) ≡ 3 * s ⌝ }
+pub fn lay_out(v: &mut [i32], t: &mut [u32], segments: Segments)
+    requires { ⌜ Sizes (length (now v)) (segments .count) (segments .size) ⌝ }
+    requires { ⌜ length (now t) ≡ 3 * segments .count ⌝ }
     ensures { λ _. ⌜
         ((L : Ledger) → Unheld L (length (now (v .entry)))
-        → Becomes L (now (v .entry)) s (now (v .exit)) (now (t .exit)))
+        → Becomes L (now (v .entry)) (segments .count) (now (v .exit)) (now (t .exit)))
         ⌝ }
 {
     let w = v.len();
     wipe_signed(v);
     put_free(v, 0, w);
-    build_index(v, t, s);
+    build_index(v, t, segments);
 }

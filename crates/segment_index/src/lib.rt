@@ -6,6 +6,7 @@ ghost use lib.IntN.{pos, negℤ, natAbs};
 ghost use lib.ListN.{length, getD, set};
 ghost use Rattle.stored_forms.specs.Segments.{weight, isPower, depth, mostWords, segmentSize};
 ghost use Rattle.segment_index.specs.Control.{freeSize};
+ghost use Rattle.segment_index.specs.Index.{Divided};
 ghost use Rattle.segment_index.specs.Tree.{Heap, LowestLeaf, Raised, LastIn};
 ghost use Rattle.segment_index.specs.Climb.{Later, Above, Under};
 
@@ -117,7 +118,7 @@ pub fn is_segments(s: u32) -> bool
 }
 
 // Its logarithm: the depth of the segment tree.
-pub fn depth_of(s: u32) -> u32
+fn depth_of(s: u32) -> u32
     requires { ⌜ isPower s depth ≡ true ⌝ }
     ensures { λ r. ⌜ (s ≡ 2 ^ r) × (r ≤ depth) ⌝ }
 {
@@ -136,11 +137,32 @@ pub fn index_word(t: &[u32], i: usize) -> usize
 }
 
 // The words of each of 2 ^ d segments: w / 2 ^ d, rounded up. It is shifted, since a division takes much longer.
-pub fn segment_size(w: usize, d: u32) -> usize
+fn segment_size(w: usize, d: u32) -> usize
     requires { ⌜ (w ≤ mostWords) × (d ≤ depth) ⌝ }
     ensures { λ r. ⌜ r ≡ segmentSize w (2 ^ d) ⌝ }
 {
     (w + ((1usize << d) - 1)) >> d
+}
+
+// The segments of an arena: how many there are, the logarithm of that, and the words of each.
+pub struct Segments {
+    pub count: usize,
+    pub log: u32,
+    pub size: usize,
+}
+
+// An arena of w words in s segments.
+pub fn segments_of(s: u32, w: usize) -> Segments
+    requires { ⌜ (isPower s depth ≡ true) × (w ≤ mostWords) ⌝ }
+    ensures { λ r. ⌜ Divided s w r ⌝ }
+{
+    let log = depth_of(s);
+    let size = segment_size(w, log);
+    Segments {
+        count: s as usize,
+        log,
+        size,
+    }
 }
 
 // The segment of g words that a word lies in. The division is in 32 bits, where it takes less time than in 64.

@@ -8,8 +8,6 @@ use lib.IntN.{ℤ}
 use lib.ListN.{length, replicate}
 use Rattle.words.specs.Lists.{Words}
 use Rattle.ledger.specs.Records.{Ledger, emptyRow, tableOf, recordWords, slots}
-use Rattle.stored_forms.specs.Segments.{segmentSize}
-use Rattle.segment_blocks.specs.Upkeep.{Sizes}
 use Rattle.segment_cores.specs.Stores.{Unheld, Becomes}
 use Rattle.segment_cores.proofs.BlankLaws.{blank-unheld}
 use Rattle.calls.specs.declared.Answer.{Answer}
@@ -39,9 +37,6 @@ module _ (S : ℕ) (v : List ℤ) (t x : Words) where
   module _ (right : true ≡ lengths segmentEngine lent) where
     pub fit : InRange S v t x
     fit = in-range S 0 v t x (sym right)
-
-    pub format-sizes : Sizes (length v) S (segmentSize (length v) S)
-    format-sizes = record { power = fit .power; words = omega (arith, fit .some); most = fit .most; each = refl }
 
     zero-table : replicate (length t) 0 ≡ tableOf (replicate (slots t) emptyRow)
     zero-table =

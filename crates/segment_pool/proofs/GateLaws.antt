@@ -19,6 +19,9 @@ use Rattle.ledger.specs.Units.{valid, owned}
 use Rattle.ledger.proofs.RecordLaws.{table-records}
 use Rattle.stored_forms.specs.Segments.{segmentRule, segmentRange, segmentWord, segmentIndex, segmentSize}
 use Rattle.stored_forms.specs.Segments.{isPower, depth}
+use Rattle.segment_index.specs.declared.Segments.{Segments}
+use Rattle.segment_index.specs.Index.{Divided}
+use Rattle.segment_blocks.specs.Upkeep.{Sizes}
 use Rattle.segment_cores.specs.Stores.{arenaOf}
 use Rattle.segment_cores.proofs.BitLaws.{arena-words, words-arena}
 use Rattle.words.specs.Flags.{Says}
@@ -59,16 +62,18 @@ module _ (S next : ℕ) (v : List ℤ) (t x : Words) where
         indexed = eqb-eq (length x) (3 * S) (search (and-l, and-r));
       }
 
--- the size of a segment, where S is given by its depth
-pub sized : (W d : ℕ) {S g : ℕ} → S ≡ 2 ^ d → g ≡ segmentSize W (2 ^ d) → g ≡ segmentSize W S
-sized W d e h = rw e h
+-- and of the segments of the arena
+module _ {S : ℕ} {v : List ℤ} {t x : Words} (fit : InRange S v t x) {r : Segments} (d : Divided S (length v) r) where
+  pub sized : Sizes (length v) (r .count) (r .size)
+  sized = record {
+    power = rw (d .count) (fit .power);
+    words = omega (arith, fit .some);
+    most = fit .most;
+    each = d .size ∙ ap (segmentSize (length v)) (sym (d .count));
+  }
 
-pub measured : {S : ℕ} {v : List ℤ} {t x : Words} → InRange S v t x → (g : ℕ) → g ≡ segmentSize (length v) S
-    → Measured v x S g
-measured fit g is = record {
-  sizes = record { power = fit .power; words = omega (arith, fit .some); most = fit .most; each = is };
-  long = fit .indexed;
-}
+  pub measured : Measured v x (r .count) (r .size)
+  measured = record { sizes = sized; long = fit .indexed ∙ ap (λ (s : ℕ). 3 * s) (sym (d .count)) }
 
 -- ---- the words
 

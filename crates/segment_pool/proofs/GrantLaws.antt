@@ -22,8 +22,10 @@ use Rattle.ledger.specs.Records.{Ledger, row, slots, recordsOf, tableOf, enter}
 use Rattle.ledger.specs.Units.{span, addressAt, past, free, lowestFit}
 use Rattle.ledger.proofs.FitLaws.{fit-lowest}
 use Rattle.ledger.proofs.UnitLaws.{past-new}
-use Rattle.stored_forms.specs.Segments.{segmentRule, segmentSize}
-use Rattle.segment_cores.specs.Stores.{Sound, Granting, Becomes}
+use Rattle.stored_forms.specs.Segments.{segmentRule}
+use Rattle.segment_index.specs.declared.Segments.{Segments}
+use Rattle.segment_index.specs.Index.{Divided}
+use Rattle.segment_cores.specs.Stores.{Granting, Becomes}
 use Rattle.segment_cores.proofs.CallLaws.{granting}
 use Rattle.segment_cores.proofs.UnitLaws.{span-words, address-after}
 use Rattle.segment_cores.specs.Cores.{unitOr}
@@ -97,14 +99,12 @@ module _ (h : Head) (S : ℕ) (v : List ℤ) (t x : Words) (n slot at : ℕ) (f 
     fit = fit-is S (h .next) n v t x ∙ f .fit;
   }
 
-  form : Sound L v x S (segmentSize (length v) S)
-  form = sound-form S (h .next) v t x (f .ok) (f .ranged)
-
-  pub place-granting : Granting L (enter new L) v x S (segmentSize (length v) S) at (span segmentRule n)
-  unfolding form sound-form
-  place-granting =
-      granting L v x S (segmentSize (length v) S) form (nextAfter (h .next)) n at (asked .slot) (f .ticket)
-      (next-above (h .next)) (some-words n (f .size)) (f .fit)
+  pub place-granting : {r : Segments} → Divided S (length v) r
+      → Granting L (enter new L) v x (r .count) (r .size) at (span segmentRule n)
+  unfolding sound-form
+  place-granting {r} d =
+      granting L v x (r .count) (r .size) (sound-form S (h .next) v t x (f .ok) (f .ranged) d) (nextAfter (h .next)) n
+      at (asked .slot) (f .ticket) (next-above (h .next)) (some-words n (f .size)) (f .fit)
 
   pub place-answer : success (row (h .next) (at + 1) n) ≡ answerTo segmentEngine lent (ask n)
   unfolding segmentEngine

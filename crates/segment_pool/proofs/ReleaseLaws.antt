@@ -1,6 +1,6 @@
 -- A release on a sound segment pool: the words given back leave the stored form of the ledger without the record.
 -- Assumes nothing.
-use Prim.Native.Nat.{ℕ, _^_, _≤_, _<_}
+use Prim.Native.Nat.{ℕ, _<_}
 use mathlib.Core.Path.{_≡_, refl, sym, ap, _∙_}
 use mathlib.Core.Bool.{true}
 use mathlib.Core.List.{List, [], _∷_}
@@ -11,7 +11,9 @@ use Rattle.words.specs.Lists.{Words}
 use Rattle.ledger.specs.declared.Row.{Row}
 use Rattle.ledger.specs.Records.{Ledger, emptyRow, slots, recordsOf, recordOf, tableOf, vacate, member, settle}
 use Rattle.ledger.specs.Units.{span, first}
-use Rattle.stored_forms.specs.Segments.{segmentRule, segmentSize, depth}
+use Rattle.stored_forms.specs.Segments.{segmentRule}
+use Rattle.segment_index.specs.declared.Segments.{Segments}
+use Rattle.segment_index.specs.Index.{Divided}
 use Rattle.segment_cores.specs.Stores.{Releasing, Becomes}
 use Rattle.segment_cores.proofs.CallLaws.{releasing}
 use Rattle.calls.specs.Pool.{Pool, sound}
@@ -48,10 +50,11 @@ module _ (h : Head) (S : ℕ) (v : List ℤ) (t x : Words) (r : Row) (slot : ℕ
   pub release-slot : slot < slots t
   release-slot = ticket-found (r .ticket) t slot (named-at t r slot found) .0
 
-  pub release-releasing : Ranged v → (d : ℕ) → S ≡ 2 ^ d → d ≤ depth
-      → Releasing L rest v x S d (segmentSize (length v) S) (first segmentRule r) (span segmentRule (r .words))
-  release-releasing fits d power few =
-      releasing L v x S (segmentSize (length v) S) (sound-form S (h .next) v t x ok fits) d (r .ticket) r power few held
+  pub release-releasing : Ranged v → {s : Segments} → Divided S (length v) s
+      → Releasing L rest v x (s .count) (s .log) (s .size) (first segmentRule r) (span segmentRule (r .words))
+  release-releasing fits {s} d =
+      releasing L v x (s .count) (s .size) (sound-form S (h .next) v t x ok fits d) (s .log) (r .ticket) r
+      (d .count ∙ d .power) (d .few) held
 
   pub release-answer : success r ≡ answerTo segmentEngine lent (give r)
   release-answer = sym (plan-done segmentEngine lent vacate r held .0)

@@ -1,8 +1,7 @@
 -- A sound segment pool by its signed words, and when head, arena, table and index are the stored form of a ledger.
 -- Assumes nothing.
 use Prim.Native.Nat.{ℕ}
-use native.Mathlib.Omega.{arith}
-use mathlib.Core.Path.{_≡_, refl, sym, ap, _∙_, subst}
+use mathlib.Core.Path.{_≡_, sym, ap, ap₂, _∙_, subst}
 use mathlib.Core.Bool.{true}
 use mathlib.Core.List.{List, []}
 use lib.IntN.{ℤ}
@@ -13,7 +12,9 @@ use Rattle.words.specs.Lists.{Words}
 use Rattle.words.specs.Places.{stamp}
 use Rattle.ledger.specs.Records.{Ledger, recordsOf, tableOf}
 use Rattle.ledger.specs.Units.{valid, owned}
-use Rattle.stored_forms.specs.Segments.{segmentRule, segmentWord, segmentIndex, segmentSize}
+use Rattle.stored_forms.specs.Segments.{segmentRule, segmentWord, segmentIndex}
+use Rattle.segment_index.specs.declared.Segments.{Segments}
+use Rattle.segment_index.specs.Index.{Divided}
 use Rattle.segment_cores.specs.Stores.{Sound, Becomes}
 use Rattle.segment_cores.proofs.BitLaws.{arena-words, words-arena}
 use Rattle.calls.specs.Pool.{Pool, store, sound}
@@ -21,7 +22,7 @@ use Rattle.calls.specs.Engines.{segmentEngine}
 use Rattle.calls.proofs.StoreLaws.{sound-lengths, sound-valid, is-store}
 use Rattle.calls.proofs.Engines.{segment-laws}
 use Rattle.segment_pool.specs.Promises.{asWords, segmentPool, Ranged}
-use Rattle.segment_pool.proofs.GateLaws.{InRange, in-range}
+use Rattle.segment_pool.proofs.GateLaws.{InRange, in-range, sized}
 
 -- ---- a sound pool
 
@@ -43,23 +44,18 @@ module _ (S next : ℕ) (v : List ℤ) (t x : Words) (ok : sound segmentEngine (
   sound-good =
       subst (λ (m : ℕ). valid segmentRule m next L ≡ true) long (sound-valid segmentEngine segment-laws p ok)
 
-  unfoldable pub sound-form : Ranged v → Sound L v x S (segmentSize (length v) S)
+  unfoldable pub sound-form : Ranged v → {r : Segments} → Divided S (length v) r → Sound L v x (r .count) (r .size)
   unfolding segmentEngine store long
-  sound-form fits =
+  sound-form fits d =
       let e = is-store segmentEngine segment-laws p ok in
       record {
-        sizes = record {
-          power = sound-range .power;
-          words = omega (arith, sound-range .some);
-          most = sound-range .most;
-          each = refl;
-        };
+        sizes = sized sound-range d;
         next = next;
         good = sound-good;
         arena = words-arena next L v sound-good (sound-range .most) fits
             (ap (λ (q : Pool). q .arena) e
             ∙ ap (λ (m : ℕ). stamp (owned segmentRule L) (segmentWord m L) (asWords v)) long);
-        index = ap (λ (q : Pool). q .index) e ∙ ap (λ (m : ℕ). segmentIndex S m L) long;
+        index = ap (λ (q : Pool). q .index) e ∙ ap₂ (λ (s m : ℕ). segmentIndex s m L) (sym (d .count)) long;
       }
 
 -- ---- what is stored

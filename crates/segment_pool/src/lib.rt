@@ -68,8 +68,8 @@ fn is_stored(s: u32, next: u32, arena: &[i32], table: &[u32], index: &[u32]) -> 
         ≡ stored segmentEngine (segmentPool s next (now (arena .entry)) (now (table .entry)) (now (index .entry))) ⌝ }
 {
     ranged(arena);
-    let g = segment_index::segment_size(arena.len(), segment_index::depth_of(s));
-    segment_check::is_shown(next, &*arena, &*table, &*index, s as usize, g)
+    let segments = segment_index::segments_of(s, arena.len());
+    segment_check::is_shown(next, &*arena, &*table, &*index, segments)
 }
 
 // The number of the tests that stand before every call: 8, 1, or 0 for a sound pool.
@@ -144,8 +144,8 @@ pub fn format(s: u32, arena: &mut [i32], table: &mut [u32], index: &mut [u32]) -
             answer: call_parts::refused(8),
         };
     }
-    let g = segment_index::segment_size(arena.len(), segment_index::depth_of(s));
-    segment_cores::lay_out(arena, index, s as usize, g);
+    let segments = segment_index::segments_of(s, arena.len());
+    segment_cores::lay_out(arena, index, segments);
     words::wipe(table);
     let none = Row {
         ticket: 0,
@@ -197,8 +197,8 @@ fn place(
         (segmentPool s (head .next) (now (arena .entry)) (now (table .entry)) (now (index .entry))) ⌝ }
 {
     let n = record_table::span_of(Rule { unit: 1, lead: 1 }, words);
-    let g = segment_index::segment_size(arena.len(), segment_index::depth_of(s));
-    segment_cores::allot(arena, index, s as usize, g, at, n);
+    let segments = segment_index::segments_of(s, arena.len());
+    segment_cores::allot(arena, index, segments, at, n);
     let address = (at + 1) as u32;
     let new = Row {
         ticket: head.next,
@@ -234,8 +234,8 @@ fn grant(
         return no_effect(4);
     }
     ranged(arena);
-    let d = segment_index::depth_of(s);
-    let at = segment_cores::search(arena, index, s as usize, d, words + 1);
+    let segments = segment_index::segments_of(s, arena.len());
+    let at = segment_cores::search(arena, index, segments, words + 1);
     if at == arena.len() {
         return no_effect(5);
     }
@@ -305,9 +305,8 @@ fn give_back(
     ranged(arena);
     let at = record_table::first_unit(Rule { unit: 1, lead: 1 }, named);
     let n = record_table::span_of(Rule { unit: 1, lead: 1 }, named.words);
-    let d = segment_index::depth_of(s);
-    let g = segment_index::segment_size(arena.len(), d);
-    segment_cores::release(arena, index, s as usize, d, g, at, n);
+    let segments = segment_index::segments_of(s, arena.len());
+    segment_cores::release(arena, index, segments, at, n);
     let none = Row {
         ticket: 0,
         address: 0,

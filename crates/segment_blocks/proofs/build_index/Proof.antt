@@ -31,23 +31,24 @@ cast-raise-most : tie.Need-cast-raise-most
 cast-raise-most c = search needs
 
 -- what the two fills leave
-built : (c : tie.After-raise-most-arg) (f : ℕ → ℤ) (g : ℕ)
+built : (c : tie.After-raise-most-arg) (f : ℕ → ℤ)
     → let a = c .before .before .before .before .before .before .before .before .before .before .args in
-    OneBlock (a .v .now) f (a .s) g → Built (a .v .now) f (a .s) g (c .before .before .before .fill-from .last .0) 0 0
-built c f g O =
+    OneBlock (a .v .now) f (a .segments .count) (a .segments .size)
+    → Built (a .v .now) f (a .segments .count) (a .segments .size) (c .before .before .before .fill-from .last .0) 0 0
+built c f O =
     let w = c .before .before .before .before .before .before .before in
     let s = w .before .before .before in
-    build-start _ f _ g (O .ground) (s .args .t .now) _ _ (s .pre .1) (w .wipe-part .ensures)
+    build-start _ f _ _ (O .ground) (s .args .t .now) _ _ (s .pre .1) (w .wipe-part .ensures)
     (c .before .before .before .fill-from .ensures)
 
 raise-most-requires : tie.Need-raise-most-requires
 raise-most-requires c κs =
     let w = c .before .before .before .before .before .before .before in
     let s = w .before .before .before in
-    let (f, g, O) = s .pre .0 in
+    let (f, O) = s .pre .0 in
     let filled = c .before .before .before .fill-from .ensures in
-    let zero = zero-at _ f _ g (O .ground) (s .args .t .now) _ _ (s .pre .1) (w .wipe-part .ensures) filled in (
-      (built c f g O .pending .heap, omega arith, omega (arith, sizes-some _ _ _ (O .ground .sizes))),
+    let zero = zero-at _ f _ _ (O .ground) (s .args .t .now) _ _ (s .pre .1) (w .wipe-part .ensures) filled in (
+      (built c f O .pending .heap, omega arith, omega (arith, sizes-some _ _ _ (O .ground .sizes))),
       λ j h. omega (arith, zero j h),
     )
 
@@ -59,15 +60,15 @@ mul-t-2 c = search needs
 
 long : (c : tie.After-raise-most)
     → let s = c .before .before .before .before .before .before .before .before .before .before .before in
-    length (c .raise-most .last .0) ≡ 3 * s .args .s
+    length (c .raise-most .last .0) ≡ 3 * s .args .segments .count
 long c =
-    let (f, g, O) = c .before .before .before .before .before .before .before .before .before .before .before .pre .0 in
-    c .raise-most .ensures .same ∙ built (c .before) f g O .pending .long
+    let (f, O) = c .before .before .before .before .before .before .before .before .before .before .before .pre .0 in
+    c .raise-most .ensures .same ∙ built (c .before) f O .pending .long
 
 slice-write-t : tie.Need-slice-write-t
 slice-write-t c =
     let r = c .before .before in
-    let (f, g, O) = r .before .before .before .before .before .before .before .before .before .before .before .pre .0 in
+    let (f, O) = r .before .before .before .before .before .before .before .before .before .before .before .pre .0 in
     omega (arith, long r, sizes-some _ _ _ (O .ground .sizes))
 
 same-length : tie.Need-same-length
@@ -79,7 +80,7 @@ same-length c =
 returns : tie.Need-returns
 returns c =
     let r = c .before .before in
-    λ f g O. build-one _ f _ g O _ (built (r .before) f g O) _ (r .raise-most .ensures)
+    λ f O. build-one _ f _ _ O _ (built (r .before) f O) _ (r .raise-most .ensures)
 
 pub build-index-spec : {M : Type 1} → statement M
 build-index-spec =

@@ -12,7 +12,7 @@ mul-lesser : tie.Need-mul-lesser
 mul-lesser c =
     let s = c .before in
     let (f, r) = s .pre in
-    omega (arith, sizes-top _ (s .args .s) (s .args .g) (r .facing .sizes) (s .args .k) (r .facing .is))
+    omega (arith, sizes-top _ _ _ (r .facing .sizes) (s .args .k) (r .facing .is))
 
 lesser-requires : tie.Need-lesser-requires
 lesser-requires c κs = search needs

@@ -29,7 +29,7 @@ loop-holds c =
     let a = c .before .before .args in (
       refl,
       omega arith,
-      match-start (now (a .v)) (now (a .map)) (now (a .t)) (a .s) (a .g),
+      match-start (now (a .v)) (now (a .map)) (now (a .t)) (a .segments .count) (a .segments .size),
       λ f n K z G. record { count = sym z; turn = λ e. absurd (false≢true e) },
     )
 
@@ -60,7 +60,7 @@ shared-slice-read-first c = omega arith
 cast-first : tie.Need-cast-first Inv-loop μ-loop
 cast-first c =
     let l = c .before .before .before in
-    omega (arith, c .shared-slice-known3 .given (2 * l .before .before .before .args .s + l .loop .k))
+    omega (arith, c .shared-slice-known3 .given (2 * l .before .before .before .args .segments .count + l .loop .k))
 
 lay-requires : tie.Need-lay-requires Inv-loop μ-loop
 lay-requires c κs =
@@ -92,15 +92,15 @@ returns c =
     let a = l .before .before .before .args in
     let (is, upto, m, leads) = l .loop .inv in
     let w = length (now (a .v)) in
-    let hi : top .lesser .result ≡ min ((l .loop .k + 1) * a .g) w = rw is at (top .lesser .ensures) in (
+    let hi : top .lesser .result ≡ min ((l .loop .k + 1) * a .segments .size) w = rw is at (top .lesser .ensures) in (
       λ h. absurd (omega arith),
       λ f n K z G right.
           let (inside, led) = turn .lay .ensures .1 f n K (m .right f G .0 .scan) (leads f n K z G) in
-          let two = match-two (now (a .v)) (now (a .map)) (now (a .t)) (a .s) (a .g) (l .loop .k) (l .loop .at)
+          let two = match-two (now (a .v)) (now (a .map)) (now (a .t)) (a .segments .count) (a .segments .size) (l .loop .k) (l .loop .at)
           (l .loop .free) (top .lesser .result) (turn .lay .result .next) (turn .lay .result .free)
           (turn .lay .result .most) (l .loop .after) (turn .lay .result .after) m (t .loop-test .taken) hi
           (turn .lay .ensures .0 inside) f G right in
-          let no = laid-two (now (a .t)) (a .s) (l .loop .k) (l .loop .at) (top .lesser .result) w
+          let no = laid-two (now (a .t)) (a .segments .count) (l .loop .k) (l .loop .at) (top .lesser .result) w
           (turn .lay .result .most) (turn .lay .result .next) (i .if1 .taken) inside two in
           absurd (true≢false (sym (c .if2 .taken) ∙ rw is no)),
     )
@@ -122,12 +122,12 @@ loop-again c =
     let (is, upto, m, leads) = l .loop .inv in
     let here = t .loop-test .taken in
     let w = length (now (a .v)) in
-    let (inside, right) = two-laid (now (a .t)) (a .s) (l .loop .k) (l .loop .at) (top .lesser .result) w
+    let (inside, right) = two-laid (now (a .t)) (a .segments .count) (l .loop .k) (l .loop .at) (top .lesser .result) w
     (turn .lay .result .most) (turn .lay .result .next) (i .if1 .taken) (c .if2 .left) in
-    let hi : top .lesser .result ≡ min ((l .loop .k + 1) * a .g) w = rw is at (top .lesser .ensures) in (
+    let hi : top .lesser .result ≡ min ((l .loop .k + 1) * a .segments .size) w = rw is at (top .lesser .ensures) in (
       is,
       omega arith,
-      match-on (now (a .v)) (now (a .map)) (now (a .t)) (a .s) (a .g) (l .loop .k) (l .loop .at) (l .loop .free)
+      match-on (now (a .v)) (now (a .map)) (now (a .t)) (a .segments .count) (a .segments .size) (l .loop .k) (l .loop .at) (l .loop .free)
           (top .lesser .result) (turn .lay .result .next) (turn .lay .result .free) (turn .lay .result .most)
           (l .loop .after) (turn .lay .result .after) m here hi inside (turn .lay .ensures .0 inside) right,
       λ f n K z G. turn .lay .ensures .1 f n K (m .right f G .0 .scan) (leads f n K z G) .1,
@@ -155,15 +155,15 @@ returns-2 c =
     let (is, upto, m, leads) = l .loop .inv in
     let w = length (now (a .v)) in
     let past = i .if1 .left in
-    let hi : top .lesser .result ≡ min ((l .loop .k + 1) * a .g) w = rw is at (top .lesser .ensures) in
+    let hi : top .lesser .result ≡ min ((l .loop .k + 1) * a .segments .size) w = rw is at (top .lesser .ensures) in
     let strip = strip-none (now (a .v)) (now (a .map)) (l .loop .at) (top .lesser .result) (l .loop .free)
     (l .loop .after) (m .laid) (m .few) past in (
       λ h. absurd (omega arith),
       λ f n K z G right.
-          let two = match-two (now (a .v)) (now (a .map)) (now (a .t)) (a .s) (a .g) (l .loop .k) (l .loop .at)
+          let two = match-two (now (a .v)) (now (a .map)) (now (a .t)) (a .segments .count) (a .segments .size) (l .loop .k) (l .loop .at)
           (l .loop .free) (top .lesser .result) (l .loop .at) (l .loop .free) 0 (l .loop .after) (l .loop .after) m
           (t .loop-test .taken) hi strip f G right in
-          let no = none-two (now (a .t)) (a .s) (l .loop .k) (l .loop .at) (top .lesser .result) w past two in
+          let no = none-two (now (a .t)) (a .segments .count) (l .loop .k) (l .loop .at) (top .lesser .result) w past two in
           absurd (true≢false (sym (c .if3 .taken) ∙ rw is no)),
     )
 
@@ -184,13 +184,13 @@ loop-again-2 c =
     let here = t .loop-test .taken in
     let w = length (now (a .v)) in
     let past = i .if1 .left in
-    let hi : top .lesser .result ≡ min ((l .loop .k + 1) * a .g) w = rw is at (top .lesser .ensures) in
-    let right = two-none (now (a .t)) (a .s) (l .loop .k) (l .loop .at) (top .lesser .result) w past (c .if3 .left) in
+    let hi : top .lesser .result ≡ min ((l .loop .k + 1) * a .segments .size) w = rw is at (top .lesser .ensures) in
+    let right = two-none (now (a .t)) (a .segments .count) (l .loop .k) (l .loop .at) (top .lesser .result) w past (c .if3 .left) in
     let strip = strip-none (now (a .v)) (now (a .map)) (l .loop .at) (top .lesser .result) (l .loop .free)
     (l .loop .after) (m .laid) (m .few) past in (
       is,
       omega arith,
-      match-on (now (a .v)) (now (a .map)) (now (a .t)) (a .s) (a .g) (l .loop .k) (l .loop .at) (l .loop .free)
+      match-on (now (a .v)) (now (a .map)) (now (a .t)) (a .segments .count) (a .segments .size) (l .loop .k) (l .loop .at) (l .loop .free)
           (top .lesser .result) (l .loop .at) (l .loop .free) 0
           (l .loop .after) (l .loop .after) m here hi (m .inside) strip right,
       leads,
@@ -202,10 +202,10 @@ returns-3 c =
     let s = l .before .before .before in
     let a = s .args in
     let (is, upto, m, leads) = l .loop .inv in (
-      λ h. match-end (now (a .v)) (now (a .map)) (now (a .t)) (a .s) (a .g) (s .pre .0) (l .loop .k) (l .loop .at)
+      λ h. match-end (now (a .v)) (now (a .map)) (now (a .t)) (a .segments .count) (a .segments .size) (s .pre .0) (l .loop .k) (l .loop .at)
           (l .loop .free) (l .loop .after) m (omega arith),
       λ f n K z G right. leads f n K z G .count
-          ∙ ap n (match-whole (now (a .v)) (now (a .map)) (now (a .t)) (a .s) (a .g) (s .pre .0) (l .loop .k)
+          ∙ ap n (match-whole (now (a .v)) (now (a .map)) (now (a .t)) (a .segments .count) (a .segments .size) (s .pre .0) (l .loop .k)
           (l .loop .at) (l .loop .free) (l .loop .after) m (omega arith)),
     )
 

@@ -60,7 +60,7 @@ build-index-requires c κs =
     let W = length (s .args .v .now) in
     let none = replicate 0 emptyRow in
     let is = one none (s .args .v .now) _ _ _ (s .pre .0) (blank-unheld 0 W) (stored p) in
-    ((controls none W, s .args .g, is), s .pre .1)
+    ((controls none W, is), s .pre .1)
 
 same-length : tie.Need-same-length
 same-length c = search needs
@@ -76,7 +76,7 @@ returns c =
     let v = s .args .v .now in
     λ L h.
     blank-becomes L v _ _ (s .pre .0) h _ (stored p) _
-    (b .build-index .ensures (controls L (length v)) (s .args .g) (one L v _ _ _ (s .pre .0) h (stored p)))
+    (b .build-index .ensures (controls L (length v)) (one L v _ _ _ (s .pre .0) h (stored p)))
 
 pub lay-out-spec : {M : Type 1} → statement M
 lay-out-spec =

@@ -25,7 +25,8 @@ free-above-requires c κs = search needs
 -- the free words above the block
 above : (c : tie.After-free-above) (L M : Ledger)
     → let a = c .before .before .before .before .before .before .args in
-    Releasing L M (a .v .now) (a .t .now) (a .s) (a .d) (a .g) (a .p) (a .n)
+    Releasing L M (a .v .now) (a .t .now) (a .segments .count) (a .segments .log)
+    (a .segments .size) (a .p) (a .n)
     → RunOf (free segmentRule M) (a .p + a .n) (length (a .v .now) - (a .p + a .n)) (c .free-above .result)
 above c L M k = rw (c .free-above .ensures) (rest-above L M _ _ _ _ _ _ _ k)
 

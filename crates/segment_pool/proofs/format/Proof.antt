@@ -4,14 +4,13 @@ use mathlib.Core.Path.{_≡_, _∙_, sym, subst}
 use mathlib.Core.Bool.{true}
 use borrow.Author.Needs.{needs}
 use denote.Ref.{now}
-use lib.ListN.{length}
 use Rattle.words.proofs.Tests.{not-true, not-false}
-use Rattle.segment_blocks.specs.Upkeep.{Sizes}
+use Rattle.segment_cores.specs.Stores.{Becomes}
 use Rattle.calls.specs.Pool.{lengths}
 use Rattle.calls.specs.Engines.{segmentEngine}
 use Rattle.segment_pool.specs.Promises.{segmentPool}
-use Rattle.segment_pool.proofs.GateLaws.{InRange, sized}
-use Rattle.segment_pool.proofs.FormatLaws.{format-refused, format-done, format-sizes, fit}
+use Rattle.segment_pool.proofs.GateLaws.{InRange, measured}
+use Rattle.segment_pool.proofs.FormatLaws.{format-refused, format-done, fit}
 use Rattle.segment_pool.proofs.format.Statement.{statement}
 use Rattle.segment_pool.proofs.format.Tie as tie
 
@@ -51,23 +50,14 @@ returns c =
     format-refused (s .args .s) (now (s .args .arena)) (now (s .args .table)) (now (s .args .index))
     (c .refused .result) (sym (not-true _ (c .before .if1 .taken)) ∙ r .right-lengths .ensures 0) (c .refused .ensures)
 
-depth-of-requires : tie.Need-depth-of-requires
-depth-of-requires c κs = fits c .power
-
-segment-size-requires : tie.Need-segment-size-requires
-segment-size-requires c κs = (fits (c .before) .most, c .depth-of .ensures .1)
+segments-of-requires : tie.Need-segments-of-requires
+segments-of-requires c κs = (fits c .power, fits c .most)
 
 lay-out-requires : tie.Need-lay-out-requires
 lay-out-requires c κs =
-    let z = c .before .before in
-    let d = z .before in
-    let i = d .before in
-    let s = entry i in (
-      subst (λ (g : ℕ). Sizes (length (now (s .args .arena))) (s .args .s) g)
-          (sym (sized _ _ (d .depth-of .ensures .0) (z .segment-size .ensures)))
-          (format-sizes (s .args .s) (now (s .args .arena)) (now (s .args .table)) (now (s .args .index)) (right i)),
-      fits i .indexed,
-    )
+    let d = c .before .before in
+    let known = measured (fits (d .before)) (d .segments-of .ensures) in
+    (known .sizes, known .long)
 
 wipe-requires : tie.Need-wipe-requires
 wipe-requires c κs = search needs
@@ -88,11 +78,14 @@ returns-2 : tie.Need-returns-2
 returns-2 c =
     let w = c .before .before .before in
     let l = w .before .before .before .before .before in
-    let i = l .before .before .before .before .before in
+    let d = l .before .before .before in
+    let i = d .before in
     let s = entry i in
     format-done (s .args .s) (now (s .args .arena)) (now (s .args .table)) (now (s .args .index)) (right i)
     (l .lay-out .last .0) (w .wipe .last .0) (l .lay-out .last .1 .0) (c .succeeded .result)
-    (l .lay-out .ensures) (w .wipe .ensures) (c .succeeded .ensures)
+    (λ L none. subst (λ (n : ℕ). Becomes L (now (s .args .arena)) n (l .lay-out .last .0) (l .lay-out .last .1 .0))
+    (d .segments-of .ensures .count) (l .lay-out .ensures L none))
+    (w .wipe .ensures) (c .succeeded .ensures)
 
 pub format-spec : {M : Type 1} → statement M
 format-spec =
@@ -104,8 +97,7 @@ format-spec =
     same-length-2
     same-length-3
     returns
-    depth-of-requires
-    segment-size-requires
+    segments-of-requires
     lay-out-requires
     wipe-requires
     succeeded-requires

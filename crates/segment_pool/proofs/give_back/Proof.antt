@@ -1,15 +1,15 @@
 -- `segment_pool::give_back` meets its contract: the words that go back make the act a release. Assumes nothing.
 use Prim.Native.Nat.{ℕ}
-use mathlib.Core.Path.{sym, subst₃}
+use mathlib.Core.Path.{sym, subst, subst₂}
 use mathlib.Core.List.{[], _∷_}
 use borrow.Author.Needs.{needs}
 use denote.Ref.{now}
 use Rattle.ledger.specs.Records.{Ledger, recordsOf, vacate, member, settle}
-use Rattle.segment_cores.specs.Stores.{Releasing}
+use Rattle.segment_cores.specs.Stores.{Releasing, Becomes}
 use Rattle.calls.specs.Pool.{Pool}
 use Rattle.segment_pool.specs.Promises.{segmentPool, vacated}
 use Rattle.calls.specs.Step.{give}
-use Rattle.segment_pool.proofs.GateLaws.{InRange, sized}
+use Rattle.segment_pool.proofs.GateLaws.{InRange}
 use Rattle.segment_pool.proofs.ActedLaws.{acted-left}
 use Rattle.segment_pool.proofs.ReleaseLaws.{release-range, release-slot, release-releasing}
 use Rattle.segment_pool.proofs.ReleaseLaws.{release-answer, release-pool}
@@ -33,23 +33,21 @@ range s =
     (now (s .args .index)) (s .args .named) (s .args .slot) (s .pre .0) (s .pre .1)
 
 -- what is released, in the code's own numbers
-released-at : (c : tie.After-segment-size)
-    → let s = c .before .before .before .before .before .before .before .before in
-    Releasing (old s) (rest s) (now (s .args .arena)) (now (s .args .index)) (s .args .s) (c .before .depth-of .result)
-    (c .segment-size .result) (c .before .before .before .first-unit .result) (c .before .before .span-of .result)
+released-at : (c : tie.After-segments-of) → let s = c .before .before .before .before .before .before .before in
+    let r = c .segments-of .result in
+    Releasing (old s) (rest s) (now (s .args .arena)) (now (s .args .index)) (r .count) (r .log) (r .size)
+    (c .before .before .first-unit .result) (c .before .span-of .result)
 released-at c =
-    let d = c .before in
-    let n = d .before in
+    let n = c .before in
     let u = n .before in
     let s = u .before .before .before .before .before in
-    subst₃
-    (λ (g p m : ℕ). Releasing (old s) (rest s) (now (s .args .arena)) (now (s .args .index)) (s .args .s)
-    (d .depth-of .result) g p m)
-    (sym (sized _ _ (d .depth-of .ensures .0) (c .segment-size .ensures))) (sym (u .first-unit .ensures))
-    (sym (n .span-of .ensures))
+    let r = c .segments-of .result in
+    subst₂
+    (Releasing (old s) (rest s) (now (s .args .arena)) (now (s .args .index)) (r .count) (r .log) (r .size))
+    (sym (u .first-unit .ensures)) (sym (n .span-of .ensures))
     (release-releasing (s .args .head) (s .args .s) (now (s .args .arena)) (now (s .args .table))
     (now (s .args .index)) (s .args .named) (s .args .slot) (s .pre .0) (s .pre .1)
-    (u .before .ranged .ensures) (d .depth-of .result) (d .depth-of .ensures .0) (d .depth-of .ensures .1))
+    (u .before .ranged .ensures) (c .segments-of .ensures))
 
 ranged-requires : tie.Need-ranged-requires
 ranged-requires c κs = search needs
@@ -60,23 +58,21 @@ first-unit-requires c κs = search needs
 span-of-requires : tie.Need-span-of-requires
 span-of-requires c κs = search needs
 
-depth-of-requires : tie.Need-depth-of-requires
-depth-of-requires c κs = range (c .before .before .before .before .before .before) .power
-
-segment-size-requires : tie.Need-segment-size-requires
-segment-size-requires c κs =
-    (range (c .before .before .before .before .before .before .before) .most, c .depth-of .ensures .1)
+segments-of-requires : tie.Need-segments-of-requires
+segments-of-requires c κs =
+    let r = range (c .before .before .before .before .before .before) in
+    (r .power, r .most)
 
 release-requires : tie.Need-release-requires
 release-requires c κs =
     let g = c .before .before in
-    let s = g .before .before .before .before .before .before .before .before in
+    let s = g .before .before .before .before .before .before .before in
     (old s, rest s, released-at g)
 
 write-row-requires : tie.Need-write-row-requires
 write-row-requires c κs =
     let l = c .before .before .before .before in
-    let s = l .before .before .before .before .before .before .before .before .before .before .before in (
+    let s = l .before .before .before .before .before .before .before .before .before .before in (
       release-slot (s .args .head) (s .args .s) (now (s .args .arena)) (now (s .args .table))
           (now (s .args .index)) (s .args .named) (s .args .slot) (s .pre .0) (s .pre .1),
       range s .threes,
@@ -96,11 +92,13 @@ returns c =
     let w = c .before .before in
     let l = w .before .before .before .before .before in
     let g = l .before .before .before in
-    let s = g .before .before .before .before .before .before .before .before in
+    let s = g .before .before .before .before .before .before .before in
+    let left = subst (λ (n : ℕ). Becomes (rest s) (now (s .args .arena)) n (l .release .last .0) (l .release .last .1 .0))
+    (g .segments-of .ensures .count) (l .release .ensures (old s) (rest s) (released-at g)) in
     let after = release-pool (s .args .head) (s .args .s) (now (s .args .arena)) (now (s .args .table))
     (now (s .args .index)) (s .args .named) (s .args .slot) (s .pre .0) (s .pre .1)
     (l .release .last .0) (w .write-row .last .0) (l .release .last .1 .0)
-    (l .release .ensures (old s) (rest s) (released-at g)) (w .write-row .ensures) in
+    left (w .write-row .ensures) in
     acted-left (give (s .args .named)) (pool s) (s .args .s)
     (vacated (s .args .head) (s .args .named) 0)
     (l .release .last .0) (w .write-row .last .0) (l .release .last .1 .0)
@@ -115,8 +113,7 @@ give-back-spec =
     ranged-requires
     first-unit-requires
     span-of-requires
-    depth-of-requires
-    segment-size-requires
+    segments-of-requires
     release-requires
     write-row-requires
     same-length

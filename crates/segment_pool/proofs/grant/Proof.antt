@@ -1,7 +1,7 @@
 -- `segment_pool::grant` meets its contract: the rows 2, 3, 4, 5 in turn, then the grant. Assumes nothing.
 use Prim.Native.Nat.{ℕ, _+_, _≤_}
 use native.Mathlib.Omega.{arith}
-use mathlib.Core.Path.{_≡_, refl, _∙_, sym, ap}
+use mathlib.Core.Path.{_≡_, refl, _∙_, sym, ap, subst}
 use mathlib.Core.Bool.{Bool}
 use borrow.Author.Needs.{needs}
 use borrow.Author.Tests.{eq-eqb, ne-eqb}
@@ -14,6 +14,7 @@ use Rattle.ledger.specs.Units.{span, free, lowestFit}
 use Rattle.stored_forms.specs.Segments.{segmentRule}
 use Rattle.segment_cores.proofs.UnitLaws.{span-words}
 use Rattle.segment_cores.specs.Cores.{Searching, unitOr}
+use Rattle.segment_cores.specs.Stores.{Sound}
 use Rattle.calls.specs.Pool.{Pool}
 use Rattle.calls.specs.Engines.{segmentEngine}
 use Rattle.segment_pool.specs.Promises.{segmentPool}
@@ -36,18 +37,21 @@ abbrev clear : tie.Start → ℕ → Bool
 clear s = free segmentRule (old s)
 
 -- the search is asked on a sound pool
-searched : (c : tie.After-depth-of)
+searched : (c : tie.After-segments-of)
     → let s = c .before .before .before .before .before .before .before .before .before .before .before .before in
-    Searching (old s) (now (s .args .arena)) (now (s .args .index)) (s .args .s) (c .depth-of .result)
-    (s .args .words + 1)
+    let r = c .segments-of .result in
+    Searching (old s) (now (s .args .arena)) (now (s .args .index)) (r .count) (r .log) (s .args .words + 1)
 searched c =
     let i = c .before .before .before .before .before .before .before .before .before in
     let s = i .before .before .before in
+    let d = c .segments-of .ensures in
+    let form = sound-form (s .args .s) (s .args .head .next) (now (s .args .arena)) (now (s .args .table))
+    (now (s .args .index)) (s .pre) (c .before .ranged .ensures) d in
     record {
-      sound = sound-form (s .args .s) (s .args .head .next) (now (s .args .arena)) (now (s .args .table))
-          (now (s .args .index)) (s .pre) (c .before .ranged .ensures);
-      power = c .depth-of .ensures .0;
-      few = c .depth-of .ensures .1;
+      sound = subst (Sound (old s) (now (s .args .arena)) (now (s .args .index)) (c .segments-of .result .count))
+          (form .sizes .each) form;
+      power = d .count ∙ d .power;
+      few = d .few;
       two = omega (arith, some-words (s .args .words) (i .if1 .left));
     }
 
@@ -127,11 +131,12 @@ returns-3 c =
 ranged-requires : tie.Need-ranged-requires
 ranged-requires c κs = search needs
 
-depth-of-requires : tie.Need-depth-of-requires
-depth-of-requires c κs =
+segments-of-requires : tie.Need-segments-of-requires
+segments-of-requires c κs =
     let s = c .before .before .before .before .before .before .before .before .before .before .before in
-    sound-range (s .args .s) (s .args .head .next) (now (s .args .arena)) (now (s .args .table)) (now (s .args .index))
-    (s .pre) .power
+    let range = sound-range (s .args .s) (s .args .head .next) (now (s .args .arena)) (now (s .args .table))
+    (now (s .args .index)) (s .pre) in
+    (range .power, range .most)
 
 add-search : tie.Need-add-search
 add-search c =
@@ -225,7 +230,7 @@ grant-spec =
     same-length-2
     returns-3
     ranged-requires
-    depth-of-requires
+    segments-of-requires
     add-search
     search-requires
     no-effect-requires-4

@@ -1,7 +1,11 @@
 -- `segment_pool::is_stored` meets its contract, by what the check of table, arena and index says. Assumes nothing.
+use Prim.Native.Nat.{ℕ}
+use mathlib.Core.Path.{subst}
 use borrow.Author.Needs.{needs}
 use denote.Ref.{now}
-use Rattle.segment_pool.proofs.GateLaws.{InRange, in-range, measured, sized, stored-says}
+use Rattle.words.specs.Flags.{Says}
+use Rattle.segment_check.specs.Laid.{Shown}
+use Rattle.segment_pool.proofs.GateLaws.{InRange, in-range, measured, stored-says}
 use Rattle.segment_pool.proofs.is_stored.Statement.{statement}
 use Rattle.segment_pool.proofs.is_stored.Tie as tie
 
@@ -14,24 +18,23 @@ fit s =
 ranged-requires : tie.Need-ranged-requires
 ranged-requires c κs = search needs
 
-depth-of-requires : tie.Need-depth-of-requires
-depth-of-requires c κs = fit (c .before .before .before) .power
-
-segment-size-requires : tie.Need-segment-size-requires
-segment-size-requires c κs = (fit (c .before .before .before .before) .most, c .depth-of .ensures .1)
+segments-of-requires : tie.Need-segments-of-requires
+segments-of-requires c κs = let in-range = fit (c .before .before .before) in (in-range .power, in-range .most)
 
 is-shown-requires : tie.Need-is-shown-requires
 is-shown-requires c κs =
-    let d = c .before in
-    let in-range = fit (d .before .before .before .before) in
-    (measured in-range _ (sized _ _ (d .depth-of .ensures .0) (c .segment-size .ensures)), in-range .few)
+    let in-range = fit (c .before .before .before .before) in
+    (measured in-range (c .segments-of .ensures), in-range .few)
 
 returns : tie.Need-returns
 returns c =
-    let r = c .before .before .before in
-    let s = r .before .before .before in
-    stored-says (s .args .next) (fit s) (r .ranged .ensures) (c .is-shown .result) (c .is-shown .ensures)
+    let d = c .before in
+    let s = d .before .before .before .before in
+    let a = s .args in
+    stored-says (a .next) (fit s) (d .before .ranged .ensures) (c .is-shown .result)
+    (subst (λ (n : ℕ). Says (c .is-shown .result) (Shown (a .next) (now (a .arena)) (now (a .table)) (now (a .index)) n))
+    (d .segments-of .ensures .count) (c .is-shown .ensures))
 
 pub is-stored-spec : {M : Type 1} → statement M
 is-stored-spec =
-    tie.close (tie.spec ranged-requires depth-of-requires segment-size-requires is-shown-requires returns)
+    tie.close (tie.spec ranged-requires segments-of-requires is-shown-requires returns)

@@ -16,7 +16,7 @@ use Rattle.calls.specs.Pool.{Pool, nextAfter}
 use Rattle.calls.specs.Step.{ask}
 use Rattle.calls.specs.Step as machine
 use Rattle.segment_pool.specs.Promises.{segmentPool, granted}
-use Rattle.segment_pool.proofs.GateLaws.{InRange, sized}
+use Rattle.segment_pool.proofs.GateLaws.{InRange}
 use Rattle.segment_pool.proofs.ActedLaws.{same-left, acted-left}
 use Rattle.segment_pool.proofs.GrantLaws.{place-range, place-slot, place-inside}
 use Rattle.segment_pool.proofs.GrantLaws.{place-granting, place-answer, place-pool}
@@ -45,60 +45,58 @@ inside s =
     (now (s .args .index)) (s .args .words) (s .args .slot) (s .args .at) (s .pre)
 
 -- what is granted, in the code's own numbers
-granted-at : (c : tie.After-segment-size) → let s = c .before .before .before .before .before in
-    Granting (old s) (entered s) (now (s .args .arena)) (now (s .args .index)) (s .args .s) (c .segment-size .result)
-    (s .args .at) (c .before .before .span-of .result)
+granted-at : (c : tie.After-segments-of) → let s = c .before .before .before .before in
+    let r = c .segments-of .result in
+    Granting (old s) (entered s) (now (s .args .arena)) (now (s .args .index)) (r .count) (r .size) (s .args .at)
+    (c .before .span-of .result)
 granted-at c =
-    let d = c .before in
-    let s = d .before .before .before .before in
-    subst₂
-    (λ (g n : ℕ). Granting (old s) (entered s) (now (s .args .arena)) (now (s .args .index)) (s .args .s) g
-    (s .args .at) n)
-    (sym (sized _ _ (d .depth-of .ensures .0) (c .segment-size .ensures))) (sym (d .before .span-of .ensures))
+    let s = c .before .before .before .before in
+    let r = c .segments-of .result in
+    subst
+    (Granting (old s) (entered s) (now (s .args .arena)) (now (s .args .index)) (r .count) (r .size) (s .args .at))
+    (sym (c .before .span-of .ensures))
     (place-granting (s .args .head) (s .args .s) (now (s .args .arena)) (now (s .args .table))
-    (now (s .args .index)) (s .args .words) (s .args .slot) (s .args .at) (s .pre))
+    (now (s .args .index)) (s .args .words) (s .args .slot) (s .args .at) (s .pre) (c .segments-of .ensures))
 
 -- what the grant leaves, in the ledger's units
-becomes : (c : tie.After-allot) → let s = c .before .before .before .before .before .before .before .before in
+becomes : (c : tie.After-allot) → let s = c .before .before .before .before .before .before .before in
     Becomes (entered s)
     (wiped (pos 0) (s .args .at + 1) (s .args .at + span segmentRule (s .args .words)) (now (s .args .arena)))
     (s .args .s) (c .allot .last .0) (c .allot .last .1 .0)
 becomes c =
     let g = c .before .before .before in
-    let s = g .before .before .before .before .before in
-    subst
-    (λ (n : ℕ). Becomes (entered s) (wiped (pos 0) (s .args .at + 1) (s .args .at + n) (now (s .args .arena)))
-    (s .args .s) (c .allot .last .0) (c .allot .last .1 .0))
-    (g .before .before .span-of .ensures) (c .allot .ensures (old s) (entered s) (granted-at g))
+    let s = g .before .before .before .before in
+    subst₂
+    (λ (m n : ℕ). Becomes (entered s) (wiped (pos 0) (s .args .at + 1) (s .args .at + n) (now (s .args .arena)))
+    m (c .allot .last .0) (c .allot .last .1 .0))
+    (g .segments-of .ensures .count) (g .before .span-of .ensures)
+    (c .allot .ensures (old s) (entered s) (granted-at g))
 
 span-of-requires : tie.Need-span-of-requires
 span-of-requires c κs = search needs
 
-depth-of-requires : tie.Need-depth-of-requires
-depth-of-requires c κs = range (c .before .before .before) .power
-
-segment-size-requires : tie.Need-segment-size-requires
-segment-size-requires c κs = (range (c .before .before .before .before) .most, c .depth-of .ensures .1)
+segments-of-requires : tie.Need-segments-of-requires
+segments-of-requires c κs = let r = range (c .before .before .before) in (r .power, r .most)
 
 allot-requires : tie.Need-allot-requires
 allot-requires c κs =
     let g = c .before .before in
-    let s = g .before .before .before .before .before in
+    let s = g .before .before .before .before in
     (old s, entered s, granted-at g)
 
 add-address : tie.Need-add-address
 add-address c =
-    let s = c .before .before .before .before .before .before .before .before .before .before .before in
+    let s = c .before .before .before .before .before .before .before .before .before .before in
     omega (arith, inside s, range s .most)
 
 cast-address : tie.Need-cast-address
 cast-address c =
-    let s = c .before .before .before .before .before .before .before .before .before .before .before in
+    let s = c .before .before .before .before .before .before .before .before .before .before in
     omega (arith, inside s, range s .most)
 
 write-row-requires : tie.Need-write-row-requires
 write-row-requires c κs =
-    let s = c .before .before .before .before .before .before .before .before .before .before .before .before in (
+    let s = c .before .before .before .before .before .before .before .before .before .before .before in (
       place-slot (s .args .head) (s .args .s) (now (s .args .arena)) (now (s .args .table))
           (now (s .args .index)) (s .args .words) (s .args .slot) (s .args .at) (s .pre),
       range s .threes,
@@ -117,7 +115,7 @@ returns : tie.Need-returns
 returns c =
     let w = c .before .before in
     let l = w .before .before .before .before .before in
-    let s = l .before .before .before .before .before .before .before .before in
+    let s = l .before .before .before .before .before .before .before in
     let after = place-pool (s .args .head) (s .args .s) (now (s .args .arena)) (now (s .args .table))
     (now (s .args .index)) (s .args .words) (s .args .slot) (s .args .at) (s .pre)
     (l .allot .last .0) (w .write-row .last .0) (l .allot .last .1 .0) (becomes l) (w .write-row .ensures) in
@@ -141,8 +139,7 @@ place-spec =
     tie.close
     (tie.spec
     span-of-requires
-    depth-of-requires
-    segment-size-requires
+    segments-of-requires
     allot-requires
     add-address
     cast-address

@@ -10,6 +10,13 @@ ghost use Rattle.calls.specs.Pool.{nextAfter};
 ghost use Rattle.calls.specs.Step.{success, refusal, listSuits};
 ghost use Rattle.call_parts.specs.Parts.{namedIn, actOf, requestAt, withAnswer};
 
+// An empty slot of the table; and what a call that makes or names no record succeeds with.
+pub const EMPTY_ROW: Row = Row {
+    ticket: 0,
+    address: 0,
+    words: 0,
+};
+
 // A refusal: ticket, address and words are 0.
 pub fn refused(number: u32) -> Answer
     ensures { λ r. ⌜ r ≡ refusal number ⌝ }

@@ -7,9 +7,9 @@ ghost use Rattle.ledger.specs.Records.{row};
 ghost use Rattle.calls.specs.Step.{format, allocate, release, find, list, step};
 ghost use Rattle.calls.specs.Engines.{treeEngine, segmentEngine};
 ghost use Rattle.call_parts.specs.Results.{resultOf};
-ghost use Rattle.tree_check.specs.Gate.{treePool};
+ghost use Rattle.tree_check.specs.Gate.{treePool, noHead};
 ghost use Rattle.segment_pool.specs.Promises.{segmentPool};
-ghost use Rattle.tree_pool.specs.Promises as tree;
+ghost use Rattle.tree_cores.specs.Outcomes as tree;
 ghost use Rattle.segment_pool.specs.Promises as segment;
 ghost use Rattle.pool_c.specs.Structs.{headOf, answerOf, treeOutcome, segmentOutcome};
 
@@ -77,7 +77,7 @@ fn c_answer(answer: calls::Answer) -> Answer
     both(told, place)
 }
 
-fn c_tree_outcome(done: tree_pool::Outcome) -> TreeOutcome
+fn c_tree_outcome(done: tree_cores::Outcome) -> TreeOutcome
     ensures { λ r. ⌜ treeOutcome r ≡ done ⌝ }
 {
     let after = done.head;
@@ -105,7 +105,7 @@ fn c_segment_outcome(done: segment_pool::Outcome) -> SegmentOutcome
 #[no_mangle]
 pub extern "C" fn lf_tree_format(arena: &mut [u32], table: &mut [u32]) -> TreeOutcome
     ensures { λ r. ⌜ tree.handed (treeOutcome r) (now (arena .exit)) (now (table .exit)) []
-        ≡ resultOf (step treeEngine format (treePool 0 0 (now (arena .entry)) (now (table .entry)))) ⌝ }
+        ≡ resultOf (step treeEngine format (treePool noHead (now (arena .entry)) (now (table .entry)))) ⌝ }
 {
     let done = tree_pool::format(arena, table);
     c_tree_outcome(done)
@@ -120,9 +120,9 @@ pub extern "C" fn lf_tree_allocate(
 ) -> TreeOutcome
     ensures { λ r. ⌜ tree.handed (treeOutcome r) (now (arena .exit)) (now (table .exit)) []
         ≡ resultOf (step treeEngine (allocate words)
-        (tree.poolOf (headOf head) (now (arena .entry)) (now (table .entry)))) ⌝ }
+        (treePool (headOf head) (now (arena .entry)) (now (table .entry)))) ⌝ }
 {
-    let pool = tree_pool::Head {
+    let pool = tree_check::Head {
         root: head.root,
         next: head.next,
     };
@@ -141,9 +141,9 @@ pub extern "C" fn lf_tree_release(
 ) -> TreeOutcome
     ensures { λ r. ⌜ tree.handed (treeOutcome r) (now (arena .exit)) (now (table .exit)) []
         ≡ resultOf (step treeEngine (release (row ticket address words))
-        (tree.poolOf (headOf head) (now (arena .entry)) (now (table .entry)))) ⌝ }
+        (treePool (headOf head) (now (arena .entry)) (now (table .entry)))) ⌝ }
 {
-    let pool = tree_pool::Head {
+    let pool = tree_check::Head {
         root: head.root,
         next: head.next,
     };
@@ -167,9 +167,9 @@ pub extern "C" fn lf_tree_find(
 ) -> Answer
     ensures { λ r. ⌜ answerOf r
         ≡ step treeEngine (find (row ticket address words))
-        (tree.poolOf (headOf head) (now (arena .entry)) (now (table .entry))) .answer ⌝ }
+        (treePool (headOf head) (now (arena .entry)) (now (table .entry))) .answer ⌝ }
 {
-    let pool = tree_pool::Head {
+    let pool = tree_check::Head {
         root: head.root,
         next: head.next,
     };
@@ -192,9 +192,9 @@ pub extern "C" fn lf_tree_list(
 ) -> TreeOutcome
     ensures { λ r. ⌜ tree.handed (treeOutcome r) (now (arena .exit)) (now (table .exit)) (now (answers .exit) ∷ [])
         ≡ resultOf (step treeEngine (list (now (requests .entry)) (now (answers .entry)))
-        (tree.poolOf (headOf head) (now (arena .entry)) (now (table .entry)))) ⌝ }
+        (treePool (headOf head) (now (arena .entry)) (now (table .entry)))) ⌝ }
 {
-    let pool = tree_pool::Head {
+    let pool = tree_check::Head {
         root: head.root,
         next: head.next,
     };

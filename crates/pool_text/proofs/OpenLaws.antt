@@ -18,11 +18,11 @@ use Rattle.calls.specs.Step as machine
 use Rattle.calls.specs.Step.{format, behind, gate, perform, formatDone, step, blank, accepted}
 use Rattle.calls.specs.Engines.{treeEngine, treeEngineOf}
 use Rattle.calls.proofs.Engines.{tree-demand2}
-use Rattle.tree_check.specs.Gate.{treePool}
+use Rattle.tree_check.specs.Gate.{treePool, noHead}
 use Rattle.tree_check.proofs.GateLaws.{in-range}
-use Rattle.tree_pool.specs.declared.Outcome.{Outcome}
+use Rattle.tree_cores.specs.declared.Outcome.{Outcome}
 use Rattle.call_parts.specs.Results.{Result, resultOf}
-use Rattle.tree_pool.specs.Promises.{handed}
+use Rattle.tree_cores.specs.Outcomes.{handed}
 use Rattle.tree_pool.proofs.FormatLaws.{blank-owned}
 use Rattle.text.specs.Fields.{lineOf}
 use Rattle.pool_text.specs.Meaning.{serving, stopped, served, fresh, opened, refusalLine, mostWords}
@@ -40,7 +40,7 @@ stamp-none {A} o v h i (x ∷ a) (y ∷ b) e =
     rw (h i) (ap (λ (l : List A). v i ∷ l) (stamp-none o v h (suc i) a b (omega arith)))
 
 abbrev at : Words → Words → Pool
-at a t = treePool 0 0 a t
+at a t = treePool noHead a t
 
 module _ (a b t u : Words) (ea : length a ≡ length b) (et : length t ≡ length u) where
   same-lengths : lengths treeEngine (at a t) ≡ lengths treeEngine (at b u)
@@ -102,7 +102,7 @@ wrong-sizes w s e =
 
 many-slots : (w s : ℕ) → 256 < s → lengths treeEngine (zeros w s) ≡ false
 many-slots w s l = false-of (lengths treeEngine (zeros w s)) (λ t.
-    let few = in-range 0 0 (zeroWords w) (zeroWords (recordWords * s)) t .few in
+    let few = in-range noHead (zeroWords w) (zeroWords (recordWords * s)) t .few in
     let long = length-replicate {A = ℕ} (recordWords * s) 0 in
     absurd (omega (arith, few, long, l)))
 
@@ -142,11 +142,11 @@ module _ (a t : Words) (w s : ℕ) (ea : length a ≡ w) (et : length t ≡ reco
     zeros-formatted : step treeEngine format (zeros w s) ≡ formatDone treeEngine (zeros w s)
     zeros-formatted = right-done (zeros w s) (sym same-as-zeros ∙ right-lengths)
 
-    stored-there : treePool (d .head .root) (d .head .next) b u
+    stored-there : treePool (d .head) b u
         ≡ store treeEngine (blank treeEngine (at a t)) firstTicket (at a t)
     stored-there = ap (λ (x : Result). x .pool) (e ∙ ap resultOf (right-done (at a t) right-lengths))
 
-    pool-is : treePool (d .head .root) (d .head .next) b u ≡ fresh w s .pool
+    pool-is : treePool (d .head) b u ≡ fresh w s .pool
     unfolding fresh
     pool-is =
         stored-there
@@ -157,13 +157,13 @@ module _ (a t : Words) (w s : ℕ) (ea : length a ≡ w) (et : length t ≡ reco
     accepts = ap (λ (o : machine.Outcome). accepted (o .answer)) zeros-formatted
 
     pub opens : w ≤ 8192
-        → opened w s ≡ served (serving (treePool (d .head .root) (d .head .next) b u)) (lineOf 80 (w ∷ s ∷ []))
+        → opened w s ≡ served (serving (treePool (d .head) b u)) (lineOf 80 (w ∷ s ∷ []))
     unfolding opened fresh
     opens h =
         rw (of-le w 8192 h, accepts)
         (ap (λ (q : Pool). served (serving q) (lineOf 80 (w ∷ s ∷ []))) (sym pool-is))
 
-    pub opens-sound : sound treeEngine (treePool (d .head .root) (d .head .next) b u) ≡ true
+    pub opens-sound : sound treeEngine (treePool (d .head) b u) ≡ true
     unfolding fresh
     opens-sound =
         ap (sound treeEngine) pool-is ∙ tree-demand2 .formats (zeros w s) accepts .0

@@ -13,7 +13,7 @@ use Rattle.calls.specs.Engines.{treeEngine}
 use Rattle.call_parts.specs.declared.Request.{Request}
 use Rattle.call_parts.specs.declared.Request.the-variants as request
 use Rattle.call_parts.specs.Parts.{actOf}
-use Rattle.tree_check.specs.Gate.{treePool}
+use Rattle.tree_check.specs.Gate.{treePool, noHead}
 use Rattle.text.specs.declared.Number.{Number}
 use Rattle.text.specs.declared.Number.the-variants as number
 use Rattle.text.specs.declared.Pair.{Pair}
@@ -68,7 +68,7 @@ mostWords = 8192
 
 -- a new pool of w words and s records
 unfoldable pub fresh : ℕ → ℕ → Outcome
-fresh w s = step treeEngine format (treePool 0 0 (replicate w 0) (replicate (recordWords * s) 0))
+fresh w s = step treeEngine format (treePool noHead (replicate w 0) (replicate (recordWords * s) 0))
 
 -- "N, number"
 abbrev pub refusalLine : ℕ → Bytes

@@ -22,7 +22,7 @@ use Rattle.pool_text.specs.Meaning.{Standing, before, serving, stopped, 
 -- the pool in the first words of arena and table
 abbrev pub ownPool : Own → Words → Words → Pool
 ownPool o arena table =
-    treePool (o .head .root) (o .head .next) (take (o .words) arena) (take (recordWords * o .slots) table)
+    treePool (o .head) (take (o .words) arena) (take (recordWords * o .slots) table)
 
 -- where the session stands, as the meaning has it
 abbrev pub standingOf : Stage → Words → Words → Standing

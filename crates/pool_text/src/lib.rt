@@ -6,8 +6,8 @@ use ledger::Row;
 use text::Number;
 use text::Pair;
 use text::Triple;
-use tree_pool::Head;
-use tree_pool::Outcome;
+use tree_check::Head;
+use tree_cores::Outcome;
 ghost use mathlib.Core.Path.{_≡_};
 ghost use mathlib.Core.Bool.{true};
 ghost use mathlib.Core.List.{[]};
@@ -18,8 +18,8 @@ ghost use Rattle.calls.specs.Step.{format, step};
 ghost use Rattle.calls.specs.Engines.{treeEngine};
 ghost use Rattle.call_parts.specs.Parts.{actOf};
 ghost use Rattle.call_parts.specs.Results.{resultOf, acted};
-ghost use Rattle.tree_check.specs.Gate.{treePool};
-ghost use Rattle.tree_pool.specs.Promises.{poolOf, handed};
+ghost use Rattle.tree_check.specs.Gate.{treePool, noHead};
+ghost use Rattle.tree_cores.specs.Outcomes.{handed};
 ghost use Rattle.text.specs.Fields.{Wrote};
 ghost use Rattle.text.specs.Lines.{feed, finish};
 ghost use Rattle.pool_text.specs.Meaning.{begins, sizesOf, askOf, giveOf, requestOf, opened, firstLine};
@@ -148,7 +148,7 @@ fn stop(out: &mut [u8], at: usize, number: u32) -> Line
 fn format_front(arena: &mut [u32], n: usize, table: &mut [u32], t: usize) -> Outcome
     requires { ⌜ (n ≤ length (now arena)) × (t ≤ length (now table)) ⌝ }
     ensures { λ r. ⌜ handed r (take n (now (arena .exit))) (take t (now (table .exit))) []
-        ≡ resultOf (step treeEngine format (treePool 0 0 (take n (now (arena .entry)))
+        ≡ resultOf (step treeEngine format (treePool noHead (take n (now (arena .entry)))
         (take t (now (table .entry))))) ⌝ }
 {
     let start = 0;
@@ -214,12 +214,12 @@ fn serve_front(
     request: Request,
 ) -> Outcome
     requires { ⌜ (n ≤ length (now arena)) × (t ≤ length (now table)) ⌝ }
-    requires { ⌜ sound treeEngine (poolOf head (take n (now arena)) (take t (now table))) ≡ true ⌝ }
+    requires { ⌜ sound treeEngine (treePool head (take n (now arena)) (take t (now table))) ≡ true ⌝ }
     ensures { λ r. ⌜ handed r (take n (now (arena .exit))) (take t (now (table .exit))) []
-        ≡ acted treeEngine (actOf request) (poolOf head (take n (now (arena .entry))) (take t (now (table .entry)))) ⌝ }
+        ≡ acted treeEngine (actOf request) (treePool head (take n (now (arena .entry))) (take t (now (table .entry)))) ⌝ }
 {
     let start = 0;
-    tree_pool::serve(head, &mut arena[start..n], &mut table[start..t], request)
+    tree_cores::serve(head, &mut arena[start..n], &mut table[start..t], request)
 }
 
 // A line after P.

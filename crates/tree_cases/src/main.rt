@@ -21,8 +21,8 @@ use testing::until;
 use testing::word;
 use testing::write;
 use testing::write_list;
-use tree_pool::Head;
-use tree_pool::Outcome;
+use tree_check::Head;
+use tree_cores::Outcome;
 
 // The head of the pool, and how many words of the two buffers are lent to it.
 struct Pool {

@@ -17,6 +17,7 @@ use Rattle.stored_forms.proofs.FreeTreeLaws.{stamped, of-stamped}
 use Rattle.calls.specs.Pool.{Pool, store, lengths, samePool, stored}
 use Rattle.calls.specs.Engines.{treeEngine, treeEngineOf}
 use Rattle.calls.proofs.StoreLaws.{same-pool-eq, same-pool-same}
+use Rattle.tree_check.specs.declared.Head.{Head}
 use Rattle.tree_check.specs.Maps.{Shown}
 use Rattle.words.specs.Flags.{Says}
 use Rattle.tree_check.specs.Gate.{treePool}
@@ -31,15 +32,15 @@ pub record InRange (m t : Words) : Type 0 where
   pub threes : length t % 3 ≡ 0
   pub few : slots t ≤ 256
 
-module _ (root next : ℕ) (m t : Words) where
+module _ (h : Head) (m t : Words) where
   pub lengths-are : (((((leb 2 (length m) && leb (length m) 16384) && eqb (length m % 2) 0) && eqb (length t % 3) 0)
-      && leb 1 (slots t)) && leb (slots t) 256) ≡ lengths treeEngine (treePool root next m t)
+      && leb 1 (slots t)) && leb (slots t) 256) ≡ lengths treeEngine (treePool h m t)
   unfolding lengths treeEngine treeEngineOf treeRange formOne
   lengths-are = sym (and-true _)
 
-  pub in-range : lengths treeEngine (treePool root next m t) ≡ true → InRange m t
-  in-range h =
-      let e = lengths-are ∙ h in
+  pub in-range : lengths treeEngine (treePool h m t) ≡ true → InRange m t
+  in-range right =
+      let e = lengths-are ∙ right in
       record {
         even = eqb-eq (length m % 2) 0 (search (and-l, and-r));
         some = le-of 2 (length m) (search (and-l, and-r));
@@ -51,17 +52,17 @@ module _ (root next : ℕ) (m t : Words) where
 -- ---- the pool
 
 -- b is what the check of the table says
-pub not-stored : (root next : ℕ) (m t : Words) (b : Bool) → b ≡ valid (formRule formOne) (length m) next (recordsOf t)
-    → b ≡ false → false ≡ stored treeEngine (treePool root next m t)
+pub not-stored : (h : Head) (m t : Words) (b : Bool) → b ≡ valid (formRule formOne) (length m) (h .next) (recordsOf t)
+    → b ≡ false → false ≡ stored treeEngine (treePool h m t)
 unfolding stored treeEngine treeEngineOf
-not-stored root next m t b e off = let bad = sym e ∙ off in sym (rw bad)
+not-stored h m t b e off = let bad = sym e ∙ off in sym (rw bad)
 
 -- right lengths and a valid table
 pub record Valid (next : ℕ) (m t : Words) : Type 0 where
   pub fit : InRange m t
   pub good : valid (formRule formOne) (length m) next (recordsOf t) ≡ true
 
-module _ {next : ℕ} {m t : Words} (k : Valid next m t) (root : ℕ) where
+module _ (h : Head) {m t : Words} (k : Valid (h .next) m t) where
   abbrev L : Ledger
   L = recordsOf t
 
@@ -69,56 +70,56 @@ module _ {next : ℕ} {m t : Words} (k : Valid next m t) (root : ℕ) where
   T = freeTree formOne (length m) L
 
   abbrev p : Pool
-  p = treePool root next m t
+  p = treePool h m t
 
   whole : length m % formOne .unit ≡ 0
   unfolding formOne
   whole = k .fit .even
 
   -- the tree of the ledger's free runs in the arena is what the stored form says of it, both ways
-  holds-store : (link T ≡ root) × Holds formOne m T → p ≡ store treeEngine L next p
+  holds-store : (link T ≡ h .root) × Holds formOne m T → p ≡ store treeEngine L (h .next) p
   unfolding store treeEngine treeEngineOf
-  holds-store h =
+  holds-store lies =
       let keeps : (i : ℕ) → i < length m → owned (formRule formOne) L i ≡ true → getD m i 0 ≡ getD m i 0 =
       λ i l o. refl in
-      let arena = stamped formOne 65536 readable-one (length m) whole L next (k .good) m m refl refl keeps (h .1) in
+      let arena = stamped formOne 65536 readable-one (length m) whole L (h .next) (k .good) m m refl refl keeps (lies .1) in
       let table = table-records t (k .fit .threes) in
       λ i. record {
-        head = record { root = sym (h .0) i ∷ []; next = next };
+        head = record { root = sym (lies .0) i ∷ []; next = h .next };
         shape = 0;
         arena = arena i;
         table = sym table i;
         index = [];
       }
 
-  store-holds : p ≡ store treeEngine L next p → (link T ≡ root) × Holds formOne m T
+  store-holds : p ≡ store treeEngine L (h .next) p → (link T ≡ h .root) × Holds formOne m T
   unfolding store treeEngine treeEngineOf
   store-holds e =
       let arena = ap (λ (q : Pool). q .arena) e in (
         sym (ap (λ (q : Pool). getD (q .head .root) 0 0) e),
-        of-stamped formOne 65536 readable-one (length m) whole L next (k .good) m m refl arena .2,
+        of-stamped formOne 65536 readable-one (length m) whole L (h .next) (k .good) m m refl arena .2,
       )
 
-  stored-same : stored treeEngine p ≡ samePool p (store treeEngine L next p)
+  stored-same : stored treeEngine p ≡ samePool p (store treeEngine L (h .next) p)
   unfolding stored treeEngine treeEngineOf
   stored-same = let good = k .good in rw good
 
-  pub shown-stored : (link T ≡ root) × Holds formOne m T → true ≡ stored treeEngine (treePool root next m t)
-  shown-stored h = sym (stored-same ∙ ap (samePool p) (sym (holds-store h)) ∙ same-pool-same p)
+  pub shown-stored : (link T ≡ h .root) × Holds formOne m T → true ≡ stored treeEngine (treePool h m t)
+  shown-stored lies = sym (stored-same ∙ ap (samePool p) (sym (holds-store lies)) ∙ same-pool-same p)
 
-  pub stored-shown : stored treeEngine (treePool root next m t) ≡ true → (link T ≡ root) × Holds formOne m T
-  stored-shown e = store-holds (same-pool-eq p (store treeEngine L next p) (sym stored-same ∙ e))
+  pub stored-shown : stored treeEngine (treePool h m t) ≡ true → (link T ≡ h .root) × Holds formOne m T
+  stored-shown e = store-holds (same-pool-eq p (store treeEngine L (h .next) p) (sym stored-same ∙ e))
 
 -- so the pool is stored exactly where that is shown
-pub stored-is : (root next : ℕ) (m t : Words) → InRange m t → (r : Bool) → Says r (Shown root next m t)
-    → r ≡ stored treeEngine (treePool root next m t)
-stored-is root next m t fit r says =
-    bool-iff r (stored treeEngine (treePool root next m t))
+pub stored-is : (h : Head) (m t : Words) → InRange m t → (r : Bool) → Says r (Shown h m t)
+    → r ≡ stored treeEngine (treePool h m t)
+stored-is h m t fit r says =
+    bool-iff r (stored treeEngine (treePool h m t))
     (λ e. let (good, linked, holds) = says .0 e in
-    sym (shown-stored (record { fit = fit; good = good }) root (linked, holds)))
-    (λ e. says .1 (go (valid (formRule formOne) (length m) next (recordsOf t)) refl e))
+    sym (shown-stored h (record { fit = fit; good = good }) (linked, holds)))
+    (λ e. says .1 (go (valid (formRule formOne) (length m) (h .next) (recordsOf t)) refl e))
   where
-    go : (b : Bool) → valid (formRule formOne) (length m) next (recordsOf t) ≡ b
-        → stored treeEngine (treePool root next m t) ≡ true → Shown root next m t
-    go true good e = let (linked, holds) = stored-shown (record { fit = fit; good = good }) root e in (good, linked, holds)
-    go false bad e = absurd (true≢false (sym e ∙ sym (not-stored root next m t false (sym bad) refl)))
+    go : (b : Bool) → valid (formRule formOne) (length m) (h .next) (recordsOf t) ≡ b
+        → stored treeEngine (treePool h m t) ≡ true → Shown h m t
+    go true good e = let (linked, holds) = stored-shown h (record { fit = fit; good = good }) e in (good, linked, holds)
+    go false bad e = absurd (true≢false (sym e ∙ sym (not-stored h m t false (sym bad) refl)))

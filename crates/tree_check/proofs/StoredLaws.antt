@@ -20,6 +20,7 @@ use Rattle.stored_forms.specs.Blocks.{Holds}
 use Rattle.stored_forms.proofs.TreeLaws.{tree-unique, freeTree-one, inorder-treeOf, heaped-treeOf}
 use Rattle.record_table.specs.Partition.{Partitioned, total}
 use Rattle.record_table.proofs.PartitionLaws.{partition-valid, valid-exact}
+use Rattle.tree_check.specs.declared.Head.{Head}
 use Rattle.tree_check.specs.Maps.{cellRule, Leads, CoversAll, Mapped, Shown}
 use Rattle.words.specs.Flags.{Says}
 use Rattle.tree_check.specs.Walk.{Found, Apart, ends, LiesAt, Passes}
@@ -28,8 +29,8 @@ use Rattle.tree_check.proofs.LeadLaws.{leads-cover}
 use Rattle.tree_check.proofs.GapLaws.{gapped-wider}
 use Rattle.tree_check.proofs.ApartLaws.{gapped-short, apart-all}
 
-module _ {root next limit : ℕ} {m t map : Words} {held end sum : ℕ} (mapped : Mapped (length m) next t held map)
-    (x : Found m map (length m / 2) root limit 0 0 end sum) (behind : CoversAll map end (length m / 2)) where
+module _ {h : Head} {limit : ℕ} {m t map : Words} {held end sum : ℕ} (mapped : Mapped (length m) (h .next) t held map)
+    (x : Found m map (length m / 2) (h .root) limit 0 0 end sum) (behind : CoversAll map end (length m / 2)) where
   -- the tree's runs are free tiles, and records lie in the rest
   partitioned : Partitioned cellRule (recordsOf t) (length m / 2) (inorder (x .tree))
   partitioned = record {
@@ -39,14 +40,14 @@ module _ {root next limit : ℕ} {m t map : Words} {held end sum : ℕ} (mapped 
     where
       go : (u : ℕ) → u < length m / 2 → covered (inorder (x .tree)) u ≡ false → Dec (end ≤ u)
           → free cellRule (recordsOf t) u ≡ false
-      go u l e (yes h) = mapped .spans u (behind u h l)
-      go u l e (no h) = mapped .spans u (x .known u (omega arith) (omega arith) e)
+      go u l e (yes b) = mapped .spans u (behind u b l)
+      go u l e (no b) = mapped .spans u (x .known u (omega arith) (omega arith) e)
 
-  tiles-stored : sum + held ≡ length m / 2 → Shown root next m t
+  tiles-stored : sum + held ≡ length m / 2 → Shown h m t
   unfolding formOne
   tiles-stored exact =
       let size = x .size in
-      let (good, runs) = partition-valid cellRule (omega arith) (length m) next held t (inorder (x .tree)) (mapped .entered)
+      let (good, runs) = partition-valid cellRule (omega arith) (length m) (h .next) held t (inorder (x .tree)) (mapped .entered)
       partitioned (omega arith) in
       let rs = freeRuns cellRule (length m) (recordsOf t) in
       let is = tree-unique rs (x .tree) (record { order = sym runs; heap = x .heaped })
@@ -55,15 +56,15 @@ module _ {root next limit : ℕ} {m t map : Words} {held end sum : ℕ} (mapped 
 
 -- ---- and back
 
-module _ (root next : ℕ) (m t map : Words) (held : ℕ) (mapped : Mapped (length m) next t held map)
-    (shown : Shown root next m t) where
+module _ (h : Head) (m t map : Words) (held : ℕ) (mapped : Mapped (length m) (h .next) t held map)
+    (shown : Shown h m t) where
   abbrev N : ℕ
   N = length m / 2
 
   abbrev rs : List Run
   rs = freeRuns cellRule (length m) (recordsOf t)
 
-  good : valid cellRule (length m) next (recordsOf t) ≡ true
+  good : valid cellRule (length m) (h .next) (recordsOf t) ≡ true
   unfolding formOne
   good = shown .0
 
@@ -72,10 +73,10 @@ module _ (root next : ℕ) (m t map : Words) (held : ℕ) (mapped : Mapped (leng
   runs = runs-are (free cellRule (recordsOf t)) N
 
   runs-apart : Apart map 0 rs × Leads map (ends 0 rs) N
-  runs-apart = apart-all (length m) next t map good (mapped .led good) rs (runs .gapped) (runs .cover)
+  runs-apart = apart-all (length m) (h .next) t map good (mapped .led good) rs (runs .gapped) (runs .cover)
 
   -- the tree of the free runs lies at the root
-  lies : LiesAt m map N root (N + 1) 0 (treeOf rs)
+  lies : LiesAt m map N (h .root) (N + 1) 0 (treeOf rs)
   unfolding formOne
   lies =
       let is = freeTree-one (length m) (recordsOf t) in
@@ -96,7 +97,7 @@ module _ (root next : ℕ) (m t map : Words) (held : ℕ) (mapped : Mapped (leng
       let few = runs-few cellRule (length m) (recordsOf t) in
       rw order (omega (arith, length-records t))
 
-  module _ {end sum : ℕ} (pass : Passes m map N root (N + 1) 0 (slots t + 1) 0 end sum) where
+  module _ {end sum : ℕ} (pass : Passes m map N (h .root) (N + 1) 0 (slots t + 1) 0 end sum) where
     met : (end ≡ ends 0 rs) × (sum ≡ 0 + total rs)
     met = let order = inorder-treeOf rs in rw order at (pass .meets (treeOf rs) lies few-nodes)
 
@@ -108,17 +109,17 @@ module _ (root next : ℕ) (m t map : Words) (held : ℕ) (mapped : Mapped (leng
 
     end-exact : sum + held ≡ N
     end-exact =
-        omega (arith, met .1, valid-exact cellRule (omega arith) (length m) next t good held (mapped .entered))
+        omega (arith, met .1, valid-exact cellRule (omega arith) (length m) (h .next) t good held (mapped .entered))
 
 -- what the last two tests say, together
-pub both-say : {root next : ℕ} {m t map : Words} {held end sum : ℕ} (b : Bool)
-    → Mapped (length m) next t held map → Found m map (length m / 2) root (length m / 2 + 1) 0 0 end sum
-    → Passes m map (length m / 2) root (length m / 2 + 1) 0 (slots t + 1) 0 end sum → Says b (Leads map end (length m / 2))
-    → Says (b && eqb (sum + held) (length m / 2)) (Shown root next m t)
-both-say {root} {next} {m} {t} {map} {held} {end} {sum} b mapped x pass behind =
+pub both-say : (h : Head) {m t map : Words} {held end sum : ℕ} (b : Bool)
+    → Mapped (length m) (h .next) t held map → Found m map (length m / 2) (h .root) (length m / 2 + 1) 0 0 end sum
+    → Passes m map (length m / 2) (h .root) (length m / 2 + 1) 0 (slots t + 1) 0 end sum → Says b (Leads map end (length m / 2))
+    → Says (b && eqb (sum + held) (length m / 2)) (Shown h m t)
+both-say h {m} {t} {map} {held} {end} {sum} b mapped x pass behind =
     let N = length m / 2 in (
-      (λ e. tiles-stored mapped x (leads-cover (behind .0 (and-l b (eqb (sum + held) N) e)))
+      (λ e. tiles-stored {h = h} mapped x (leads-cover (behind .0 (and-l b (eqb (sum + held) N) e)))
           (eqb-eq (sum + held) N (and-r b (eqb (sum + held) N) e))),
-      λ shown. and-i b (eqb (sum + held) N) (behind .1 (end-leads root next m t map held mapped shown pass))
-          (ap (λ k. eqb k N) (end-exact root next m t map held mapped shown pass) ∙ eqb-same N),
+      λ shown. and-i b (eqb (sum + held) N) (behind .1 (end-leads h m t map held mapped shown pass))
+          (ap (λ k. eqb k N) (end-exact h m t map held mapped shown pass) ∙ eqb-same N),
     )

@@ -14,6 +14,7 @@ use Rattle.stored_forms.specs.Tree.{link, formOne, formRule, freeTree}
 use Rattle.stored_forms.specs.Blocks.{Holds}
 use Rattle.record_table.specs.Partition.{Entered}
 use Rattle.record_table.specs.Leads.{Leading, LedThrough}
+use Rattle.tree_check.specs.declared.Head.{Head}
 
 -- a unit of the tree pool is one cell of two words
 abbrev pub cellRule : Rule
@@ -97,8 +98,8 @@ pub record Mapped (W next : ℕ) (t : Words) (held : ℕ) (map : Words) : Type 0
   pub led : valid cellRule W next (recordsOf t) ≡ true → Led t map (slots t)
 
 -- The table holds a valid ledger, and the arena the tree of its free runs, from the root link on.
-abbrev pub Shown : ℕ → ℕ → Words → Words → Type 0
-Shown root next m t =
-    (valid (formRule formOne) (length m) next (recordsOf t) ≡ true)
-    × (link (freeTree formOne (length m) (recordsOf t)) ≡ root)
+abbrev pub Shown : Head → Words → Words → Type 0
+Shown h m t =
+    (valid (formRule formOne) (length m) (h .next) (recordsOf t) ≡ true)
+    × (link (freeTree formOne (length m) (recordsOf t)) ≡ h .root)
     × Holds formOne m (freeTree formOne (length m) (recordsOf t))

@@ -21,11 +21,11 @@ use Rattle.calls.specs.Step.{blank, format, step}
 use Rattle.calls.specs.Engines.{treeEngineOf, treeEngine}
 use Rattle.call_parts.specs.Results.{resultOf}
 use Rattle.call_parts.proofs.FormatLaws.{zero-table, format-refused}
-use Rattle.tree_check.specs.Gate.{treePool}
+use Rattle.tree_check.specs.Gate.{treePool, noHead}
 use Rattle.tree_check.proofs.GateLaws.{InRange, in-range}
-use Rattle.tree_pool.specs.declared.Outcome.{Outcome}
-use Rattle.tree_pool.specs.Promises.{handed, refusedWith}
-use Rattle.tree_pool.proofs.StoredLaws.{Shows, stored-pool}
+use Rattle.tree_cores.specs.declared.Outcome.{Outcome}
+use Rattle.tree_cores.specs.Outcomes.{handed, refusedWith}
+use Rattle.tree_cores.proofs.StoredLaws.{Shows, stored-pool}
 
 blank-free : (k u : ℕ) → free (formRule formOne) (replicate k emptyRow) u ≡ true
 unfolding free covers
@@ -70,21 +70,21 @@ blank-shows a b k h even put =
 -- ---- the call
 
 abbrev pub blankPool : Words → Words → Pool
-blankPool a t = treePool 0 0 a t
+blankPool a t = treePool noHead a t
 
 pub head-refused : (a t : Words) (x : Outcome) → false ≡ lengths treeEngine (blankPool a t)
-    → x ≡ refusedWith (record { root = 0; next = 0 }) 8
+    → x ≡ refusedWith noHead 8
     → handed x a t [] ≡ resultOf (step treeEngine format (blankPool a t))
 unfolding treeEngine treeEngineOf
 head-refused a t x e h = ap (λ (o : Outcome). handed o a t []) h ∙ format-refused treeEngine (blankPool a t) e
 
 module _ (a t : Words) (right : true ≡ lengths treeEngine (blankPool a t)) where
   pub fit : InRange a t
-  fit = in-range 0 0 a t (sym right)
+  fit = in-range noHead a t (sym right)
 
   pub blank-pool : (b z : Words) → NodePut formOne (replicate (length a) 0) b 0 (length a / 2) 0 0
       → z ≡ replicate (length t) 0
-      → treePool 1 1 b z ≡ store treeEngine (blank treeEngine (blankPool a t)) firstTicket (blankPool a t)
+      → treePool (record { root = 1; next = 1 }) b z ≡ store treeEngine (blank treeEngine (blankPool a t)) firstTicket (blankPool a t)
   blank-pool b z put e =
       stored-pool (blankPool a t) (replicate (slots t) emptyRow) firstTicket firstTicket 1 b z refl (fit .even)
       (valid-blank (formRule formOne) (length a) firstTicket (slots t))

@@ -1,7 +1,2 @@
--- The laws behind the tree pool's promises.
-pub mod StoredLaws
-pub mod SoundLaws
+-- The laws behind the tree pool's calls.
 pub mod FormatLaws
-pub mod ActedLaws
-pub mod GrantLaws
-pub mod ReleaseLaws

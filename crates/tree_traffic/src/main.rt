@@ -18,7 +18,7 @@ use testing::put_all;
 use testing::same;
 use testing::verdict;
 use testing::word;
-use tree_pool::Head;
+use tree_check::Head;
 
 // What a round has come to: the pool's head, and the ledger's side.
 struct Round {

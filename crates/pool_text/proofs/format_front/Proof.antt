@@ -4,9 +4,9 @@ use mathlib.Core.List.{[]}
 use Rattle.words.specs.Lists.{Words}
 use Rattle.calls.specs.Step.{format, step}
 use Rattle.calls.specs.Engines.{treeEngine}
-use Rattle.tree_check.specs.Gate.{treePool}
+use Rattle.tree_check.specs.Gate.{treePool, noHead}
 use Rattle.call_parts.specs.Results.{resultOf}
-use Rattle.tree_pool.specs.Promises.{handed}
+use Rattle.tree_cores.specs.Outcomes.{handed}
 use Rattle.pool_text.proofs.FrontLaws.{fronts}
 use Rattle.pool_text.proofs.format_front.Statement.{statement}
 use Rattle.pool_text.proofs.format_front.Tie as tie
@@ -50,7 +50,7 @@ returns c =
     let s = f .before .before .before .before .before in
     let r = f .format in
     fronts (λ (a t : Words). handed (r .result) a t [])
-    (λ (a t : Words). resultOf (step treeEngine format (treePool 0 0 a t))) (s .args .n) (s .args .t) (s .args .arena .now)
+    (λ (a t : Words). resultOf (step treeEngine format (treePool noHead a t))) (s .args .n) (s .args .t) (s .args .arena .now)
     (s .args .table .now) (r .last .0) (r .last .1 .0) _ _ (s .pre .0) (s .pre .1) (r .kept .0) (r .kept .1 .0)
     (r .ensures)
 

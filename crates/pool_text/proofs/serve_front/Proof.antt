@@ -1,4 +1,4 @@
--- `pool_text::serve_front` meets its contract: `tree_pool::serve` on the first words. Assumes nothing.
+-- `pool_text::serve_front` meets its contract: `tree_cores::serve` on the first words. Assumes nothing.
 use borrow.Author.Needs.{needs}
 use native.Mathlib.Nat.{sub-zero}
 use mathlib.Core.List.{[]}
@@ -6,7 +6,8 @@ use Rattle.words.specs.Lists.{Words}
 use Rattle.call_parts.specs.Parts.{actOf}
 use Rattle.calls.specs.Engines.{treeEngine}
 use Rattle.call_parts.specs.Results.{acted}
-use Rattle.tree_pool.specs.Promises.{poolOf, handed}
+use Rattle.tree_check.specs.Gate.{treePool}
+use Rattle.tree_cores.specs.Outcomes.{handed}
 use Rattle.pool_text.proofs.FrontLaws.{fronts}
 use Rattle.pool_text.proofs.serve_front.Statement.{statement}
 use Rattle.pool_text.proofs.serve_front.Tie as tie
@@ -52,7 +53,7 @@ returns c =
     let s = f .before .before .before .before .before in
     let r = f .serve in
     fronts (λ (a t : Words). handed (r .result) a t [])
-    (λ (a t : Words). acted treeEngine (actOf (s .args .request)) (poolOf (s .args .head) a t)) (s .args .n) (s .args .t)
+    (λ (a t : Words). acted treeEngine (actOf (s .args .request)) (treePool (s .args .head) a t)) (s .args .n) (s .args .t)
     (s .args .arena .now) (s .args .table .now) (r .last .1 .0) (r .last .1 .1 .0) _ _ (s .pre .0 .0) (s .pre .0 .1)
     (r .kept .1 .0) (r .kept .1 .1 .0) (r .ensures)
 

@@ -17,19 +17,19 @@ right-lengths-requires c κs = search needs
 returns : tie.Need-returns
 returns c =
     let a = c .before .before .before .before .args in
-    let bad = sym (c .before .right-lengths .ensures (a .root) (a .next)) ∙ not-true _ (c .if1 .taken) in
-    is-eight treeEngine (treePool (a .root) (a .next) (now (a .arena)) (now (a .table))) bad
+    let bad = sym (c .before .right-lengths .ensures (a .head)) ∙ not-true _ (c .if1 .taken) in
+    is-eight treeEngine (treePool (a .head) (now (a .arena)) (now (a .table))) bad
 
 -- the lengths are right
 abbrev lent : tie.Else1 → Pool
 lent c =
     let a = c .before .before .before .before .args in
-    treePool (a .root) (a .next) (now (a .arena)) (now (a .table))
+    treePool (a .head) (now (a .arena)) (now (a .table))
 
 right : (c : tie.Else1) → lengths treeEngine (lent c) ≡ true
 right c =
     let a = c .before .before .before .before .args in
-    sym (c .before .right-lengths .ensures (a .root) (a .next)) ∙ not-false _ (c .if1 .left)
+    sym (c .before .right-lengths .ensures (a .head)) ∙ not-false _ (c .if1 .left)
 
 is-stored-requires : tie.Need-is-stored-requires
 is-stored-requires c κs = right c

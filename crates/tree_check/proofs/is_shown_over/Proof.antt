@@ -28,12 +28,15 @@ returns c =
 add-allowed : tie.Need-add-allowed
 add-allowed c = search needs
 
+cast-walk-all : tie.Need-cast-walk-all
+cast-walk-all c = search needs
+
 add-walk-all : tie.Need-add-walk-all
 add-walk-all c = search needs
 
 walk-all-requires : tie.Need-walk-all-requires
 walk-all-requires c κs =
-    let r = c .before .before .before .before .before .before .before in
+    let r = c .before .before .before .before .before .before .before .before in
     let s = r .before .before .before .before .before .before .before in
     let most = s .pre .0 .0 in
     let same = r .map-rows .kept .1 .1 .1 .0 in (
@@ -54,10 +57,11 @@ same-length-4 c = search needs
 returns-2 : tie.Need-returns-2
 returns-2 c =
     let w = c .before in
-    let r = w .before .before .before .before .before .before .before .before in (
+    let r = w .before .before .before .before .before .before .before .before .before in
+    let s = r .before .before .before .before .before .before .before in (
       λ e. absurd (false≢true e),
       λ shown.
-          let low = end-low _ _ _ _ _ _ (r .map-rows .ensures .0 (w .before .before .before .if1 .left)) shown (w .walk-all .ensures .1)
+          let low = end-low (s .args .head) _ _ _ _ (r .map-rows .ensures .0 (w .before .before .before .before .if1 .left)) shown (w .walk-all .ensures .1)
           in
           absurd (omega arith),
     )
@@ -65,16 +69,16 @@ returns-2 c =
 add-whole : tie.Need-add-whole
 add-whole c =
     let w = c .before in
-    let r = w .before .before .before .before .before .before .before .before in
+    let r = w .before .before .before .before .before .before .before .before .before in
     let s = r .before .before .before .before .before .before .before in
     let found = w .walk-all .ensures .0 (c .if2 .left) in
-    let held = w .before .before .before .if1 .left in
+    let held = w .before .before .before .before .if1 .left in
     let most = s .pre .0 .0 in
     omega arith
 
 leads-to-requires : tie.Need-leads-to-requires
 leads-to-requires c κs =
-    let r = c .before .before .before .before .before .before .before .before .before .before in
+    let r = c .before .before .before .before .before .before .before .before .before .before .before in
     let s = r .before .before .before .before .before .before .before in
     let most = s .pre .0 .0 in
     let same = r .map-rows .kept .1 .1 .1 .0 in
@@ -89,8 +93,9 @@ same-length-6 c = search needs
 returns-3 : tie.Need-returns-3
 returns-3 c =
     let w = c .before .before .before in
-    let r = w .before .before .before .before .before .before .before .before in
-    both-say (c .leads-to .result) (r .map-rows .ensures .0 (w .before .before .before .if1 .left))
+    let r = w .before .before .before .before .before .before .before .before .before in
+    let s = r .before .before .before .before .before .before .before in
+    both-say (s .args .head) (c .leads-to .result) (r .map-rows .ensures .0 (w .before .before .before .before .if1 .left))
     (w .walk-all .ensures .0 (c .before .before .if2 .left)) (w .walk-all .ensures .1) (c .leads-to .ensures)
 
 pub is-shown-over-spec : {M : Type 1} → statement M
@@ -102,6 +107,7 @@ is-shown-over-spec =
     same-length-2
     returns
     add-allowed
+    cast-walk-all
     add-walk-all
     walk-all-requires
     same-length-3

@@ -7,7 +7,7 @@ use Rattle.tree_check.proofs.is_stored.Tie as tie
 
 -- the lent lengths
 fit : (s : tie.Start) → InRange (now (s .args .arena)) (now (s .args .table))
-fit s = let a = s .args in in-range (a .root) (a .next) (now (a .arena)) (now (a .table)) (s .pre)
+fit s = let a = s .args in in-range (a .head) (now (a .arena)) (now (a .table)) (s .pre)
 
 is-shown-requires : tie.Need-is-shown-requires
 is-shown-requires c κs = let f = fit (c .before .before) in (f .most, f .few)
@@ -16,7 +16,7 @@ returns : tie.Need-returns
 returns c =
     let s = c .before .before .before in
     let a = s .args in
-    stored-is (a .root) (a .next) (now (a .arena)) (now (a .table)) (fit s) (c .is-shown .result) (c .is-shown .ensures)
+    stored-is (a .head) (now (a .arena)) (now (a .table)) (fit s) (c .is-shown .result) (c .is-shown .ensures)
 
 pub is-stored-spec : {M : Type 1} → statement M
 is-stored-spec = tie.close (tie.spec is-shown-requires returns)

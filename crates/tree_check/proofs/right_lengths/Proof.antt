@@ -6,7 +6,7 @@ use Rattle.tree_check.proofs.right_lengths.Statement.{statement}
 use Rattle.tree_check.proofs.right_lengths.Tie as tie
 
 returns : tie.Need-returns
-returns c = λ root next. lengths-are root next (now (c .args .arena)) (now (c .args .table))
+returns c = λ h. lengths-are h (now (c .args .arena)) (now (c .args .table))
 
 pub right-lengths-spec : {M : Type 1} → statement M
 right-lengths-spec = tie.close (tie.spec returns)

@@ -6,7 +6,7 @@ use Rattle.calls.specs.Step.{Outcome, find}
 use Rattle.calls.specs.Engines.{treeEngine}
 use Rattle.calls.proofs.GateLaws.{gate-refuses, gate-opens}
 use Rattle.call_parts.proofs.FindLaws.{find-slot, find-refused}
-use Rattle.tree_pool.specs.Promises.{poolOf}
+use Rattle.tree_check.specs.Gate.{treePool}
 use Rattle.tree_pool.proofs.find.Statement.{statement}
 use Rattle.tree_pool.proofs.find.Tie as tie
 
@@ -20,7 +20,7 @@ returns : tie.Need-returns
 returns c =
     let g = c .before .before in
     let s = g .before .before .before in
-    let p = poolOf (s .args .head) (now (s .args .arena)) (now (s .args .table)) in
+    let p = treePool (s .args .head) (now (s .args .arena)) (now (s .args .table)) in
     c .refused .ensures
     ∙ sym (ap (λ (o : Outcome). o .answer)
     (gate-refuses treeEngine p (g .gate-number .result) (g .gate-number .ensures) (c .before .if1 .taken)
@@ -46,7 +46,7 @@ returns-2 c =
     let n = c .before .before .before in
     let g = n .before .before in
     let s = g .before .before .before in
-    let p = poolOf (s .args .head) (now (s .args .arena)) (now (s .args .table)) in
+    let p = treePool (s .args .head) (now (s .args .arena)) (now (s .args .table)) in
     let ok = gate-opens treeEngine p (g .gate-number .result) (g .gate-number .ensures) (n .before .if1 .left) in
     let t = c .before .enum-told .given in
     c .succeeded .ensures ∙ sym (find-slot treeEngine p (s .args .named) ok (t .0 .0)
@@ -57,7 +57,7 @@ returns-3 c =
     let n = c .before .before .before .before in
     let g = n .before .before in
     let s = g .before .before .before in
-    let p = poolOf (s .args .head) (now (s .args .arena)) (now (s .args .table)) in
+    let p = treePool (s .args .head) (now (s .args .arena)) (now (s .args .table)) in
     let ok = gate-opens treeEngine p (g .gate-number .result) (g .gate-number .ensures) (n .before .if1 .left) in
     let t = c .before .before .n .given in
     c .refused2 .ensures ∙ sym (find-refused treeEngine p (s .args .named) ok (t .0 .0)

@@ -13,7 +13,7 @@ use Rattle.stored_forms.specs.Tree.{formOne}
 use Rattle.tree_nodes.specs.Nodes.{NodePut}
 use Rattle.calls.specs.Pool.{lengths}
 use Rattle.calls.specs.Engines.{treeEngine}
-use Rattle.tree_check.specs.Gate.{treePool}
+use Rattle.tree_check.specs.Gate.{treePool, noHead}
 use Rattle.tree_check.proofs.GateLaws.{InRange}
 use Rattle.call_parts.proofs.FormatLaws.{format-result}
 use Rattle.tree_pool.proofs.FormatLaws.{head-refused, blank-pool, fit}
@@ -25,8 +25,8 @@ abbrev entry : tie.Else1 → tie.Start
 entry c = c .before .before .before .before .before .before
 
 right : (c : tie.Else1) → true ≡ lengths treeEngine
-    (treePool 0 0 (now (entry c .args .arena)) (now (entry c .args .table)))
-right c = sym (not-false _ (c .if1 .left)) ∙ c .before .right-lengths .ensures 0 0
+    (treePool noHead (now (entry c .args .arena)) (now (entry c .args .table)))
+right c = sym (not-false _ (c .if1 .left)) ∙ c .before .right-lengths .ensures noHead
 
 fits : (c : tie.Else1) → InRange (now (entry c .args .arena)) (now (entry c .args .table))
 fits c = fit (now (entry c .args .arena)) (now (entry c .args .table)) (right c)
@@ -48,7 +48,7 @@ returns c =
     let r = c .before .before in
     let s = r .before .before .before .before .before in
     head-refused (now (s .args .arena)) (now (s .args .table)) (c .refused-with .result)
-    (sym (not-true _ (c .before .if1 .taken)) ∙ r .right-lengths .ensures 0 0) (c .refused-with .ensures)
+    (sym (not-true _ (c .before .if1 .taken)) ∙ r .right-lengths .ensures noHead) (c .refused-with .ensures)
 
 cast-cells : tie.Need-cast-cells
 cast-cells c = omega (arith, fits c .most)
@@ -82,8 +82,8 @@ returns-2 c =
     let w = z .before .before .before .before in
     let i = w .before .before in
     let s = i .before .before .before .before .before .before in
-    format-result treeEngine (treePool 0 0 (now (s .args .arena)) (now (s .args .table))) (right i)
-    (c .succeeded .result) (treePool 1 1 (n .put-node .last .0) (z .wipe2 .last .0)) (c .succeeded .ensures)
+    format-result treeEngine (treePool noHead (now (s .args .arena)) (now (s .args .table))) (right i)
+    (c .succeeded .result) (treePool (record { root = 1; next = 1 }) (n .put-node .last .0) (z .wipe2 .last .0)) (c .succeeded .ensures)
     (blank-pool (now (s .args .arena)) (now (s .args .table)) (right i) (n .put-node .last .0) (z .wipe2 .last .0)
     (subst (λ (m : Words). NodePut formOne m (n .put-node .last .0) 0 (length (now (s .args .arena)) / 2) 0 0)
     (w .wipe .ensures) (n .put-node .ensures))

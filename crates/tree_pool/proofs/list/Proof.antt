@@ -9,8 +9,9 @@ use Rattle.calls.specs.Engines.{treeEngine}
 use Rattle.calls.proofs.GateLaws.{gate-opens}
 use Rattle.call_parts.proofs.ResultLaws.{gate-result, unsuited-result, list-result}
 use Rattle.call_parts.proofs.WholeLists.{suited-lengths}
-use Rattle.tree_pool.specs.declared.Outcome.{Outcome}
-use Rattle.tree_pool.specs.Promises.{poolOf, handed}
+use Rattle.tree_cores.specs.declared.Outcome.{Outcome}
+use Rattle.tree_check.specs.Gate.{treePool}
+use Rattle.tree_cores.specs.Outcomes.{handed}
 use Rattle.tree_pool.proofs.list.Statement.{statement}
 use Rattle.tree_pool.proofs.list.Tie as tie
 
@@ -33,7 +34,7 @@ returns c =
     let rs = now (s .args .asked) in
     let bs = now (s .args .answers) in
     ap (λ (o : Outcome). handed o a t (bs ∷ [])) (c .refused-with .ensures)
-    ∙ unsuited-result treeEngine (poolOf h a t) rs bs
+    ∙ unsuited-result treeEngine (treePool h a t) rs bs
     (sym (u .list-suits .ensures) ∙ not-true (u .list-suits .result) (c .before .if1 .taken))
 
 gate-number-requires : tie.Need-gate-number-requires
@@ -64,7 +65,7 @@ returns-2 c =
     let bs = now (s .args .answers) in
     let suits = sym (u .list-suits .ensures) ∙ not-false (u .list-suits .result) (f .if1 .left) in
     ap (λ (o : Outcome). handed o a t (bs ∷ [])) (c .refused-with2 .ensures)
-    ∙ gate-result treeEngine (poolOf h a t) (g .gate-number .result) (g .gate-number .ensures) (c .before .if2 .taken)
+    ∙ gate-result treeEngine (treePool h a t) (g .gate-number .result) (g .gate-number .ensures) (c .before .if2 .taken)
     (list rs bs) refl suits
 
 serve-all-requires : tie.Need-serve-all-requires
@@ -80,7 +81,7 @@ serve-all-requires c κs =
     let rs = now (s .args .asked) in
     let bs = now (s .args .answers) in
     let suits = sym (u .list-suits .ensures) ∙ not-false (u .list-suits .result) (f .if1 .left) in (
-      gate-opens treeEngine (poolOf h a t) (g .gate-number .result) (g .gate-number .ensures)
+      gate-opens treeEngine (treePool h a t) (g .gate-number .result) (g .gate-number .ensures)
           (e .if2 .left),
       suited-lengths rs bs suits,
     )
@@ -111,9 +112,9 @@ returns-3 c =
     let rs = now (s .args .asked) in
     let bs = now (s .args .answers) in
     let suits = sym (u .list-suits .ensures) ∙ not-false (u .list-suits .result) (f .if1 .left) in
-    let ok = gate-opens treeEngine (poolOf h a t) (g .gate-number .result) (g .gate-number .ensures) (e .if2 .left) in
-    list-result treeEngine (poolOf h a t) rs bs suits ok (c .succeeded .result)
-    (poolOf (d .serve-all .result) (d .serve-all .last .1 .0) (d .serve-all .last .1 .1 .0))
+    let ok = gate-opens treeEngine (treePool h a t) (g .gate-number .result) (g .gate-number .ensures) (e .if2 .left) in
+    list-result treeEngine (treePool h a t) rs bs suits ok (c .succeeded .result)
+    (treePool (d .serve-all .result) (d .serve-all .last .1 .0) (d .serve-all .last .1 .1 .0))
     (d .serve-all .last .1 .1 .1 .1 .0) (c .succeeded .ensures) (d .serve-all .ensures)
 
 pub list-spec : {M : Type 1} → statement M

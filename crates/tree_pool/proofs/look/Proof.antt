@@ -8,7 +8,7 @@ use Rattle.calls.specs.Engines.{treeEngine}
 use Rattle.calls.proofs.Engines.{tree-laws}
 use Rattle.call_parts.proofs.FindLaws.{found-inside}
 use Rattle.call_parts.proofs.LookLaws.{look-holds, look-found}
-use Rattle.tree_pool.specs.Promises.{poolOf}
+use Rattle.tree_check.specs.Gate.{treePool}
 use Rattle.tree_pool.proofs.look.Statement.{statement}
 use Rattle.tree_pool.proofs.look.Tie as tie
 
@@ -19,7 +19,7 @@ returns : tie.Need-returns
 returns c =
     let f = c .before in
     let s = f .before .before .before .before in
-    let p = poolOf (s .args .head) (now (s .args .arena)) (now (s .args .table)) in
+    let p = treePool (s .args .head) (now (s .args .arena)) (now (s .args .table)) in
     look-holds treeEngine p (s .args .named) (s .args .arena) (s .args .placeholder) (now (s .args .placeholder))
     (f .find .result) (f .find .ensures) (c .if1 .taken)
 
@@ -45,7 +45,7 @@ part-result-end : tie.Need-part-result-end
 part-result-end c =
     let f = c .before .before .before in
     let s = f .before .before .before .before in
-    let p = poolOf (s .args .head) (now (s .args .arena)) (now (s .args .table)) in
+    let p = treePool (s .args .head) (now (s .args .arena)) (now (s .args .table)) in
     found-inside treeEngine tree-laws p (s .args .named)
     (ap (λ (x : Answer). x .number) (sym (f .find .ensures)) ∙ c .before .before .if1 .left)
 
@@ -54,7 +54,7 @@ returns-2 c =
     let i = c .before .before .before in
     let f = i .before in
     let s = f .before .before .before .before in
-    let p = poolOf (s .args .head) (now (s .args .arena)) (now (s .args .table)) in
+    let p = treePool (s .args .head) (now (s .args .arena)) (now (s .args .table)) in
     rw (add-sub-cancel-left (s .args .named .address) (s .args .named .words))
     (look-found treeEngine p (s .args .named) (s .args .arena) (s .args .placeholder) (now (s .args .placeholder))
     (f .find .result) (f .find .ensures) (i .if1 .left))

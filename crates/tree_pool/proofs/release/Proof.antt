@@ -6,9 +6,10 @@ use mathlib.Core.List.{[]}
 use Rattle.calls.specs.Step.{release, give}
 use Rattle.calls.specs.Engines.{treeEngine}
 use Rattle.calls.proofs.GateLaws.{gate-opens}
-use Rattle.tree_pool.specs.Promises.{poolOf, handed}
+use Rattle.tree_check.specs.Gate.{treePool}
+use Rattle.tree_cores.specs.Outcomes.{handed}
 use Rattle.call_parts.proofs.ResultLaws.{gate-result, single-result}
-use Rattle.tree_pool.specs.declared.Outcome.{Outcome}
+use Rattle.tree_cores.specs.declared.Outcome.{Outcome}
 use Rattle.tree_pool.proofs.release.Statement.{statement}
 use Rattle.tree_pool.proofs.release.Tie as tie
 
@@ -31,14 +32,14 @@ returns c =
     let a = now (s .args .arena) in
     let t = now (s .args .table) in
     ap (λ (o : Outcome). handed o a t []) (c .refused-with .ensures)
-    ∙ gate-result treeEngine (poolOf (s .args .head) a t) (g .gate-number .result) (g .gate-number .ensures)
+    ∙ gate-result treeEngine (treePool (s .args .head) a t) (g .gate-number .result) (g .gate-number .ensures)
     (c .before .if1 .taken) (release (s .args .named)) refl refl
 
 vacate-requires : tie.Need-vacate-requires
 vacate-requires c κs =
     let g = c .before .before .before in
     let s = g .before .before .before .before .before in
-    gate-opens treeEngine (poolOf (s .args .head) (now (s .args .arena)) (now (s .args .table)))
+    gate-opens treeEngine (treePool (s .args .head) (now (s .args .arena)) (now (s .args .table)))
     (g .gate-number .result)
     (g .gate-number .ensures) (c .before .before .if1 .left)
 
@@ -58,7 +59,7 @@ returns-2 c =
     let s = g .before .before .before .before .before in
     let b = q .vacate .last .1 .0 in
     let u = q .vacate .last .1 .1 .0 in
-    let p = poolOf (s .args .head) (now (s .args .arena)) (now (s .args .table)) in
+    let p = treePool (s .args .head) (now (s .args .arena)) (now (s .args .table)) in
     let ok = gate-opens treeEngine p (g .gate-number .result) (g .gate-number .ensures)
     (q .before .before .before .if1 .left) in
     ap (λ (o : Outcome). handed o b u []) (c .outcome-of-release .ensures) ∙ q .vacate .ensures

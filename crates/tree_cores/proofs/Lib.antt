@@ -1,0 +1,6 @@
+-- The laws behind the tree pool's cores.
+pub mod StoredLaws
+pub mod SoundLaws
+pub mod RefusedLaws
+pub mod GrantLaws
+pub mod ReleaseLaws

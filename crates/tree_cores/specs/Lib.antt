@@ -1,0 +1,3 @@
+-- What the tree pool's cores hand back and leave.
+pub mod Outcomes
+pub mod Granting

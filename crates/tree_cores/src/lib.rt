@@ -1,0 +1,257 @@
+// The tree pool's cores: what a request does on a sound pool, and the outcome that it comes to. Whoever keeps a pool of
+// its own sound may use them; the calls of tree_pool check first.
+use call_parts::Named;
+use call_parts::Request;
+use calls::Answer;
+use ledger::Row;
+use ledger::Rule;
+use record_table::Found as Slot;
+use tree_check::Head;
+ghost use mathlib.Core.Path.{_≡_};
+ghost use mathlib.Core.List.{[]};
+ghost use Prim.Native.Nat.{_+_, _*_, _%_, _<_, _≤_};
+ghost use lib.ListN.{length};
+ghost use mathlib.Core.Bool.{true};
+ghost use Rattle.calls.specs.Pool.{sound};
+ghost use Rattle.calls.specs.Step.{ask, give, answerTo, poolAfter};
+ghost use Rattle.calls.specs.Engines.{treeEngine};
+ghost use Rattle.call_parts.specs.Parts.{namedIn, actOf, requestAt, withAnswer};
+ghost use Rattle.call_parts.specs.Results.{acted, ran};
+ghost use Rattle.tree_check.specs.Gate.{treePool};
+ghost use Rattle.tree_cores.specs.Granting.{Grantable};
+ghost use Rattle.tree_cores.specs.Outcomes.{handed, refusedWith, grantOutcome, releaseOutcome};
+
+// A unit of the tree pool is one cell of two words.
+const CELLS: Rule = Rule { unit: 2, lead: 0 };
+
+// A head with the answer: what a call hands back.
+pub struct Outcome {
+    pub head: Head,
+    pub answer: Answer,
+}
+
+// What a request on a sound pool has come to, as far as its caller does not know it: number, root link, and the
+// address of the block that was granted. It is small, because a struct comes back through memory: an outcome that is
+// read there at once costs a wait.
+pub struct Effect {
+    pub number: u32,
+    pub root: u32,
+    pub address: u32,
+}
+
+// A refusal: the head as it came.
+pub fn refused_with(head: Head, number: u32) -> Outcome
+    ensures { λ r. ⌜ r ≡ refusedWith head number ⌝ }
+{
+    Outcome {
+        head,
+        answer: call_parts::refused(number),
+    }
+}
+
+// ---- allocate
+
+// The effect of a request that is refused: none.
+fn no_effect(number: u32) -> Effect
+    ensures { λ r. ⌜ r .number ≡ number ⌝ }
+{
+    Effect {
+        number,
+        root: 0,
+        address: 0,
+    }
+}
+
+// Takes the first cells of the block that was found, under the next ticket. The block's father was found with it.
+fn place(
+    head: Head,
+    arena: &mut [u32],
+    table: &mut [u32],
+    words: u32,
+    slot: usize,
+    block: usize,
+    father: usize,
+) -> Effect
+    requires { ⌜ Grantable head (now arena) (now table) words slot block father ⌝ }
+    ensures { λ r. ⌜ handed (grantOutcome head words r) (now (arena .exit)) (now (table .exit)) []
+        ≡ acted treeEngine (ask words) (treePool head (now (arena .entry)) (now (table .entry))) ⌝ }
+{
+    let cells = record_table::span_of(CELLS, words);
+    let root = free_blocks::take_cells(arena, head.root as usize, block, father, cells);
+    let address = (2 * (block - 1)) as u32;
+    let new = Row {
+        ticket: head.next,
+        address,
+        words,
+    };
+    record_table::write_row(table, slot, new);
+    Effect {
+        number: 0,
+        root: root as u32,
+        address,
+    }
+}
+
+// An allocation on a sound pool: the tests in the order of their numbers, then the leftmost fit.
+pub fn grant(head: Head, arena: &mut [u32], table: &mut [u32], words: u32) -> Effect
+    requires { ⌜ sound treeEngine (treePool head (now arena) (now table)) ≡ true ⌝ }
+    ensures { λ r. ⌜ handed (grantOutcome head words r) (now (arena .exit)) (now (table .exit)) []
+        ≡ acted treeEngine (ask words) (treePool head (now (arena .entry)) (now (table .entry))) ⌝ }
+{
+    if (words == 0) | (16384 < words) {
+        return no_effect(2);
+    }
+    let Slot::At(slot) = record_table::empty_slot(table) else {
+        return no_effect(3);
+    };
+    let next = head.next;
+    if next == 0 {
+        return no_effect(4);
+    }
+    let cells = record_table::span_of(CELLS, words);
+    let found = free_tree::leftmost_fit(arena, head.root as usize, cells as u32);
+    let block = found.at;
+    let father = found.over;
+    if block == 0 {
+        return no_effect(5);
+    }
+    place(head, arena, table, words, slot, block, father)
+}
+
+// The outcome of an allocation with this effect.
+pub fn outcome_of_grant(head: Head, words: u32, done: Effect) -> Outcome
+    ensures { λ r. ⌜ r ≡ grantOutcome head words done ⌝ }
+{
+    let number = done.number;
+    if number != 0 {
+        return refused_with(head, number);
+    }
+    let new = Row {
+        ticket: head.next,
+        address: done.address,
+        words,
+    };
+    Outcome {
+        head: Head {
+            root: done.root,
+            next: call_parts::next_after(head.next),
+        },
+        answer: call_parts::succeeded(new),
+    }
+}
+
+// ---- release
+
+// Gives back the cells of the named record, which stands in the slot, and empties the slot.
+fn give_back(head: Head, arena: &mut [u32], table: &mut [u32], named: Row, slot: usize) -> Effect
+    requires { ⌜ (sound treeEngine (treePool head (now arena) (now table))
+        ≡ true) × (namedIn (now table) named ≡ Named.Slot slot) ⌝ }
+    ensures { λ r. ⌜ handed (releaseOutcome head named r) (now (arena .exit)) (now (table .exit)) []
+        ≡ acted treeEngine (give named) (treePool head (now (arena .entry)) (now (table .entry))) ⌝ }
+{
+    let lo = record_table::first_unit(CELLS, named);
+    let hi = record_table::past_unit(CELLS, named);
+    let root = free_blocks::give_cells(arena, head.root as usize, lo, hi);
+    record_table::write_row(table, slot, call_parts::EMPTY_ROW);
+    Effect {
+        number: 0,
+        root: root as u32,
+        address: 0,
+    }
+}
+
+// A release on a sound pool.
+pub fn vacate(head: Head, arena: &mut [u32], table: &mut [u32], named: Row) -> Effect
+    requires { ⌜ sound treeEngine (treePool head (now arena) (now table)) ≡ true ⌝ }
+    ensures { λ r. ⌜ handed (releaseOutcome head named r) (now (arena .exit)) (now (table .exit)) []
+        ≡ acted treeEngine (give named) (treePool head (now (arena .entry)) (now (table .entry))) ⌝ }
+{
+    match call_parts::named_slot(table, named) {
+        Named::Refused(number) => no_effect(number),
+        Named::Slot(slot) => give_back(head, arena, table, named, slot),
+    }
+}
+
+// The outcome of a release with this effect.
+pub fn outcome_of_release(head: Head, named: Row, done: Effect) -> Outcome
+    ensures { λ r. ⌜ r ≡ releaseOutcome head named done ⌝ }
+{
+    let number = done.number;
+    if number != 0 {
+        return refused_with(head, number);
+    }
+    Outcome {
+        head: Head {
+            root: done.root,
+            next: head.next,
+        },
+        answer: call_parts::succeeded(named),
+    }
+}
+
+// ---- requests
+
+// One request on a sound pool.
+pub fn serve(head: Head, arena: &mut [u32], table: &mut [u32], request: Request) -> Outcome
+    requires { ⌜ sound treeEngine (treePool head (now arena) (now table)) ≡ true ⌝ }
+    ensures { λ r. ⌜ handed r (now (arena .exit)) (now (table .exit)) []
+        ≡ acted treeEngine (actOf request) (treePool head (now (arena .entry)) (now (table .entry))) ⌝ }
+{
+    match request {
+        Request::Ask(words) => {
+            let done = grant(head, arena, table, words);
+            outcome_of_grant(head, words, done)
+        }
+        Request::Give(named) => {
+            let done = vacate(head, arena, table, named);
+            outcome_of_release(head, named, done)
+        }
+        Request::Bad => refused_with(head, 9),
+    }
+}
+
+// Request i, with its answer written: the head after it.
+fn serve_at(
+    head: Head,
+    arena: &mut [u32],
+    table: &mut [u32],
+    asked: &[u32],
+    answers: &mut [u32],
+    i: usize,
+) -> Head
+    requires { ⌜ sound treeEngine (treePool head (now arena) (now table)) ≡ true ⌝ }
+    requires { ⌜ (4 * i + 3 < length (now asked)) × (4 * i + 3 < length (now answers)) ⌝ }
+    ensures { λ r. ⌜ treePool r (now (arena .exit)) (now (table .exit))
+        ≡ poolAfter treeEngine (treePool head (now (arena .entry)) (now (table .entry)))
+        (requestAt (now (asked .entry)) i) ⌝ }
+    ensures { λ _. ⌜ now (answers .exit)
+        ≡ withAnswer (now (answers .entry)) i (answerTo treeEngine (treePool head
+        (now (arena .entry)) (now (table .entry))) (requestAt (now (asked .entry)) i)) ⌝ }
+{
+    let request = call_parts::request_at(asked, i);
+    let done = serve(head, arena, table, request);
+    call_parts::put_answer(answers, i, done.answer);
+    done.head
+}
+
+// All requests on a sound pool, one after another: the head after them.
+pub fn serve_all(
+    head: Head,
+    arena: &mut [u32],
+    table: &mut [u32],
+    asked: &[u32],
+    answers: &mut [u32],
+) -> Head
+    requires { ⌜ sound treeEngine (treePool head (now arena) (now table)) ≡ true ⌝ }
+    requires { ⌜ (length (now asked) % 4 ≡ 0) × (length (now asked) ≤ length (now answers)) ⌝ }
+    ensures { λ r. ⌜ (treePool r (now (arena .exit)) (now (table .exit)), now (answers .exit))
+        ≡ ran treeEngine (now (asked .entry)) (now (answers .entry)) (treePool head (now (arena .entry)) (now (table .entry))) ⌝ }
+{
+    let mut after = head;
+    let mut i = 0;
+    while i < asked.len() / 4 {
+        after = serve_at(after, arena, table, asked, answers, i);
+        i += 1;
+    }
+    after
+}

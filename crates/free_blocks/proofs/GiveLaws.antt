@@ -27,6 +27,7 @@ use Rattle.stored_forms.proofs.NodeLaws.{readable-one, in-range, covered-in, in
 use Rattle.stored_forms.proofs.NodeLaws.{nodeWord-zero, holds-stored, stored-holds}
 use Rattle.tree_nodes.specs.Nodes.{links, cells, NodeCleared}
 use Rattle.free_tree.specs.Shapes.{putRun, dropRun, endsAt, beginsAt, linkTo}
+use Rattle.free_tree.specs.Links.{linkOf}
 use Rattle.free_tree.specs.Held.{At, Became, NoNode, NoNodeNor, Apart, Room, Inserted, Deleted, Clear, TouchFound}
 use Rattle.free_tree.proofs.RunOrder.{beginsElsewhere}
 use Rattle.free_tree.proofs.ChangeLaws.{insert-tree, delete-tree}
@@ -617,13 +618,14 @@ module _ {m m₁ : Words} {root lo hi : ℕ} {rs : List Run} (wipe : m₁ ≡ wi
             added (cells formOne m) lo (hi - lo) rs (putRun sum rest₂) (g .lies .gapped) put-gapped (omega arith)
             (omega arith) (λ u h l. g .held u h (omega arith)) put-covered
 
-        module _ {m′ : Words} {k : ℕ} (put : Inserted formOne links m₃ m′ root₂ sum k) where
+        module _ {m′ : Words} {k : ℕ} (i : ℕ) (put : Inserted formOne links m₃ m′ root₂ sum i)
+            (link : k ≡ linkOf i) where
           made : Became formOne links m₃ m′ (NoNodeNor (treeOf rest₂) x) k (treeOf (addRun lo (hi - lo) rs))
           made =
               let lies = out₂ .change .lies in
               let other = cell-no-node lies x (clear₃ x (omega arith) (sum-fits .0)) in
-              rw (sum-put, ← insert-tree sum rest₂ 0 (cells formOne m₃) (lies .tree .within) other)
-              (put (treeOf rest₂) room)
+              rw (link, sum-put, ← insert-tree sum rest₂ 0 (cells formOne m₃) (lies .tree .within) other)
+              (put (treeOf rest₂) room .0)
 
           pub give : Changed m m′ rs (addRun lo (hi - lo) rs) k
           unfolding formOne

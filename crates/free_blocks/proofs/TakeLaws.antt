@@ -347,7 +347,7 @@ module _ {m : Words} {root : ℕ} (xs : List Run) (r : Run) (ys : List Run) (lie
     }
       where
         made : Became formOne links m m₁ (NoNodeNor (treeOf old) (r .start + k)) q (shrink (r .start) k (treeOf old))
-        made = shr (treeOf old) (r .size) (record { tree = lies .tree; found = found; more = part })
+        made = shr (treeOf old) (r .size) (record { tree = lies .tree; found = found; part = one; more = part })
 
         tree : At formOne links m₁ q (treeOf new)
         tree = subst (At formOne links m₁ q) shrunk (made .tree)
@@ -400,7 +400,7 @@ module _ {m : Words} {root block over k n : ℕ} (len : n ≡ lengthAt formOne m
       let (e, f) = at-block xs r ys p in (
         treeOf (xs ++ r ∷ ys),
         r .size,
-        rw e (record { tree = p .lies .tree; found = found xs r ys (p .lies); more = omega arith }),
+        rw e (record { tree = p .lies .tree; found = found xs r ys (p .lies); part = p .some; more = omega arith }),
       )
 
   pub take-part : {m₁ m₂ : Words} {q : ℕ} → k < n → Shrunk formOne links m m₁ root (block - 1) k q

@@ -93,5 +93,5 @@ pub fn give_cells(arena: &mut [u32], root: usize, lo: usize, hi: usize) -> usize
     let above = merge_above(arena, others, upper, hi);
     let end = above.cell;
     let rest = above.root;
-    free_tree::insert(arena, rest, first, (end - first) as u32)
+    free_tree::link_of(free_tree::insert(arena, rest, first, (end - first) as u32))
 }

@@ -1,27 +1,30 @@
 -- Insertion and deletion in an arena, over the form: one law for each way through them. Assumes of a form that its
 -- nodes are readable.
-use Prim.Native.Nat.{ℕ, suc, _+_, _-_, _≤_, _<_}
+use Prim.Native.Nat.{ℕ, suc, _+_, _-_, _*_, _≤_, _<_}
+use native.Mathlib.Nat.{le-trans, lt-of-lt-of-le, mul-le-mul-left}
 use native.Mathlib.Omega.{arith}
 use native.Mathlib.Numerals.{add-one}
-use mathlib.Core.Path.{_≡_, sym, _∙_, subst}
+use mathlib.Core.Path.{_≡_, refl, sym, ap₂, _∙_, subst}
 use mathlib.Core.Logic.{_≢_}
 use mathlib.Core.Bool.{false}
-use lib.ListN.{length}
 use Rattle.words.specs.Lists.{Words}
 use Rattle.words.proofs.Tests.{eqb-eq, eqb-false, of-lt, of-ge}
 use Rattle.ledger.specs.Runs.{Run, run}
-use Rattle.stored_forms.specs.Tree.{Tree, leaf, node, Form, leftAt, rightAt}
-use Rattle.stored_forms.specs.Blocks.{NotFirst}
-use Rattle.stored_forms.proofs.NodeLaws.{Readable}
-use Rattle.tree_nodes.specs.Nodes.{cells, NodePut}
-use Rattle.free_tree.specs.Shapes.{below, above, standsAbove, insert, delete, Stops, beginsAt}
+use Rattle.stored_forms.specs.Tree.{Tree, leaf, node, Form, leftAt, rightAt, link}
+use Rattle.stored_forms.specs.Blocks.{NotFirst, Zeros}
+use Rattle.stored_forms.proofs.NodeLaws.{Readable, within-le}
+use Rattle.tree_nodes.specs.Nodes.{cells, differ, NodePut}
+use Rattle.tree_nodes.proofs.LinkLaws.{other-link, both-few}
+use Rattle.free_tree.specs.Shapes.{below, above, standsAbove, splitTop, insert, delete, Stops, beginsAt}
+use Rattle.free_tree.specs.Links.{linksChanged}
 use Rattle.free_tree.specs.Held.{At, Became, NoNode, NoNodeNor, Beside, BothJoined, Parted, Parts, Apart, Room}
-use Rattle.free_tree.specs.Held.{Deleted, Placed, Seat}
+use Rattle.free_tree.specs.Held.{PutOver, Deleted, Between, Placed, Seat}
 use Rattle.free_tree.proofs.RunOrder.{wider}
 use Rattle.free_tree.proofs.PartLaws.{below-apart, above-apart}
+use Rattle.free_tree.proofs.LinkLaws.{parts-few, link-other, top-changed}
 use Rattle.free_tree.proofs.ChangeLaws.{within-insert, within-delete}
 use Rattle.free_tree.proofs.CellLaws.{no-node-below, no-node-above, same-zeros, same-tree}
-use Rattle.free_tree.proofs.StepLaws.{rooted, at-none, at-left, at-right, unchanged}
+use Rattle.free_tree.proofs.StepLaws.{rooted, at-none, at-small, at-left, at-right, at-nodes, unchanged}
 use Rattle.free_tree.proofs.PlaceSteps.{Local}
 
 -- no cell of a run that a tree does not overlap is a node of it
@@ -37,39 +40,73 @@ apart-no-node r (node a q b) c o x y = (
 pub beyond : (x : ℕ) (q : Run) → beginsAt x q ≡ false → q .start ≤ x → q .start < x
 beyond x q e h = let other = eqb-false (q .start) x e in omega arith
 
+-- where the run is to stand
+insert-top : (r : Run) (t : Tree) → Stops (standsAbove r) t → insert r t ≡ splitTop r t
+insert-top r leaf e = refl
+insert-top r (node a q b) e = rw e
+
 module _ {F : Form} {bound : ℕ} (readable : Readable F bound) where
   -- ---- insertion
 
-  -- the run's node is put where the tree was, which is split into its sons
-  put-top : {m m₁ m′ : Words} {l x n lo hi : ℕ} {t : Tree} → Room F bound m l (run x n) t
-      → Parted F bound m m₁ x t lo hi
-      → NodePut F m₁ m′ x n lo hi → Became F bound m m′ (NoNodeNor t x) (x + 1) (node (below x t) (run x n) (above x t))
-  put-top {m} {m₁} {m′} {l} {x} {n} {lo} {hi} {t} p j put =
-      let long : length m′ ≡ length m = put .long ∙ j .low .long in
-      let low = below-apart (run x n) t 0 (cells F m) (p .apart) (p .tree .within) (omega arith) in
-      let high = above-apart (run x n) t 0 (cells F m) (p .apart) (p .tree .within) (p .inside) in
-      let at-low = j .low .tree .at in
-      let at-high = j .high .tree .at in
+  -- the words of a run beyond its first cell
+  after-first : (m : Words) (x e : ℕ) → Zeros m (F .cell * x) e → Zeros m (F .cell * suc x) e
+  after-first m x e z k a b =
+      let next : x ≤ suc x = omega arith in z k (le-trans (mul-le-mul-left (F .cell) next) a) b
+
+  -- what a run between two trees asks of its node
+  pub between-ready : {m : Words} {a b : ℕ} {r : Run} {ta tb : Tree} → Between F bound m a b r ta tb
+      → (r .start < cells F m) × (((a < bound) × (b < bound)) × Zeros m (F .cell * r .start) (F .cell * suc (r .start)))
+  between-ready {m} {r = r} {tb = tb} p =
+      let some = p .filled in
+      let high = within-le tb (r .start + r .size) (cells F m) (p .over) in
+      let next : suc (r .start) ≤ r .start + r .size = omega arith in (
+        omega arith,
+        (
+          (at-small readable (p .left), at-small readable (p .right)),
+          λ k a b. p .zeros k a (lt-of-lt-of-le b (mul-le-mul-left (F .cell) next)),
+        ),
+      )
+
+  -- the run's node is put above the two
+  pub put-between : {m m′ : Words} {a b x n : ℕ} {ta tb : Tree} → Between F bound m a b (run x n) ta tb
+      → NodePut F m m′ x n a b → Became F bound m m′ (λ d. d ≢ x) (x + 1) (node ta (run x n) tb)
+  put-between {m} {m′} {a} {b} {x} {n} {ta} {tb} p put =
+      let long = put .long in
+      let at-low = p .left .at in
+      let at-high = p .right .at in
       let some = p .filled in
       record {
         tree = record {
           at = sym (add-one x);
           holds = (
             put .node ∙ cc,
-            same-zeros readable m m′ (suc x) (x + n)
-                (λ d u v k e. put .frame d (λ z. omega arith) k e ∙ j .low .frame d
-                (apart-no-node (run x n) t d (p .apart) (omega arith) v) k e) (p .zeros),
-            same-tree readable m₁ m′ (below x t) 0 x low (put .long) (λ d u v. put .frame d (λ z. omega arith))
-                (j .low .tree .holds),
-            same-tree readable m₁ m′ (above x t) (x + n) (cells F m) high (put .long)
-                (λ d u v. put .frame d (λ z. omega arith))
-                (j .high .tree .holds),
+            same-zeros readable m m′ (suc x) (x + n) (λ d u v. put .frame d (λ z. omega arith))
+                (after-first m x (F .cell * (x + n)) (p .zeros)),
+            same-tree readable m m′ ta 0 x (p .under) long (λ d u v. put .frame d (λ z. omega arith))
+                (p .left .holds),
+            same-tree readable m m′ tb (x + n) (cells F m) (p .over) long (λ d u v. put .frame d (λ z. omega arith))
+                (p .right .holds),
           );
-          within = rw long (low, some, high);
-          small = rw long (p .tree .small);
+          within = rw long (p .under, some, p .over);
+          small = rw long (p .left .small);
         };
-        frame = λ d o k e. put .frame d (o .1) k e ∙ j .low .frame d (o .0) k e;
+        frame = put .frame;
         long = long;
+      }
+
+  -- a tree that was split, and the run between its parts
+  parted-between : {m m₁ : Words} {l x n lo hi k : ℕ} {t : Tree} → Room F bound m l (run x n) t
+      → Parted F bound m m₁ x t lo hi k → Between F bound m₁ lo hi (run x n) (below x t) (above x t)
+  parted-between {m} {m₁} {x = x} {n = n} {t = t} p j =
+      record {
+        left = j .low .tree;
+        right = j .high .tree;
+        under = below-apart (run x n) t 0 (cells F m) (p .apart) (p .tree .within) (omega arith);
+        over = rw (j .low .long)
+            (above-apart (run x n) t 0 (cells F m) (p .apart) (p .tree .within) (p .inside));
+        filled = p .filled;
+        zeros = same-zeros readable m m₁ x (x + n)
+            (λ d u v. j .low .frame d (apart-no-node (run x n) t d (p .apart) u v)) (p .zeros);
       }
 
   room-left : {m : Words} {l c k s : ℕ} {r : Run} {a b : Tree} → s ≡ leftAt F m c
@@ -94,24 +131,52 @@ module _ {F : Form} {bound : ℕ} (readable : Readable F bound) where
     zeros = p .zeros;
   }
 
-  -- the new node lies in the arena, and so does the link to it
-  pub room-in : {m : Words} {l : ℕ} {r : Run} → ((t : Tree) × Room F bound m l r t)
-      → (r .start < cells F m) × (r .start + 1 < bound)
-  room-in (t, p) =
-      let some = p .filled in
-      let inside = p .inside in
-      let small = p .tree .small in
-      (omega arith, omega arith)
+  room-no-node : {m : Words} {l : ℕ} {r : Run} {t : Tree} → Room F bound m l r t → NotFirst (r .start) t
+  room-no-node {r = r} {t = t} p =
+      apart-no-node r t (r .start) (p .apart) (omega arith) (omega (arith, p .filled))
 
   pub room-tree : {m : Words} {l : ℕ} {r : Run} → ((t : Tree) × Room F bound m l r t) → (t : Tree) × At F bound m l t
   room-tree (t, p) = (t, p .tree)
 
-  -- the subtree is where the run is to stand
-  pub insert-here : {m m₁ m′ : Words} {l x n lo hi : ℕ} → Parts F bound m m₁ l x lo hi → NodePut F m₁ m′ x n lo hi
-      → (t : Tree) → Stops (standsAbove (run x n)) t → Room F bound m l (run x n) t
-      → Became F bound m m′ (NoNodeNor t x) (x + 1) (insert (run x n) t)
-  insert-here post put leaf e p = put-top p (post leaf (p .tree)) put
-  insert-here post put (node a q b) e p = rw e (put-top p (post (node a q b) (p .tree)) put)
+  -- the tree at the link l is split, and its parts are the sons of the run's node
+  module _ {m m₁ : Words} {l x n lo hi i : ℕ} (post : Parts F bound m m₁ l x lo hi i) where
+    pub parts-ready : {a b : ℕ} → a ≡ lo → b ≡ hi → ((t : Tree) × Room F bound m l (run x n) t)
+        → (x < cells F m₁) × (((a < bound) × (b < bound)) × Zeros m₁ (F .cell * x) (F .cell * suc x))
+    parts-ready e f (t, p) = rw (e, f) (between-ready (parted-between p (post t (p .tree))))
+
+    pub put-over : {m′ : Words} {j k : ℕ} → NodePut F m₁ m′ x n lo hi × (j ≡ differ 0 lo + differ 0 hi) → k ≡ i + j
+        → PutOver F bound m m′ l (run x n) k
+    put-over {m′} (put, f) e t p =
+        let w = post t (p .tree) in
+        let made = put-between (parted-between p w) put in
+        let sons = f ∙ ap₂ (λ a b. differ 0 a + differ 0 b) (sym (w .low .tree .at)) (sym (w .high .tree .at)) in
+        let count = top-changed (run x n) t (room-no-node p) in (
+          record {
+            tree = made .tree;
+            frame = λ d o k e. made .frame d (o .1) k e ∙ w .low .frame d (o .0) k e;
+            long = made .long ∙ w .low .long;
+          },
+          omega (arith, w .count),
+        )
+
+  module _ {m m′ : Words} {l x n k : ℕ} (post : PutOver F bound m m′ l (run x n) k) where
+    pub put-few : ((t : Tree) × Room F bound m l (run x n) t) → k < bound + 2
+    put-few (t, p) =
+        let count = top-changed (run x n) t (room-no-node p) in
+        let few = parts-few x t 0 (cells F m) (p .tree .within) in
+        let sons = both-few (link (below x t)) (link (above x t)) in
+        omega (arith, post t p .1, at-nodes readable (p .tree))
+
+    -- the subtree is where the run is to stand
+    pub insert-here : (t : Tree) → Stops (standsAbove (run x n)) t → Room F bound m l (run x n) t
+        → Became F bound m m′ (NoNodeNor t x) (x + 1) (insert (run x n) t)
+    insert-here t e p = rw (insert-top (run x n) t e) (post t p .0)
+
+    pub insert-count : {i : ℕ} → i ≡ k + 1 → (t : Tree) → Stops (standsAbove (run x n)) t
+        → Room F bound m l (run x n) t → i ≡ linksChanged t (insert (run x n) t)
+    insert-count f t e p =
+        let root = other-link (link-other x t (room-no-node p)) in
+        rw (insert-top (run x n) t e) (omega (arith, post t p .1))
 
   -- and above it the insertion goes down to a son
   pub inserts : {m : Words} (r : Run)

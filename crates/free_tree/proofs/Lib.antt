@@ -2,6 +2,7 @@
 pub mod RunOrder
 pub mod JoinLaws
 pub mod PartLaws
+pub mod LinkLaws
 pub mod ChangeLaws
 pub mod CellLaws
 pub mod StepLaws

@@ -1,85 +1,148 @@
 -- The split by address in an arena, over the form: one law for each way through it. Assumes of a form that its nodes
 -- are readable.
-use Prim.Native.Nat.{ℕ, _+_, _-_, _/_, _%_, _≤_, _<_}
+use Prim.Native.Nat.{ℕ, _+_, _-_, _≤_, _<_}
 use native.Mathlib.Omega.{arith}
-use mathlib.Core.Path.{_≡_, refl, sym, subst}
+use mathlib.Core.Path.{_≡_, refl, sym, ap₂, _∙_, subst}
 use mathlib.Core.Logic.{_≢_}
 use Rattle.words.specs.Lists.{Words}
 use Rattle.words.proofs.Tests.{of-lt, of-ge}
 use Rattle.ledger.specs.Runs.{run}
-use Rattle.stored_forms.specs.Tree.{leaf, node, Form, leftAt, rightAt}
+use Rattle.stored_forms.specs.Tree.{Tree, leaf, node, Form, leftAt, rightAt}
 use Rattle.stored_forms.proofs.NodeLaws.{Readable}
-use Rattle.tree_nodes.specs.Nodes.{cells, LeftSet, RightSet}
-use Rattle.free_tree.specs.Held.{Became, NoNode, Parted, Parts}
+use Rattle.tree_nodes.specs.Nodes.{cells, differ, LeftSet, RightSet}
+use Rattle.tree_nodes.proofs.LinkLaws.{same-link, other-link}
+use Rattle.free_tree.specs.Links.{linkOf, countOf}
+use Rattle.free_tree.specs.Held.{At, Became, NoNode, Parted, Parts}
 use Rattle.free_tree.proofs.PartLaws.{within-below, within-above}
+use Rattle.free_tree.proofs.LinkLaws.{parts-of-left, parts-of-right, parts-few, below-link, above-link}
 use Rattle.free_tree.proofs.CellLaws.{no-node-below, no-node-above}
-use Rattle.free_tree.proofs.StepLaws.{rooted, at-none, at-left, at-right, unchanged, still, left-replaced}
-use Rattle.free_tree.proofs.StepLaws.{right-replaced, left-kept, right-kept}
+use Rattle.free_tree.proofs.StepLaws.{rooted, at-none, at-small, at-left, at-right, at-nodes, unchanged}
+use Rattle.free_tree.proofs.StepLaws.{still, left-replaced, right-replaced, left-kept, right-kept}
 
 module _ {F : Form} {bound : ℕ} (readable : Readable F bound) where
-  pub parts-none : {m : Words} {l : ℕ} (x : ℕ) → l ≡ 0 → Parts F bound m m l x 0 0
-  parts-none {m} x z t p = at-none (λ t. Parted F bound m m x t 0 0) z (record { low = none; high = none }) t p
+  pub parts-none : {m : Words} {l : ℕ} (x : ℕ) → l ≡ 0 → Parts F bound m m l x 0 0 0
+  parts-none {m} x z t p =
+      at-none (λ t. Parted F bound m m x t 0 0 0) z (record { low = none; high = none; count = refl }) t p
     where
       none : {off : ℕ → Type 0} → Became F bound m m off 0 leaf
       none = unchanged readable (record { at = refl; holds = tt; within = omega arith; small = p .small })
 
-  -- the links to both parts in one number
-  pub parts-both : {m m′ : Words} {l x lo hi : ℕ} (both : ℕ) → (both % bound ≡ lo) × (both / bound ≡ hi)
-      → Parts F bound m m′ l x lo hi → Parts F bound m m′ l x (both % bound) (both / bound)
-  parts-both {m} {m′} {l} {x} {lo} both (e, f) p =
-      subst (λ i. Parts F bound m m′ l x i (both / bound)) (sym e) (subst (Parts F bound m m′ l x lo) (sym f) p)
+  -- the link to one part and the count, read off one number
+  module _ {m m′ : Words} {l x lo hi n : ℕ} (k : ℕ) where
+    pub lower-read : (linkOf k ≡ lo) × (countOf k ≡ n) → Parts F bound m m′ l x lo hi n
+        → Parts F bound m m′ l x (linkOf k) hi (countOf k)
+    lower-read (e, f) p = rw (e, f) p
 
-  module _ {m m₁ m′ : Words} {l x s lo hi : ℕ} (z : l ≢ 0) (post : Parts F bound m m₁ s x lo hi) where
-    pub parts-right : s ≡ rightAt F m (l - 1) → l - 1 < x → RightSet F m₁ m′ (l - 1) lo → Parts F bound m m′ l x l hi
-    parts-right e h put =
-        rooted (λ t. Parted F bound m m′ x t l hi) z
-        (λ a n b p.
-        let c = l - 1 in
-        let some = p .within .1 in
-        let place = p .within .2 in
-        let j = post b (at-right readable p e) in
-        let out : (d : ℕ) → NoNode (node a (run c n) b) d → NoNode b d × (d ≢ c) = λ d o. (o .2, o .1) in
-        record {
-          low =
-              rw (of-lt c x h)
-              (right-replaced readable p (j .low) out put (within-below x b (c + n) (cells F m) place)
-              (λ d u. no-node-below b (c + n) (cells F m) d place u));
-          high =
-              rw (of-lt c x h)
-              (still readable (c + n) (cells F m) (j .high) (within-above x b (c + n) (cells F m) place) put
-              (λ d u v w. omega arith) out);
-        })
+    pub upper-read : (linkOf k ≡ hi) × (countOf k ≡ n) → Parts F bound m m′ l x lo hi n
+        → Parts F bound m m′ l x lo (linkOf k) (countOf k)
+    upper-read (e, f) p = rw (e, f) p
 
-    pub parts-left : s ≡ leftAt F m (l - 1) → x ≤ l - 1 → LeftSet F m₁ m′ (l - 1) hi → Parts F bound m m′ l x lo l
-    parts-left e h put =
-        rooted (λ t. Parted F bound m m′ x t lo l) z
-        (λ a n b p.
-        let c = l - 1 in
-        let place = p .within .0 in
-        let j = post a (at-left readable p e) in
-        let out : (d : ℕ) → NoNode (node a (run c n) b) d → NoNode a d × (d ≢ c) = λ d o. (o .0, o .1) in
-        record {
-          low =
-              rw (of-ge c x h)
-              (still readable 0 c (j .low) (within-below x a 0 c place) put (λ d u v w. omega arith) out);
-          high =
-              rw (of-ge c x h)
-              (left-replaced readable p (j .high) out put (within-above x a 0 c place)
-              (λ d u. no-node-above a 0 c d place u));
-        })
+  -- both parts' links are small, and so is the number of links stored
+  pub parts-small : {m m′ : Words} {l x lo hi n : ℕ} → Parts F bound m m′ l x lo hi n → ((t : Tree) × At F bound m l t)
+      → (lo < bound) × (hi < bound) × (n < bound)
+  parts-small {m} {x = x} post (t, p) =
+      let j = post t p in
+      let few = parts-few x t 0 (cells F m) (p .within) in (
+        at-small readable (j .low .tree),
+        at-small readable (j .high .tree),
+        omega (arith, few, at-nodes readable p, j .count),
+      )
 
-  -- there is nothing further down, and nothing is put
-  module _ {m : Words} {l x s : ℕ} (z : l ≢ 0) (e : s ≡ 0) where
-    pub parts-right-none : s ≡ rightAt F m (l - 1) → l - 1 < x → Parts F bound m m l x l 0
-    parts-right-none f h =
-        rooted (λ t. Parted F bound m m x t l 0) z
-        (λ a n b p.
-        let kept = right-kept readable p (unchanged readable {off = λ d. Unit {0}} (at-right readable p f)) tt f in
-        parts-right z (parts-none x e) f h (subst (RightSet F m m (l - 1)) e kept) (node a (run (l - 1) n) b) p)
+  module _ {m m₁ : Words} {l x s lo hi n : ℕ} (z : l ≢ 0) (post : Parts F bound m m₁ s x lo hi n) where
+    -- ---- down the right side: the root stays that of the lower part
 
-    pub parts-left-none : s ≡ leftAt F m (l - 1) → x ≤ l - 1 → Parts F bound m m l x 0 l
-    parts-left-none f h =
-        rooted (λ t. Parted F bound m m x t 0 l) z
-        (λ a n b p.
-        let kept = left-kept readable p (unchanged readable {off = λ d. Unit {0}} (at-left readable p f)) tt f in
-        parts-left z (parts-none x e) f h (subst (LeftSet F m m (l - 1)) e kept) (node a (run (l - 1) n) b) p)
+    module _ (e : s ≡ rightAt F m (l - 1)) (h : l - 1 < x) where
+      put-right : {m′ : Words} → RightSet F m₁ m′ (l - 1) lo → Parts F bound m m′ l x l hi (differ s lo + n)
+      put-right {m′} put =
+          rooted (λ t. Parted F bound m m′ x t l hi (differ s lo + n)) z
+          (λ a i b p.
+          let c = l - 1 in
+          let some = p .within .1 in
+          let place = p .within .2 in
+          let son = at-right readable p e in
+          let j = post b son in
+          let out : (d : ℕ) → NoNode (node a (run c i) b) d → NoNode b d × (d ≢ c) = λ d o. (o .2, o .1) in
+          record {
+            low =
+                rw (of-lt c x h)
+                (right-replaced readable p (j .low) out put (within-below x b (c + i) (cells F m) place)
+                (λ d u. no-node-below b (c + i) (cells F m) d place u));
+            high =
+                rw (of-lt c x h)
+                (still readable (c + i) (cells F m) (j .high) (within-above x b (c + i) (cells F m) place) put
+                (λ d u v w. omega arith) out);
+            count =
+                sym (parts-of-right a (run c i) b 0 (cells F m) (p .within) h
+                ∙ ap₂ (λ x y. x + y) (ap₂ differ (son .at) (j .low .tree .at)) (sym (j .count)));
+          })
+
+      -- the son's link stays
+      pub right-stays : lo ≡ s → Parts F bound m m₁ l x l hi n
+      right-stays f =
+          rooted (λ t. Parted F bound m m₁ x t l hi n) z
+          (λ a i b p.
+          let c = l - 1 in
+          let away = no-node-below b (c + i) (cells F m) c (p .within .2) (omega (arith, p .within .1)) in
+          let kept = right-kept readable p (post b (at-right readable p e) .low) away (f ∙ e) in
+          let same : differ s lo + n ≡ n = omega (arith, same-link (sym f)) in
+          subst (Parted F bound m m₁ x (node a (run c i) b) l hi) same (put-right kept (node a (run c i) b) p))
+
+      -- the son is the root of the upper part
+      pub right-turns : {m′ : Words} {k : ℕ} → s ≢ 0 → x ≤ s - 1 → RightSet F m₁ m′ (l - 1) lo → k ≡ n + 1
+          → Parts F bound m m′ l x l hi k
+      right-turns {m′} {k} y g put f =
+          rooted (λ t. Parted F bound m m′ x t l hi k) z
+          (λ a i b p.
+          let under = below-link x b in
+          let at = post b (at-right readable p e) .low .tree .at in
+          let other = other-link {x = s} {y = lo} (λ w. omega arith) in
+          let more : differ s lo + n ≡ k = omega arith in
+          subst (Parted F bound m m′ x (node a (run (l - 1) i) b) l hi) more
+          (put-right put (node a (run (l - 1) i) b) p))
+
+    -- ---- down the left side: the root stays that of the upper part
+
+    module _ (e : s ≡ leftAt F m (l - 1)) (h : x ≤ l - 1) where
+      put-left : {m′ : Words} → LeftSet F m₁ m′ (l - 1) hi → Parts F bound m m′ l x lo l (differ s hi + n)
+      put-left {m′} put =
+          rooted (λ t. Parted F bound m m′ x t lo l (differ s hi + n)) z
+          (λ a i b p.
+          let c = l - 1 in
+          let place = p .within .0 in
+          let son = at-left readable p e in
+          let j = post a son in
+          let out : (d : ℕ) → NoNode (node a (run c i) b) d → NoNode a d × (d ≢ c) = λ d o. (o .0, o .1) in
+          record {
+            low =
+                rw (of-ge c x h)
+                (still readable 0 c (j .low) (within-below x a 0 c place) put (λ d u v w. omega arith) out);
+            high =
+                rw (of-ge c x h)
+                (left-replaced readable p (j .high) out put (within-above x a 0 c place)
+                (λ d u. no-node-above a 0 c d place u));
+            count =
+                sym (parts-of-left a (run c i) b 0 (cells F m) (p .within) h
+                ∙ ap₂ (λ x y. x + y) (ap₂ differ (son .at) (j .high .tree .at)) (sym (j .count)));
+          })
+
+      pub left-stays : hi ≡ s → Parts F bound m m₁ l x lo l n
+      left-stays f =
+          rooted (λ t. Parted F bound m m₁ x t lo l n) z
+          (λ a i b p.
+          let c = l - 1 in
+          let away = no-node-above a 0 c c (p .within .0) (omega arith) in
+          let kept = left-kept readable p (post a (at-left readable p e) .high) away (f ∙ e) in
+          let same : differ s hi + n ≡ n = omega (arith, same-link (sym f)) in
+          subst (Parted F bound m m₁ x (node a (run c i) b) lo l) same (put-left kept (node a (run c i) b) p))
+
+      pub left-turns : {m′ : Words} {k : ℕ} → s ≢ 0 → s - 1 < x → LeftSet F m₁ m′ (l - 1) hi → k ≡ n + 1
+          → Parts F bound m m′ l x lo l k
+      left-turns {m′} {k} y g put f =
+          rooted (λ t. Parted F bound m m′ x t lo l k) z
+          (λ a i b p.
+          let at = post a (at-left readable p e) .high .tree .at in
+          let other =
+          other-link {x = s} {y = hi} (λ w. let over = above-link x a (λ v. omega arith) in omega arith) in
+          let more : differ s hi + n ≡ k = omega arith in
+          subst (Parted F bound m m′ x (node a (run (l - 1) i) b) lo l) more
+          (put-left put (node a (run (l - 1) i) b) p))

@@ -2,7 +2,7 @@
 -- carried up again. Assumes of a form that its nodes are readable.
 use Prim.Native.Nat.{ℕ, suc, _+_, _-_, _≤_, _<_}
 use native.Mathlib.Omega.{arith}
-use mathlib.Core.Path.{_≡_, refl, sym, subst}
+use mathlib.Core.Path.{_≡_, refl, sym, ap, _∙_, subst}
 use mathlib.Core.Logic.{_≢_}
 use mathlib.Core.Bool.{Bool, true, false}
 use Rattle.words.specs.Lists.{Words}
@@ -12,7 +12,9 @@ use Rattle.stored_forms.specs.Blocks.{Within}
 use Rattle.stored_forms.proofs.NodeLaws.{Readable, link-within}
 use Rattle.tree_nodes.specs.Nodes.{cells, LeftSet, RightSet}
 use Rattle.free_tree.specs.Shapes.{Under, whole, goLeft, goRight, Stops}
-use Rattle.free_tree.specs.Held.{At, Became, Place, Placed, Hung}
+use Rattle.free_tree.specs.Links.{linksChanged}
+use Rattle.free_tree.specs.Held.{At, Became, Place, Placed, Attached}
+use Rattle.free_tree.proofs.LinkLaws.{left-changed, right-changed}
 use Rattle.free_tree.proofs.StepLaws.{rooted-length, at-none, at-small, at-left, at-right}
 use Rattle.free_tree.proofs.StepLaws.{left-kept, right-kept, left-replaced, right-replaced}
 
@@ -62,20 +64,21 @@ module _ {F : Form} {bound : ℕ} (readable : Readable F bound) where
       → ((T : Tree) × At F bound m l T) → (t : Tree) × At F bound m at t
   place-at placed (T, p) = let w = placed T p in (w .sub, w .tree)
 
--- ---- hung on the father
+-- ---- attached to the father
 
-pub hung-none : {over : ℕ} (F : Form) (m : Words) (root x q : ℕ) → over ≡ 0 → Hung F m m root over x q q
-hung-none F m root x q z = subst (λ o. Hung F m m root o x q q) (sym z) (refl, refl)
+pub attached-none : {over k : ℕ} (F : Form) (m : Words) (root x q : ℕ) → over ≡ 0 → k ≡ q
+    → Attached F m m root over x q k
+attached-none {k = k} F m root x q z e = subst (λ o. Attached F m m root o x q k) (sym z) (refl, e)
 
-module _ {F : Form} {m m′ : Words} {over x q : ℕ} (root : ℕ) (z : over ≢ 0) where
-  on-father : Hung F m m′ root (suc (over - 1)) x q root → Hung F m m′ root over x q root
-  on-father h = let e : suc (over - 1) ≡ over = omega arith in subst (λ o. Hung F m m′ root o x q root) e h
+module _ {F : Form} {m m′ : Words} {root over x q k : ℕ} (z : over ≢ 0) (same : k ≡ root) where
+  to-father : Attached F m m′ root (suc (over - 1)) x q k → Attached F m m′ root over x q k
+  to-father h = let e : suc (over - 1) ≡ over = omega arith in subst (λ o. Attached F m m′ root o x q k) e h
 
-  pub hung-left : x < over - 1 → LeftSet F m m′ (over - 1) q → Hung F m m′ root over x q root
-  hung-left h put = on-father (refl, (λ i. put), λ i. absurd (omega arith))
+  pub attached-left : x < over - 1 → LeftSet F m m′ (over - 1) q → Attached F m m′ root over x q k
+  attached-left h put = to-father (same, (λ i. put), λ i. absurd (omega arith))
 
-  pub hung-right : over - 1 ≤ x → RightSet F m m′ (over - 1) q → Hung F m m′ root over x q root
-  hung-right h put = on-father (refl, (λ i. absurd (omega arith)), λ i. put)
+  pub attached-right : over - 1 ≤ x → RightSet F m m′ (over - 1) q → Attached F m m′ root over x q k
+  attached-right h put = to-father (same, (λ i. absurd (omega arith)), λ i. put)
 
 -- ---- the change of a son
 
@@ -111,13 +114,14 @@ pub record Local (F : Form) (bound : ℕ) (m : Words) (stop : Run → Bool) (x :
 module _ {F : Form} {bound : ℕ} (readable : Readable F bound) {m : Words} {stop : Run → Bool} {x : ℕ}
     {R : ℕ → Tree → Type 0} {f : Tree → Tree} {off : Tree → ℕ → Type 0} (local : Local F bound m stop x R f off) where
   -- What the change of the subtree t does to the tree T at the link l: where t keeps its link, and where its new link
-  -- is hung on its father.
+  -- is attached to its father.
   record Carried (l : ℕ) (T t : Tree) (over : ℕ) : Type 0 where
     here : R (link t) t
     inside : over ≤ cells F m
     stay : {m₁ : Words} → Became F bound m m₁ (off t) (link t) (f t) → Became F bound m m₁ (off T) l (f T)
-    hung : {m₁ m′ : Words} {q k : ℕ} → Became F bound m m₁ (off t) q (f t) → Hung F m₁ m′ l over x q k
+    attached : {m₁ m′ : Words} {q k : ℕ} → Became F bound m m₁ (off t) q (f t) → Attached F m₁ m′ l over x q k
         → Became F bound m m′ (off T) k (f T)
+    changed : linksChanged T (f T) ≡ linksChanged t (f t)
 
   module _ {l : ℕ} {T : Tree} where
     module _ {a b : Tree} {q : Run} {over : ℕ} (up : Carried l T (node a q b) over) (e : stop q ≡ false) where
@@ -145,7 +149,10 @@ module _ {F : Form} {bound : ℕ} (readable : Readable F bound) {m : Words} {sto
           stay = λ made.
               left-up made
               (left-kept readable root made (in-left .rest (q .start) (omega arith)) (at-left readable root refl .at));
-          hung = λ made put. rw (put .0) (left-up made (put .1 h));
+          attached = λ made put. rw (put .0) (left-up made (put .1 h));
+          changed =
+              up .changed ∙ ap (linksChanged (node a q b)) (in-left .same)
+              ∙ left-changed a q b 0 (cells F m) (root .within) (f a) (in-left .place);
         }
 
       module _ (h : q .start ≤ x) where
@@ -167,7 +174,10 @@ module _ {F : Form} {bound : ℕ} (readable : Readable F bound) {m : Words} {sto
               right-up made
               (right-kept readable root made (in-right .rest (q .start) (omega (arith, root .within .1)))
               (at-right readable root refl .at));
-          hung = λ made put. rw (put .0) (right-up made (put .2 h));
+          attached = λ made put. rw (put .0) (right-up made (put .2 h));
+          changed =
+              up .changed ∙ ap (linksChanged (node a q b)) (in-right .same)
+              ∙ right-changed a q b 0 (cells F m) (root .within) (f b) (in-right .place);
         }
 
     carried : R l T → {t : Tree} {over : ℕ} → Under stop x T t over → Carried l T t over
@@ -175,7 +185,8 @@ module _ {F : Form} {bound : ℕ} (readable : Readable F bound) {m : Words} {sto
       here = rw (local .tree p .at) p;
       inside = omega arith;
       stay = λ made. rw (local .tree p .at) at made;
-      hung = λ made put. rw (put .0, put .1) made;
+      attached = λ made put. rw (put .0, put .1) made;
+      changed = refl;
     }
     carried p (goLeft w e h) = carried-left (carried p w) e h
     carried p (goRight w e h) = carried-right (carried p w) e h
@@ -188,6 +199,16 @@ module _ {F : Form} {bound : ℕ} (readable : Readable F bound) {m : Words} {sto
     pub place-tree : ((T : Tree) × R l T) → (t : Tree) × Stops stop t × R at t
     place-tree (T, p) = let w = placed T (local .tree p) in (w .sub, w .end, there p w)
 
+    pub place-there : ((T : Tree) × R l T) → (t : Tree) × R at t
+    place-there (T, p) = let w = placed T (local .tree p) in (w .sub, there p w)
+
+    -- the links that differ there are all that differ
+    pub place-changed : {n : ℕ} → ((t : Tree) → Stops stop t → R at t → n ≡ linksChanged t (f t))
+        → (T : Tree) → R l T → n ≡ linksChanged T (f T)
+    place-changed count T p =
+        let w = placed T (local .tree p) in
+        count (w .sub) (w .end) (there p w) ∙ sym (carried p (w .way) .changed)
+
     -- nothing was to change there
     pub place-kept : ((t : Tree) → R at t → Became F bound m m (off t) at (f t))
         → (T : Tree) → R l T → Became F bound m m (off T) l (f T)
@@ -198,14 +219,15 @@ module _ {F : Form} {bound : ℕ} (readable : Readable F bound) {m : Words} {sto
     -- the subtree there was changed
     module _ {m₁ : Words} {q : ℕ}
         (made : (t : Tree) → Stops stop t → R at t → Became F bound m m₁ (off t) q (f t)) where
-      pub place-ready : ((T : Tree) × R l T) → (over ≤ cells F m₁) × (q < bound)
+      pub place-ready : ((T : Tree) × R l T) → (over ≤ cells F m₁) × (q < bound) × (l < bound)
       place-ready (T, p) =
           let w = placed T (local .tree p) in
           let done = made (w .sub) (w .end) (there p w) in
-          (rw (done .long) (carried p (w .way) .inside), at-small readable (done .tree))
+          let root = at-small readable (local .tree p) in
+          (rw (done .long) (carried p (w .way) .inside), at-small readable (done .tree), root)
 
-      pub place-hung : {m′ : Words} {k : ℕ} → Hung F m₁ m′ l over x q k
+      pub place-attached : {m′ : Words} {k : ℕ} → Attached F m₁ m′ l over x q k
           → (T : Tree) → R l T → Became F bound m m′ (off T) k (f T)
-      place-hung put T p =
+      place-attached put T p =
           let w = placed T (local .tree p) in
-          carried p (w .way) .hung (made (w .sub) (w .end) (there p w)) put
+          carried p (w .way) .attached (made (w .sub) (w .end) (there p w)) put

@@ -3,7 +3,6 @@
 use Prim.Native.Nat.{ℕ, suc, _+_, _-_, _≤_, _<_}
 use native.Mathlib.Nat.{le-trans, lt-of-lt-of-le, mul-le-mul-left}
 use native.Mathlib.Omega.{arith}
-use native.Mathlib.Numerals.{add-one}
 use mathlib.Core.Path.{_≡_, refl, sym, _∙_}
 use mathlib.Core.Logic.{_≢_}
 use mathlib.Core.Bool.{Bool, true, false, _&&_}
@@ -15,13 +14,14 @@ use Rattle.stored_forms.specs.Tree.{Tree, node, inorder, Form, lengthAt, leftAt
 use Rattle.stored_forms.proofs.NodeLaws.{Readable, within-le}
 use Rattle.tree_nodes.specs.Nodes.{cells, NodePut}
 use Rattle.free_tree.specs.Shapes.{join, standsAbove, standsOver, shrink, Stops, beginsAt}
+use Rattle.free_tree.specs.Links.{linkOf}
 use Rattle.free_tree.specs.Held.{At, Became, NoNodeNor, Beside, BothJoined, Placed, Room, Inserted, OverRoot}
 use Rattle.free_tree.specs.Held.{Between, NoNodeOfNor, Settled, Longer}
 use Rattle.free_tree.proofs.RunOrder.{wider}
-use Rattle.free_tree.proofs.CellLaws.{no-node-below, no-node-above, same-zeros, same-tree}
+use Rattle.free_tree.proofs.CellLaws.{no-node-below, no-node-above, same-zeros}
 use Rattle.free_tree.proofs.StepLaws.{rooted-length, at-none, at-left, at-right}
 use Rattle.free_tree.proofs.PlaceSteps.{Local, place-tree}
-use Rattle.free_tree.proofs.ChangeSteps.{beyond}
+use Rattle.free_tree.proofs.ChangeSteps.{beyond, put-between}
 use Rattle.free_tree.proofs.ShrinkLaws.{not-first-join, both-apart, found-left, found-right}
 use Rattle.free_tree.proofs.ShrinkLaws.{found-within, here-size, within-shrink}
 
@@ -62,32 +62,6 @@ module _ {F : Form} {bound : ℕ} (readable : Readable F bound) where
       → (ta : Tree) × (tb : Tree) × Beside F bound m a b ta tb
   between-beside (ta, tb, p) = (ta, tb, beside p)
 
-  -- the run's node is put above the two
-  put-over : {m m′ : Words} {a b x n : ℕ} {ta tb : Tree} → Between F bound m a b (run x n) ta tb
-      → NodePut F m m′ x n a b → Became F bound m m′ (NoNodeOfNor ta tb x) (x + 1) (node ta (run x n) tb)
-  put-over {m} {m′} {a} {b} {x} {n} {ta} {tb} p put =
-      let long = put .long in
-      let at-low = p .left .at in
-      let at-high = p .right .at in
-      let some-cells = p .filled in
-      record {
-        tree = record {
-          at = sym (add-one x);
-          holds = (
-            put .node ∙ cc,
-            same-zeros readable m m′ (suc x) (x + n) (λ d u v. put .frame d (λ z. omega arith)) (p .zeros),
-            same-tree readable m m′ ta 0 x (p .under) long (λ d u v. put .frame d (λ z. omega arith))
-                (p .left .holds),
-            same-tree readable m m′ tb (x + n) (cells F m) (p .over) long (λ d u v. put .frame d (λ z. omega arith))
-                (p .right .holds),
-          );
-          within = rw long (p .under, some-cells, p .over);
-          small = rw long (p .left .small);
-        };
-        frame = λ d o. put .frame d (o .2);
-        long = long;
-      }
-
   -- the two are joined, and there is room for the run
   module _ {m m₁ : Words} {a b j : ℕ} {r : Run} (post : BothJoined F bound m m₁ a b j) where
     joined-room : {ta tb : Tree} → Between F bound m a b r ta tb → Room F bound m₁ j r (join ta tb)
@@ -99,7 +73,7 @@ module _ {F : Form} {bound : ℕ} (readable : Readable F bound) where
           apart = both-apart r ta tb 0 (cells F m) (p .under) (p .filled) (p .over);
           filled = p .filled;
           inside = rw (made .long) (within-le tb end (cells F m) (p .over));
-          zeros = same-zeros readable m m₁ (suc (r .start)) end
+          zeros = same-zeros readable m m₁ (r .start) end
               (λ d u v. made .frame d (
                 no-node-above ta 0 (r .start) d (p .under) (omega arith),
                 no-node-below tb end (cells F m) d (p .over) v,
@@ -113,14 +87,16 @@ module _ {F : Form} {bound : ℕ} (readable : Readable F bound) where
       (high : OverRoot F bound m b (run x n) w) where
     pub settle-top : (v && w) ≡ true → NodePut F m m′ x n a b → Settled F bound m m′ a b (run x n) (x + 1)
     settle-top e put ta tb p =
-        rw (sym (low ta (p .left)), sym (high tb (p .right)), e) (put-over p put)
-
-    pub settle-among : {m₁ : Words} {j q : ℕ} → (v && w) ≡ false → BothJoined F bound m m₁ a b j
-        → Inserted F bound m₁ m′ j (run x n) q → Settled F bound m m′ a b (run x n) q
-    settle-among e post ins ta tb p =
-        let made = post ta tb (beside p) in
-        let put = ins (join ta tb) (joined-room post p) in
+        let made = put-between readable p put in
         rw (sym (low ta (p .left)), sym (high tb (p .right)), e)
+        (record { tree = made .tree; frame = λ d o. made .frame d (o .2); long = made .long })
+
+    pub settle-among : {m₁ : Words} {j q : ℕ} (k : ℕ) → (v && w) ≡ false → BothJoined F bound m m₁ a b j
+        → Inserted F bound m₁ m′ j (run x n) k → q ≡ linkOf k → Settled F bound m m′ a b (run x n) q
+    settle-among k e post ins f ta tb p =
+        let made = post ta tb (beside p) in
+        let put = ins (join ta tb) (joined-room post p) .0 in
+        rw (sym (low ta (p .left)), sym (high tb (p .right)), e, f)
         (record {
           tree = put .tree;
           frame = λ d o i z.
@@ -139,6 +115,7 @@ module _ {F : Form} {bound : ℕ} (readable : Readable F bound) where
     longer-left e h = record {
       tree = at-left readable (p .tree) e;
       found = sym (found-left x a (run c i) b 0 (cells F m) (p .tree .within) h) ∙ p .found;
+      part = p .part;
       more = p .more;
     }
 
@@ -146,6 +123,7 @@ module _ {F : Form} {bound : ℕ} (readable : Readable F bound) where
     longer-right e h = record {
       tree = at-right readable (p .tree) e;
       found = sym (found-right x a (run c i) b 0 (cells F m) (p .tree .within) h) ∙ p .found;
+      part = p .part;
       more = p .more;
     }
 
@@ -213,7 +191,7 @@ module _ {F : Form} {bound : ℕ} (readable : Readable F bound) where
       sons-between : Between F bound m a b (run (x + k) (i - k)) ta tb
       sons-between =
           let more = longer-here in
-          let low : suc (l - 1) ≤ suc (x + k) = omega arith in
+          let low : suc (l - 1) ≤ x + k = omega (arith, p .part) in
           let high : x + k + (i - k) ≤ l - 1 + i = omega arith in
           record {
             left = at-left readable (p .tree) left;

@@ -106,6 +106,9 @@ module _ {F : Form} {bound : ℕ} (readable : Readable F bound) where
   nodes-within (node a q b) lo hi w =
       omega (arith, nodes-within a lo (q .start) (w .0), nodes-within b (q .start + q .size) hi (w .2), w .1)
 
+  pub at-nodes : {m : Words} {l : ℕ} {t : Tree} → At F bound m l t → nodes t < bound
+  at-nodes {m} {l} {t} p = omega (arith, nodes-within t 0 (cells F m) (p .within), p .small)
+
   count-to : (m : Words) (n : ℕ) (t : Tree) (l : ℕ) → At F bound m l t → nodes t ≤ n → countTo F m n l ≡ nodes t
   count-to m zero leaf l p h = refl
   count-to m zero (node a q b) l p h = absurd (omega arith)

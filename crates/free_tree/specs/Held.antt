@@ -12,8 +12,9 @@ use Rattle.stored_forms.specs.Tree.{Tree, leaf, node, inorder, Form, lengthAt, 
 use Rattle.stored_forms.specs.Blocks.{leftmost}
 use Rattle.stored_forms.specs.Blocks.{Within, NotFirst, Holds, Zeros}
 use Rattle.tree_nodes.specs.Nodes.{cells, Same, LeftSet, RightSet}
-use Rattle.free_tree.specs.Shapes.{top, join, below, above, insert, delete, standsOver, settle, shrink}
-use Rattle.free_tree.specs.Shapes.{Under, Stops, endsAt, beginsAt, linkTo}
+use Rattle.free_tree.specs.Shapes.{top, join, below, above, splitTop, insert, delete, standsOver, settle}
+use Rattle.free_tree.specs.Shapes.{shrink, Under, Stops, endsAt, beginsAt, linkTo}
+use Rattle.free_tree.specs.Links.{sonsChanged, linksChanged, partsChanged, linkOf, countOf}
 
 -- ---- a tree
 
@@ -80,14 +81,15 @@ BothJoined F bound m m′ a b k = (ta tb : Tree) → Beside F bound m a b ta tb 
 
 -- ---- split
 
--- the tree t split at cell x: its parts lie at the links lo and hi
-pub record Parted (F : Form) (bound : ℕ) (m m′ : Words) (x : ℕ) (t : Tree) (lo hi : ℕ) : Type 0 where
+-- the tree t split at cell x: its parts lie at the links lo and hi, and n links were stored
+pub record Parted (F : Form) (bound : ℕ) (m m′ : Words) (x : ℕ) (t : Tree) (lo hi n : ℕ) : Type 0 where
   pub low : Became F bound m m′ (NoNode t) lo (below x t)
   pub high : Became F bound m m′ (NoNode t) hi (above x t)
+  pub count : n ≡ partsChanged x t
 
 -- what the split of the tree at the link l ensures
-abbrev pub Parts : Form → ℕ → Words → Words → ℕ → ℕ → ℕ → ℕ → Type 0
-Parts F bound m m′ l x lo hi = (t : Tree) → At F bound m l t → Parted F bound m m′ x t lo hi
+abbrev pub Parts : Form → ℕ → Words → Words → ℕ → ℕ → ℕ → ℕ → ℕ → Type 0
+Parts F bound m m′ l x lo hi n = (t : Tree) → At F bound m l t → Parted F bound m m′ x t lo hi n
 
 -- ---- the place of a change
 
@@ -110,9 +112,9 @@ Seat F bound m l at over = (at ≢ 0) × Placed F bound m l (beginsAt (at - 1)) 
 
 -- The link q is set at the node at the link `over`, on the side where cell x is, and the link to the whole is `root` as
 -- before; where there is no such node, q is the link to the whole.
-abbrev pub Hung : Form → Words → Words → ℕ → ℕ → ℕ → ℕ → ℕ → Type 0
-Hung F m m′ root zero x q k = (m′ ≡ m) × (k ≡ q)
-Hung F m m′ root (suc c) x q k = (k ≡ root) × (x < c → LeftSet F m m′ c q) × (c ≤ x → RightSet F m m′ c q)
+abbrev pub Attached : Form → Words → Words → ℕ → ℕ → ℕ → ℕ → ℕ → Type 0
+Attached F m m′ root zero x q k = (m′ ≡ m) × (k ≡ q)
+Attached F m m′ root (suc c) x q k = (k ≡ root) × (x < c → LeftSet F m m′ c q) × (c ≤ x → RightSet F m m′ c q)
 
 -- ---- insert, delete
 
@@ -123,18 +125,26 @@ Apart r (node a q b) =
     Apart r a × (q .start ≤ r .start → q .start + q .size ≤ r .start)
     × (r .start ≤ q .start → r .start + r .size ≤ q .start) × Apart r b
 
--- The tree lies at the link l, with room for the run: its words beyond the first cell are zero.
+-- The tree lies at the link l, with room for the run: its words are zero.
 pub record Room (F : Form) (bound : ℕ) (m : Words) (l : ℕ) (r : Run) (t : Tree) : Type 0 where
   pub tree : At F bound m l t
   pub apart : Apart r t
   pub filled : 1 ≤ r .size
   pub inside : r .start + r .size ≤ cells F m
-  pub zeros : Zeros m (F .cell * suc (r .start)) (F .cell * (r .start + r .size))
+  pub zeros : Zeros m (F .cell * r .start) (F .cell * (r .start + r .size))
 
--- what the insertion of the run r into the tree at the link l ensures, k the link to the whole
+-- what putting the run r on top of the parts of the tree at the link l ensures, n the number of links stored
+abbrev pub PutOver : Form → ℕ → Words → Words → ℕ → Run → ℕ → Type 0
+PutOver F bound m m′ l r n =
+    (t : Tree) → Room F bound m l r t
+    → Became F bound m m′ (NoNodeNor t (r .start)) (r .start + 1) (splitTop r t) × (n ≡ sonsChanged t (splitTop r t))
+
+-- What the insertion of the run r into the tree at the link l ensures, k the link to the whole and the number of links
+-- stored. 02: "the count equals the number of links that differ afterwards".
 abbrev pub Inserted : Form → ℕ → Words → Words → ℕ → Run → ℕ → Type 0
 Inserted F bound m m′ l r k =
-    (t : Tree) → Room F bound m l r t → Became F bound m m′ (NoNodeNor t (r .start)) k (insert r t)
+    (t : Tree) → Room F bound m l r t
+    → Became F bound m m′ (NoNodeNor t (r .start)) (linkOf k) (insert r t) × (countOf k ≡ linksChanged t (insert r t))
 
 -- what the deletion of the run at cell x from the tree at the link l ensures, k the link to the rest
 abbrev pub Deleted : Form → ℕ → Words → Words → ℕ → ℕ → ℕ → Type 0
@@ -146,14 +156,14 @@ Deleted F bound m m′ l x k = (t : Tree) → At F bound m l t → Became F boun
 abbrev pub OverRoot : Form → ℕ → Words → ℕ → Run → Bool → Type 0
 OverRoot F bound m l r v = (t : Tree) → At F bound m l t → v ≡ standsOver r t
 
--- Two trees lie in the arena with the run r between them: its words beyond the first cell are zero.
+-- Two trees lie in the arena with the run r between them: its words are zero.
 pub record Between (F : Form) (bound : ℕ) (m : Words) (a b : ℕ) (r : Run) (ta tb : Tree) : Type 0 where
   pub left : At F bound m a ta
   pub right : At F bound m b tb
   pub under : Within 0 (r .start) ta
   pub over : Within (r .start + r .size) (cells F m) tb
   pub filled : 1 ≤ r .size
-  pub zeros : Zeros m (F .cell * suc (r .start)) (F .cell * (r .start + r .size))
+  pub zeros : Zeros m (F .cell * r .start) (F .cell * (r .start + r .size))
 
 -- cell c is no node of the two trees with a new node at cell x
 abbrev pub NoNodeOfNor : Tree → Tree → ℕ → ℕ → Type 0
@@ -165,10 +175,11 @@ Settled F bound m m′ a b r k =
     (ta tb : Tree) → Between F bound m a b r ta tb
     → Became F bound m m′ (NoNodeOfNor ta tb (r .start)) k (settle r ta tb)
 
--- The tree lies at the link l, and its run r has more than k cells.
+-- The tree lies at the link l, and its run r has more than k cells, k not 0.
 pub record Longer (F : Form) (bound : ℕ) (m : Words) (l : ℕ) (r : Run) (k : ℕ) (t : Tree) : Type 0 where
   pub tree : At F bound m l t
   pub found : firstThat (beginsAt (r .start)) (inorder t) ≡ some r
+  pub part : 1 ≤ k
   pub more : k < r .size
 
 -- what ensures the step by which the run at cell x gives up its first k cells, q the link to the whole

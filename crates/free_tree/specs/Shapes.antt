@@ -46,12 +46,16 @@ above x (node a q b) = cond (ltb (q .start) x) (above x b) (node (above x a) q b
 abbrev pub standsAbove : Run → Run → Bool
 standsAbove r q = ltb (q .size) (r .size) || (eqb (q .size) (r .size) && ltb (r .start) (q .start))
 
+-- the run on top of the parts of a tree
+abbrev pub splitTop : Run → Tree → Tree
+splitTop r t = node (below (r .start) t) r (above (r .start) t)
+
 -- 01: "search by address down to the first node that must stand below the new one, put the new node there, and split
 -- that subtree by address into its two sons"
 abbrev pub insert : Run → Tree → Tree
 insert r leaf = node leaf r leaf
 insert r (node a q b) =
-    cond (standsAbove r q) (node (below (r .start) (node a q b)) r (above (r .start) (node a q b)))
+    cond (standsAbove r q) (splitTop r (node a q b))
     (cond (ltb (q .start) (r .start)) (node a q (insert r b)) (node (insert r a) q b))
 
 -- 01: "the two sons' trees are joined". A tree with no run at cell x stays.

@@ -1,24 +1,24 @@
 // The free tree of a tree pool: the free blocks in a lent arena, each with its node in its first cell (01, "Stored
 // form of the tree pool"). How a node lies in words is left to tree_nodes, through which every function here goes.
-use tree_nodes::both_links;
-use tree_nodes::high_link;
 use tree_nodes::left_of;
 use tree_nodes::length_of;
-use tree_nodes::low_link;
-use tree_nodes::put_node;
+use tree_nodes::put_first;
 use tree_nodes::right_of;
 use tree_nodes::set_left;
 use tree_nodes::set_right;
+use tree_nodes::store_left;
+use tree_nodes::store_right;
 ghost use mathlib.Core.Path.{_≡_};
 ghost use mathlib.Core.Logic.{_≢_};
-ghost use Prim.Native.Nat.{ℕ, _+_, _-_, _/_, _%_, _≤_, _<_};
+ghost use Prim.Native.Nat.{ℕ, _+_, _-_, _≤_, _<_};
 ghost use Rattle.ledger.specs.Runs.{run};
 ghost use Rattle.stored_forms.specs.Tree.{Tree, formOne, lengthAt};
-ghost use Rattle.tree_nodes.specs.Nodes.{links, cells};
+ghost use Rattle.tree_nodes.specs.Nodes.{links, most, cells};
 ghost use Rattle.free_tree.specs.Shapes.{standsAbove, beginsAt};
+ghost use Rattle.free_tree.specs.Links.{linkOf, countOf};
 ghost use Rattle.free_tree.specs.Held.{At, Beside, LeftWins, RightWins, LeftJoined, RightJoined, BothJoined};
-ghost use Rattle.free_tree.specs.Held.{Parts, Room, Inserted, Deleted, OverRoot, Between, Settled, Longer};
-ghost use Rattle.free_tree.specs.Held.{Shrunk, LeftmostFound, Placed, Seat, Hung, Clear, TouchFound};
+ghost use Rattle.free_tree.specs.Held.{Parts, Room, PutOver, Inserted, Deleted, OverRoot, Between, Settled};
+ghost use Rattle.free_tree.specs.Held.{Longer, Shrunk, LeftmostFound, Placed, Seat, Attached, Clear, TouchFound};
 ghost use Rattle.free_tree.specs.Held.{ifEnds, ifBegins};
 
 // ---- join
@@ -81,43 +81,67 @@ pub fn join_trees(arena: &mut [u32], a: usize, b: usize) -> usize
     }
 }
 
-// ---- split
+// ---- a link and a count of stored links in one number: it comes back in a register, where a struct would come back
+// through memory
 
-// Splits the tree at the link `l`, which is not 0, into its blocks below cell `x` and those from it on, and returns
-// the links to both parts. Where there is nothing further down, no call is made to find that out.
-fn split(arena: &mut [u32], l: usize, x: usize) -> u32
-    requires { ⌜ (l ≢ 0) × ((t : Tree) × At formOne links (now arena) l t) ⌝ }
-    ensures { λ r. ⌜ Parts formOne links (now (arena .entry)) (now (arena .exit)) l x (r % links) (r / links) ⌝ }
+fn with_count(l: usize, stored: u64) -> u64
+    requires { ⌜ (l < most) × (stored < most) ⌝ }
+    ensures { λ k. ⌜ (linkOf k ≡ l) × (countOf k ≡ stored) ⌝ }
 {
-    let c = l - 1;
-    if c < x {
-        let s = right_of(arena, c);
-        if s == 0 {
-            return both_links(l, 0);
-        }
-        let p = split(arena, s, x);
-        set_right(arena, c, low_link(p));
-        both_links(l, high_link(p))
-    } else {
-        let s = left_of(arena, c);
-        if s == 0 {
-            return both_links(0, l);
-        }
-        let p = split(arena, s, x);
-        set_left(arena, c, high_link(p));
-        both_links(low_link(p), l)
-    }
+    l as u64 + 4294967296 * stored
 }
 
-// The same for an insertion, which often has no tree to split: then no call is made.
-fn parts(arena: &mut [u32], l: usize, x: usize) -> u32
-    requires { ⌜ ((t : Tree) × At formOne links (now arena) l t) ⌝ }
-    ensures { λ r. ⌜ Parts formOne links (now (arena .entry)) (now (arena .exit)) l x (r % links) (r / links) ⌝ }
+pub fn link_of(k: u64) -> usize
+    ensures { λ r. ⌜ r ≡ linkOf k ⌝ }
 {
-    if l == 0 {
+    (k % 4294967296) as usize
+}
+
+pub fn count_of(k: u64) -> u64
+    ensures { λ r. ⌜ r ≡ countOf k ⌝ }
+{
+    k / 4294967296
+}
+
+// ---- split
+
+// Splits the tree at the link `l`, whose root is below cell `x`, into its blocks below `x` and those from it on. The
+// root stays that of the lower part. Returns the link to the upper part, and how many links were stored: as long as the
+// right son is below `x` too, its link stays.
+fn upper_part(arena: &mut [u32], l: usize, x: usize) -> u64
+    requires { ⌜ (l ≢ 0) × (l - 1 < x) × ((t : Tree) × At formOne links (now arena) l t) ⌝ }
+    ensures { λ k. ⌜ Parts formOne links (now (arena .entry)) (now (arena .exit)) l x l (linkOf k) (countOf k) ⌝ }
+{
+    let c = l - 1;
+    let s = right_of(arena, c);
+    if s == 0 {
         return 0;
     }
-    split(arena, l, x)
+    if s - 1 < x {
+        return upper_part(arena, s, x);
+    }
+    let p = lower_part(arena, s, x);
+    let stored = store_right(arena, c, link_of(p), count_of(p));
+    with_count(s, stored)
+}
+
+// The same where the root is not below `x` and stays that of the upper part. Returns the link to the lower part, and
+// how many links were stored.
+fn lower_part(arena: &mut [u32], l: usize, x: usize) -> u64
+    requires { ⌜ (l ≢ 0) × (x ≤ l - 1) × ((t : Tree) × At formOne links (now arena) l t) ⌝ }
+    ensures { λ k. ⌜ Parts formOne links (now (arena .entry)) (now (arena .exit)) l x (linkOf k) l (countOf k) ⌝ }
+{
+    let c = l - 1;
+    let s = left_of(arena, c);
+    if s == 0 {
+        return 0;
+    }
+    if x <= s - 1 {
+        return lower_part(arena, s, x);
+    }
+    let p = upper_part(arena, s, x);
+    let stored = store_left(arena, c, link_of(p), count_of(p));
+    with_count(s, stored)
 }
 
 // ---- the place of a change
@@ -180,39 +204,57 @@ fn place_of(arena: &[u32], l: usize, x: usize) -> Place
     Place { at, over }
 }
 
-// Hangs the tree at the link `q` on the node at the link `over`, on the side where cell `x` is, and returns the link
-// to the whole: `root`, or `q` where there is no such node. The nodes above it keep their links, so none is written.
-fn hang(arena: &mut [u32], root: usize, over: usize, x: usize, q: usize) -> usize
+// Attaches the tree at the link `q` to the node at the link `over`, on the side where cell `x` is. Returns the link to
+// the whole, which is `root`, or `q` where there is no such node; and one more than `stored`, for the link that is set
+// or the root link. The nodes above keep their links, so none is written.
+fn attach(arena: &mut [u32], root: usize, over: usize, x: usize, q: usize, stored: u64) -> u64
     requires { ⌜ over ≤ cells formOne (now arena) ⌝ }
-    requires { ⌜ q < links ⌝ }
-    ensures { λ k. ⌜ Hung formOne (now (arena .entry)) (now (arena .exit)) root over x q k ⌝ }
+    requires { ⌜ (q < links) × (root < links) × (stored + 1 < most) ⌝ }
+    ensures { λ k. ⌜ Attached formOne (now (arena .entry)) (now (arena .exit)) root over x q (linkOf k) ⌝ }
+    ensures { λ k. ⌜ countOf k ≡ stored + 1 ⌝ }
 {
     if over == 0 {
-        return q;
+        return with_count(q, stored + 1);
     }
     let c = over - 1;
     if c <= x {
-        set_right(arena, c, q);
-        return root;
+        let count = store_right(arena, c, q, stored);
+        return with_count(root, count);
     }
-    set_left(arena, c, q);
-    root
+    let count = store_left(arena, c, q, stored);
+    with_count(root, count)
 }
 
 // ---- insert, delete
 
-// Inserts the block of `n` cells at cell `x` into the tree at the link `l`, and returns the link to the whole. The
-// block's words beyond its first cell are zero already.
-pub fn insert(arena: &mut [u32], l: usize, x: usize, n: u32) -> usize
+// Puts the node of a block of `n` cells at cell `x` in place of the tree at the link `l`, whose parts become its sons.
+// Returns how many links were stored.
+fn put_over(arena: &mut [u32], l: usize, x: usize, n: u32) -> u64
     requires { ⌜ ((t : Tree) × Room formOne links (now arena) l (run x n) t) ⌝ }
-    ensures { λ r. ⌜ Inserted formOne links (now (arena .entry)) (now (arena .exit)) l (run x n) r ⌝ }
+    ensures { λ k. ⌜ PutOver formOne links (now (arena .entry)) (now (arena .exit)) l (run x n) k ⌝ }
+{
+    if l == 0 {
+        return put_first(arena, x, n, 0, 0);
+    }
+    if l - 1 < x {
+        let p = upper_part(arena, l, x);
+        return count_of(p) + put_first(arena, x, n, l, link_of(p));
+    }
+    let p = lower_part(arena, l, x);
+    count_of(p) + put_first(arena, x, n, link_of(p), l)
+}
+
+// Inserts the block of `n` cells at cell `x`, whose words are zero already, into the tree at the link `l`. Returns the
+// link to the whole, and how many links were stored, the root link among them. 02, request 4.
+pub fn insert(arena: &mut [u32], l: usize, x: usize, n: u32) -> u64
+    requires { ⌜ ((t : Tree) × Room formOne links (now arena) l (run x n) t) ⌝ }
+    ensures { λ k. ⌜ Inserted formOne links (now (arena .entry)) (now (arena .exit)) l (run x n) k ⌝ }
 {
     let p = place_for(arena, l, x, n);
     let at = p.at;
     let over = p.over;
-    let s = parts(arena, at, x);
-    put_node(arena, x, n, low_link(s), high_link(s));
-    hang(arena, l, over, x, x + 1)
+    let stored = put_over(arena, at, x, n);
+    attach(arena, l, over, x, x + 1, stored)
 }
 
 // Takes the block at the link `at` out of the tree at the link `l`, and returns the link to the rest. Its father is at
@@ -226,7 +268,7 @@ pub fn delete_at(arena: &mut [u32], l: usize, at: usize, over: usize) -> usize
     let a = left_of(arena, c);
     let b = right_of(arena, c);
     let q = join_trees(arena, a, b);
-    hang(arena, l, over, c, q)
+    link_of(attach(arena, l, over, c, q, 0))
 }
 
 // The same for the block at cell `x`, whose place is searched.
@@ -265,11 +307,11 @@ fn settle(arena: &mut [u32], lo: usize, hi: usize, x: usize, n: u32) -> usize
     ensures { λ r. ⌜ Settled formOne links (now (arena .entry)) (now (arena .exit)) lo hi (run x n) r ⌝ }
 {
     if over_root(arena, lo, x, n) & over_root(arena, hi, x, n) {
-        put_node(arena, x, n, lo, hi);
+        put_first(arena, x, n, lo, hi);
         return x + 1;
     }
     let rest = join_trees(arena, lo, hi);
-    insert(arena, rest, x, n)
+    link_of(insert(arena, rest, x, n))
 }
 
 // The block at the link `at`, of more than `k` cells, gives up its first `k` cells in the tree at the link `l`. Its
@@ -285,7 +327,7 @@ pub fn shrink(arena: &mut [u32], l: usize, at: usize, over: usize, k: usize) -> 
     let b = right_of(arena, c);
     let n = length_of(arena, c) as usize;
     let q = settle(arena, a, b, c + k, (n - k) as u32);
-    hang(arena, l, over, c, q)
+    link_of(attach(arena, l, over, c, q, 0))
 }
 
 // ---- searches: they return links, 0 for none

@@ -3,12 +3,13 @@
 use Prim.Native.Nat.{ℕ, zero, suc, _+_, _*_, _/_, _%_, _<_}
 use native.Mathlib.Omega.{arith}
 use native.Mathlib.Decide.{ℕ-discrete}
-use mathlib.Core.Path.{_≡_, ap, _∙_}
+use mathlib.Core.Path.{_≡_, sym, ap, _∙_}
 use mathlib.Core.Logic.{_≢_}
 use lib.ListN.{length, getD, take, drop, set, length-set, length-drop}
 use lib.Seq.{length-take-le, getD-take, getD-drop, ext-getD, getD-set-same, getD-set-other, set-getD}
 use Rattle.words.specs.Lists.{Words}
 use Rattle.stored_forms.specs.Tree.{formOne, twoWords, lengthAt, leftAt, rightAt}
+use Rattle.stored_forms.specs.Blocks.{Zeros}
 use Rattle.tree_nodes.specs.Nodes.{cells, NodePut, LeftSet, RightSet, NodeCleared}
 
 cell-word : (m : Words) (c j : ℕ) → j < 2 → getD (take 2 (drop (2 * c) m)) j 0 ≡ getD m (2 * c + j) 0
@@ -75,6 +76,17 @@ module _ (m : Words) (c : ℕ) where
             ∙ stored-first n (l + 65536 * r)
         word (suc zero) h = cell-word (stored n (l + 65536 * r)) c 1 h ∙ stored-second n (l + 65536 * r)
         word (suc (suc j)) h = absurd (omega arith)
+
+    -- the node of a cell that was zero, with no links: they lie there already
+    pub one-put-bare : (n l r : ℕ) → Zeros m (formOne .cell * c) (formOne .cell * suc c) → l ≡ 0 → r ≡ 0
+        → NodePut formOne m (set m (2 * c) n) c n l r
+    unfolding formOne
+    one-put-bare n l r zeros el er =
+        let m₁ = set m (2 * c) n in
+        let bare : l + 65536 * r ≡ getD m₁ (2 * c + 1) 0 =
+        rw (el, er) (sym (getD-set-other m (2 * c) (2 * c + 1) n 0 (λ z. omega arith)
+        ∙ zeros (2 * c + 1) (omega arith) (omega arith))) in
+        rw (bare, set-getD m₁ (2 * c + 1) 0) at (one-put n l r)
 
     pub one-set-left : (l : ℕ) → LeftSet formOne m (set m (2 * c + 1) (l + 65536 * (getD m (2 * c + 1) 0 / 65536))) c l
     one-set-left l =

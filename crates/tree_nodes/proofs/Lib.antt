@@ -1,2 +1,3 @@
 -- Laws of nodes by their words.
+pub mod LinkLaws
 pub mod FormOne

@@ -2,6 +2,8 @@
 use Prim.Native.Nat.{ℕ, _/_}
 use mathlib.Core.Path.{_≡_}
 use mathlib.Core.Logic.{_≢_}
+use mathlib.Core.Bool.{cond}
+use lib.Dec.{eqb}
 use lib.ListN.{length, getD}
 use Rattle.words.specs.Lists.{Words}
 use Rattle.stored_forms.specs.Tree.{Form, cellWords, lengthAt, leftAt, rightAt}
@@ -9,6 +11,14 @@ use Rattle.stored_forms.specs.Tree.{Form, cellWords, lengthAt, leftAt, rightAt}
 -- a link of the first form is half a word
 abbrev pub links : ℕ
 links = 65536
+
+-- 1 where two links differ, else 0
+abbrev pub differ : ℕ → ℕ → ℕ
+differ x y = cond (eqb x y) 0 1
+
+-- what a count of stored links stays below
+abbrev pub most : ℕ
+most = 4294967296
 
 -- how many cells the arena has
 abbrev pub cells : Form → Words → ℕ

@@ -1,9 +1,10 @@
 // Nodes of the free tree (01, "Stored form of the tree pool"), one by one: no other crate's code knows how a node lies
 // in the words of its cell.
 ghost use mathlib.Core.Path.{_≡_};
-ghost use Prim.Native.Nat.{_/_, _%_, _<_};
+ghost use Prim.Native.Nat.{suc, _+_, _*_, _<_};
 ghost use Rattle.stored_forms.specs.Tree.{formOne, lengthAt, leftAt, rightAt};
-ghost use Rattle.tree_nodes.specs.Nodes.{links, cells, NodePut, LeftSet, RightSet, NodeCleared};
+ghost use Rattle.stored_forms.specs.Blocks.{Zeros};
+ghost use Rattle.tree_nodes.specs.Nodes.{links, most, cells, differ, NodePut, LeftSet, RightSet, NodeCleared};
 
 // The length of the node at cell `c`.
 pub fn length_of(arena: &[u32], c: usize) -> u32
@@ -71,25 +72,52 @@ pub fn clear_node(arena: &mut [u32], c: usize)
     arena[2 * c + 1] = 0;
 }
 
-// Two links in one number, as a node has them in its second word. A number comes back in a register, where a struct
-// would come back through memory.
-pub fn both_links(lo: usize, hi: usize) -> u32
-    requires { ⌜ (lo < links) × (hi < links) ⌝ }
-    ensures { λ r. ⌜ (r % links ≡ lo) × (r / links ≡ hi) ⌝ }
+// ---- links stored and counted, for an insertion: it stores a link by these three alone
+
+// Sets the left link of the node at cell `c`, and returns one more than `stored`.
+pub fn store_left(arena: &mut [u32], c: usize, l: usize, stored: u64) -> u64
+    requires { ⌜ c < cells formOne (now arena) ⌝ }
+    requires { ⌜ (l < links) × (stored < most) ⌝ }
+    ensures { λ k. ⌜ LeftSet formOne (now (arena .entry)) (now (arena .exit)) c l × (k ≡ stored + 1) ⌝ }
 {
-    lo as u32 + 65536 * hi as u32
+    set_left(arena, c, l);
+    stored + 1
 }
 
-// The link in the lower half.
-pub fn low_link(both: u32) -> usize
-    ensures { λ r. ⌜ r ≡ both % links ⌝ }
+// Sets the right link of the node at cell `c`, and returns one more than `stored`.
+pub fn store_right(arena: &mut [u32], c: usize, r: usize, stored: u64) -> u64
+    requires { ⌜ c < cells formOne (now arena) ⌝ }
+    requires { ⌜ (r < links) × (stored < most) ⌝ }
+    ensures { λ k. ⌜ RightSet formOne (now (arena .entry)) (now (arena .exit)) c r × (k ≡ stored + 1) ⌝ }
 {
-    (both % 65536) as usize
+    set_right(arena, c, r);
+    stored + 1
 }
 
-// The link in the upper half.
-pub fn high_link(both: u32) -> usize
-    ensures { λ r. ⌜ r ≡ both / links ⌝ }
+// 0 for the link 0, which a zero word has already, and 1 for any other.
+fn if_link(l: usize) -> u64
+    ensures { λ k. ⌜ k ≡ differ 0 l ⌝ }
 {
-    (both / 65536) as usize
+    if l == 0 {
+        return 0;
+    }
+    1
+}
+
+// Writes the node of a block of `n` cells at cell `c`, whose words are zero: the links only if there is one. Returns
+// how many links are not 0.
+pub fn put_first(arena: &mut [u32], c: usize, n: u32, l: usize, r: usize) -> u64
+    requires { ⌜ c < cells formOne (now arena) ⌝ }
+    requires { ⌜ (l < links) × (r < links) ⌝ }
+    requires { ⌜ Zeros (now arena) (formOne .cell * c) (formOne .cell * suc c) ⌝ }
+    ensures { λ k. ⌜ NodePut formOne (now (arena .entry)) (now (arena .exit)) c n l r ⌝ }
+    ensures { λ k. ⌜ k ≡ differ 0 l + differ 0 r ⌝ }
+{
+    let stored = if_link(l) + if_link(r);
+    if stored == 0 {
+        arena[2 * c] = n;
+        return stored;
+    }
+    put_node(arena, c, n, l, r);
+    stored
 }

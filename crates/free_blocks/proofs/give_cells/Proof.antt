@@ -78,18 +78,21 @@ insert-requires c κs =
           (b3 .merge-above .ensures),
     )
 
+link-of-requires : tie.Need-link-of-requires
+link-of-requires c κs = search needs
+
 same-length : tie.Need-same-length
 same-length c = search needs
 
 returns : tie.Need-returns
 returns c rs g =
-    let b2 = c .before .before in
-    let b6 = b2 .before .before .before .before in
-    let b10 = b6 .before .before .before .before in
-    let b12 = b10 .before .before in
-    let b16 = b12 .before .before .before .before in
-    give (b16 .wipe-part .ensures) g (b12 .touching .ensures) (b10 .merge-below .ensures)
-    (b6 .merge-above .ensures) (b2 .insert .ensures)
+    let b3 = c .before .before .before in
+    let b7 = b3 .before .before .before .before in
+    let b11 = b7 .before .before .before .before in
+    let b13 = b11 .before .before in
+    let b17 = b13 .before .before .before .before in
+    give (b17 .wipe-part .ensures) g (b13 .touching .ensures) (b11 .merge-below .ensures)
+    (b7 .merge-above .ensures) (b3 .insert .result) (b3 .insert .ensures) (c .link-of .ensures)
 
 pub give-cells-spec : {M : Type 1} → statement M
 give-cells-spec =
@@ -104,5 +107,6 @@ give-cells-spec =
     sub-insert
     cast-insert
     insert-requires
+    link-of-requires
     same-length
     returns)

@@ -1,10 +1,12 @@
--- `free_tree::delete_at` meets its contract: the sons of the node are joined and hung on its father. Assumes nothing.
+-- `free_tree::delete_at` meets its contract: the sons of the node are joined and attached to its father.
+-- Assumes nothing.
 -- In a need, `b3` is the place three before its own.
 use borrow.Author.Needs.{needs}
+use native.Mathlib.Omega.{arith}
 use Prim.Native.Nat.{_-_}
 use Rattle.stored_forms.proofs.NodeLaws.{readable-one}
 use Rattle.free_tree.proofs.StepLaws.{at-in}
-use Rattle.free_tree.proofs.PlaceSteps.{place-at, place-ready, place-hung}
+use Rattle.free_tree.proofs.PlaceSteps.{place-at, place-ready, place-attached}
 use Rattle.free_tree.proofs.ChangeSteps.{deletes, sons-beside, delete-here}
 use Rattle.free_tree.proofs.delete_at.Statement.{statement}
 use Rattle.free_tree.proofs.delete_at.Tie as tie
@@ -30,32 +32,37 @@ join-trees-requires c κs =
     sons-beside readable-one (s .pre .1 .0) (b3 .left-of .ensures) (b1 .right-of .ensures)
     (place-at readable-one (s .pre .1 .1) (s .pre .0))
 
-hang-requires : tie.Need-hang-requires
-hang-requires c κs =
+attach-requires : tie.Need-attach-requires
+attach-requires c κs =
     let b3 = c .before .before .before in
     let b5 = b3 .before .before in
     let b7 = b5 .before .before in
     let s = b7 .before .before .before in
     let (z, placed) = s .pre .1 in
     let x = s .args .at - 1 in
-    place-ready readable-one (deletes readable-one x) placed
-    (delete-here readable-one z (b7 .left-of .ensures) (b5 .right-of .ensures) x (b3 .join-trees .ensures)) (s .pre .0)
+    let made = delete-here readable-one z (b7 .left-of .ensures) (b5 .right-of .ensures) x (b3 .join-trees .ensures) in
+    let (inside, link, root) = place-ready readable-one (deletes readable-one x) placed made (s .pre .0) in
+    (inside, (link, root, omega arith))
+
+link-of-requires : tie.Need-link-of-requires
+link-of-requires c κs = search needs
 
 same-length : tie.Need-same-length
 same-length c = search needs
 
 returns : tie.Need-returns
 returns c =
-    let b2 = c .before .before in
-    let b6 = b2 .before .before .before .before in
-    let b8 = b6 .before .before in
-    let b10 = b8 .before .before in
-    let s = b10 .before .before .before in
+    let b3 = c .before .before .before in
+    let b7 = b3 .before .before .before .before in
+    let b9 = b7 .before .before in
+    let b11 = b9 .before .before in
+    let s = b11 .before .before .before in
     let (z, placed) = s .pre .1 in
     let x = s .args .at - 1 in
-    place-hung readable-one (deletes readable-one x) placed
-    (delete-here readable-one z (b10 .left-of .ensures) (b8 .right-of .ensures) x (b6 .join-trees .ensures))
-    (b2 .hang .ensures)
+    rw (c .link-of .ensures)
+    (place-attached readable-one (deletes readable-one x) placed
+    (delete-here readable-one z (b11 .left-of .ensures) (b9 .right-of .ensures) x (b7 .join-trees .ensures))
+    (b3 .attach .ensures .0))
 
 pub delete-at-spec : {M : Type 1} → statement M
 delete-at-spec =
@@ -65,6 +72,7 @@ delete-at-spec =
     left-of-requires
     right-of-requires
     join-trees-requires
-    hang-requires
+    attach-requires
+    link-of-requires
     same-length
     returns)

@@ -3,7 +3,7 @@
 use borrow.Author.Needs.{needs}
 use native.Mathlib.Omega.{arith}
 use Rattle.stored_forms.proofs.NodeLaws.{readable-one}
-use Rattle.free_tree.proofs.StepLaws.{at-small}
+use Rattle.free_tree.proofs.ChangeSteps.{between-ready}
 use Rattle.free_tree.proofs.ShrinkSteps.{between-in, between-beside, both-room, settle-top, settle-among}
 use Rattle.free_tree.proofs.settle.Statement.{statement}
 use Rattle.free_tree.proofs.settle.Tie as tie
@@ -14,13 +14,9 @@ over-root-requires c κs = search needs
 over-root-requires-2 : tie.Need-over-root-requires-2
 over-root-requires-2 c κs = search needs
 
-put-node-requires : tie.Need-put-node-requires
-put-node-requires c κs =
-    let given = c .before .before .before .before .before .before .before .pre in
-    let (ta, tb, p) = given in (
-      between-in readable-one given .0,
-      (at-small readable-one (p .left), at-small readable-one (p .right)),
-    )
+put-first-requires : tie.Need-put-first-requires
+put-first-requires c κs =
+    let (ta, tb, p) = c .before .before .before .before .before .before .before .pre in between-ready readable-one p
 
 add-result : tie.Need-add-result
 add-result c =
@@ -34,7 +30,7 @@ returns : tie.Need-returns
 returns c =
     let d = c .before .before .before .before in
     settle-top readable-one (d .before .before .before .over-root .ensures) (d .before .over-root2 .ensures)
-    (d .if1 .taken) (c .before .before .put-node .ensures)
+    (d .if1 .taken) (c .before .before .put-first .ensures .0)
 
 join-trees-requires : tie.Need-join-trees-requires
 join-trees-requires c κs = between-beside readable-one (c .before .before .before .before .before .before .before .pre)
@@ -42,16 +38,22 @@ join-trees-requires c κs = between-beside readable-one (c .before .before .befo
 insert-requires : tie.Need-insert-requires
 insert-requires c κs =
     let d = c .before .before .before in
-    both-room readable-one (d .join-trees .ensures) (d .before .before .before .before .before .before .before .before .pre)
+    let s = d .before .before .before .before .before .before .before .before in
+    both-room readable-one (d .join-trees .ensures) (s .pre)
+
+link-of-requires : tie.Need-link-of-requires
+link-of-requires c κs = search needs
 
 same-length-2 : tie.Need-same-length-2
 same-length-2 c = search needs
 
 returns-2 : tie.Need-returns-2
 returns-2 c =
-    let d = c .before .before .before .before .before .before .before .before in
+    let b3 = c .before .before .before in
+    let b7 = b3 .before .before .before .before in
+    let d = b7 .before .before in
     settle-among readable-one (d .before .before .before .over-root .ensures) (d .before .over-root2 .ensures)
-    (d .if1 .left) (c .before .before .before .before .before .before .join-trees .ensures) (c .before .before .insert .ensures)
+    (b3 .insert .result) (d .if1 .left) (b7 .join-trees .ensures) (b3 .insert .ensures) (c .link-of .ensures)
 
 pub settle-spec : {M : Type 1} → statement M
 settle-spec =
@@ -59,11 +61,12 @@ settle-spec =
     (tie.spec
     over-root-requires
     over-root-requires-2
-    put-node-requires
+    put-first-requires
     add-result
     same-length
     returns
     join-trees-requires
     insert-requires
+    link-of-requires
     same-length-2
     returns-2)

@@ -1,5 +1,5 @@
 -- `free_tree::shrink` meets its contract: what is left of the block is settled between the sons of its node, and the
--- whole is hung on the node's father. Assumes nothing.
+-- whole is attached to the node's father. Assumes nothing.
 -- In a need, `b3` is the place three before its own.
 use borrow.Author.Needs.{needs}
 use native.Mathlib.Omega.{arith}
@@ -9,7 +9,7 @@ use Rattle.stored_forms.specs.Tree.{formOne}
 use Rattle.stored_forms.proofs.NodeLaws.{readable-one}
 use Rattle.tree_nodes.specs.Nodes.{links}
 use Rattle.free_tree.proofs.StepLaws.{at-in}
-use Rattle.free_tree.proofs.PlaceSteps.{place-ready, place-hung}
+use Rattle.free_tree.proofs.PlaceSteps.{place-ready, place-attached}
 use Rattle.free_tree.proofs.ShrinkSteps.{LongerRoot, shrinks, root-tree, longer-place}
 use Rattle.free_tree.proofs.ShrinkSteps.{shrink-between, shrink-here}
 use Rattle.free_tree.proofs.shrink.Statement.{statement}
@@ -74,32 +74,38 @@ settle-requires c κs =
     (at-run b8) in
     between
 
-hang-requires : tie.Need-hang-requires
-hang-requires c κs =
+attach-requires : tie.Need-attach-requires
+attach-requires c κs =
     let b3 = c .before .before .before in
     let b5 = b3 .before .before in
     let b7 = b5 .before .before in
     let b9 = b7 .before .before in
     let s = b9 .before .before .before in
     let (t, n, p) = s .pre .0 in
+    let (inside, link, root) =
     place-ready readable-one (shrinks readable-one (s .args .at - 1) n (s .args .k)) (s .pre .1 .1)
     (shrink-here readable-one (b9 .left-of .ensures) (b7 .right-of .ensures) (b5 .length-of .ensures)
-    (b3 .settle .ensures)) (t, p)
+    (b3 .settle .ensures)) (t, p) in
+    (inside, (link, root, omega arith))
+
+link-of-requires : tie.Need-link-of-requires
+link-of-requires c κs = search needs
 
 same-length : tie.Need-same-length
 same-length c = search needs
 
 returns : tie.Need-returns
 returns c t n =
-    let b2 = c .before .before in
-    let b6 = b2 .before .before .before .before in
-    let b8 = b6 .before .before in
-    let b10 = b8 .before .before in
-    let b12 = b10 .before .before in
-    let s = b12 .before .before .before in
-    place-hung readable-one (shrinks readable-one (s .args .at - 1) n (s .args .k)) (s .pre .1 .1)
-    (shrink-here readable-one (b12 .left-of .ensures) (b10 .right-of .ensures) (b8 .length-of .ensures)
-    (b6 .settle .ensures)) (b2 .hang .ensures) t
+    let b3 = c .before .before .before in
+    let b7 = b3 .before .before .before .before in
+    let b9 = b7 .before .before in
+    let b11 = b9 .before .before in
+    let b13 = b11 .before .before in
+    let s = b13 .before .before .before in
+    rw (c .link-of .ensures)
+    (place-attached readable-one (shrinks readable-one (s .args .at - 1) n (s .args .k)) (s .pre .1 .1)
+    (shrink-here readable-one (b13 .left-of .ensures) (b11 .right-of .ensures) (b9 .length-of .ensures)
+    (b7 .settle .ensures)) (b3 .attach .ensures .0) t)
 
 pub shrink-spec : {M : Type 1} → statement M
 shrink-spec =
@@ -114,6 +120,7 @@ shrink-spec =
     sub-settle
     cast-settle
     settle-requires
-    hang-requires
+    attach-requires
+    link-of-requires
     same-length
     returns)

@@ -1,0 +1,323 @@
+-- `free_tree::lower_part` and `free_tree::upper_part` meet their contracts. The measure is the number of nodes of the
+-- tree. Assumes nothing.
+-- In a need, `b3` is the place three before its own.
+use Prim.Native.Nat.{ℕ, _<_}
+use native.Mathlib.Omega.{arith}
+use mathlib.Core.Path.{_∙_, refl, sym}
+use denote.Ref.{now}
+use borrow.Author.Needs.{needs}
+use borrow.Fn.Kinds.{In}
+use borrow.Fn.PlainCycle.{Measures, is, falls, and}
+use Rattle.stored_forms.specs.Tree.{formOne}
+use Rattle.stored_forms.proofs.NodeLaws.{readable-one}
+use Rattle.free_tree.proofs.Numbers.{falls-below, in-kept}
+use Rattle.free_tree.proofs.StepLaws.{count, at-in, down-left, down-right}
+use Rattle.free_tree.proofs.PartSteps.{parts-none, parts-small, lower-read, upper-read}
+use Rattle.free_tree.proofs.PartSteps.{left-stays, left-turns, right-stays, right-turns}
+use Rattle.free_tree.proofs.lower_part.Reads as lower-part
+use Rattle.free_tree.proofs.lower_part.Kinds as lower-part-kinds
+use Rattle.free_tree.proofs.+lower_part+upper_part.Lts-lower_part as lower-part-lts
+use Rattle.free_tree.proofs.upper_part.Reads as upper-part
+use Rattle.free_tree.proofs.upper_part.Kinds as upper-part-kinds
+use Rattle.free_tree.proofs.+lower_part+upper_part.Lts-upper_part as upper-part-lts
+use Rattle.free_tree.proofs.count_of.Reads as count-of-reads
+use Rattle.free_tree.proofs.link_of.Reads as link-of-reads
+use Rattle.free_tree.proofs.with_count.Reads as with-count-reads
+use Rattle.tree_nodes.proofs.left_of.Reads as left-of-reads
+use Rattle.tree_nodes.proofs.right_of.Reads as right-of-reads
+use Rattle.tree_nodes.proofs.store_left.Reads as store-left-reads
+use Rattle.tree_nodes.proofs.store_right.Reads as store-right-reads
+use Rattle.free_tree.proofs.+lower_part+upper_part.{statement}
+use Rattle.free_tree.proofs.+lower_part+upper_part.Tie.{close}
+
+abbrev μ-lower-part : Measures 1 lower-part-kinds.ps ℕ
+μ-lower-part κs a = count formOne (now (a .0)) (a .1 .0)
+
+abbrev μ-upper-part : Measures 1 upper-part-kinds.ps ℕ
+μ-upper-part κs a = count formOne (now (a .0)) (a .1 .0)
+
+abbrev lower-part-at : ℕ → In 1 lower-part-kinds.ps
+lower-part-at t = and 1 lower-part-kinds.ps (is 1 lower-part-kinds.ps μ-lower-part t) lower-part.Pre
+
+abbrev lower-part-below : ℕ → In 1 lower-part-kinds.ps
+lower-part-below t = and 1 lower-part-kinds.ps (falls 1 lower-part-kinds.ps _<_ μ-lower-part t) lower-part.Pre
+
+abbrev upper-part-at : ℕ → In 1 upper-part-kinds.ps
+upper-part-at t = and 1 upper-part-kinds.ps (is 1 upper-part-kinds.ps μ-upper-part t) upper-part.Pre
+
+abbrev upper-part-below : ℕ → In 1 upper-part-kinds.ps
+upper-part-below t = and 1 upper-part-kinds.ps (falls 1 upper-part-kinds.ps _<_ μ-upper-part t) upper-part.Pre
+
+-- what each callee asks and tells
+abbrev lower-part-claims : ℕ → lower-part-lts.Claims
+lower-part-claims t = (
+  left-of-reads.Asked,
+  left-of-reads.Learnt,
+  lower-part-below t,
+  lower-part.Post,
+  upper-part-below t,
+  upper-part.Post,
+  link-of-reads.Asked,
+  link-of-reads.Learnt,
+  count-of-reads.Asked,
+  count-of-reads.Learnt,
+  store-left-reads.Asked,
+  store-left-reads.Learnt,
+  with-count-reads.Asked,
+  with-count-reads.Learnt,
+)
+
+abbrev upper-part-claims : ℕ → upper-part-lts.Claims
+upper-part-claims t = (
+  right-of-reads.Asked,
+  right-of-reads.Learnt,
+  upper-part-below t,
+  upper-part.Post,
+  lower-part-below t,
+  lower-part.Post,
+  link-of-reads.Asked,
+  link-of-reads.Learnt,
+  count-of-reads.Asked,
+  count-of-reads.Learnt,
+  store-right-reads.Asked,
+  store-right-reads.Learnt,
+  with-count-reads.Asked,
+  with-count-reads.Learnt,
+)
+
+lower-part-sub-c : (t : ℕ) → lower-part-lts.Need-sub-c (lower-part-claims t) (lower-part-at t) lower-part.Post
+lower-part-sub-c t c = search needs
+
+lower-part-left-of-requires : (t : ℕ)
+    → lower-part-lts.Need-left-of-requires (lower-part-claims t) (lower-part-at t) lower-part.Post
+lower-part-left-of-requires t c κs = let s = c .before .before in at-in readable-one (s .pre .1 .0) (s .pre .1 .2)
+
+lower-part-same-length : (t : ℕ)
+    → lower-part-lts.Need-same-length (lower-part-claims t) (lower-part-at t) lower-part.Post
+lower-part-same-length t c = refl
+
+lower-part-returns : (t : ℕ) → lower-part-lts.Need-returns (lower-part-claims t) (lower-part-at t) lower-part.Post
+lower-part-returns t c =
+    let s = c .before .before .before .before in
+    let none = c .if1 .taken in
+    left-stays readable-one (s .pre .1 .0) (parts-none readable-one (s .args .x) none) (c .before .left-of .ensures)
+    (s .pre .1 .1) (sym none)
+
+lower-part-sub-if2 : (t : ℕ) → lower-part-lts.Need-sub-if2 (lower-part-claims t) (lower-part-at t) lower-part.Post
+lower-part-sub-if2 t c = search needs
+
+lower-part-lower-part-requires : (t : ℕ)
+    → lower-part-lts.Need-lower-part-requires (lower-part-claims t) (lower-part-at t) lower-part.Post
+lower-part-lower-part-requires t c κs =
+    let b3 = c .before .before .before in
+    let s = b3 .before .before .before in
+    let (less, down) = down-left readable-one (s .pre .1 .0) (b3 .left-of .ensures) (s .pre .1 .2) in
+    (falls-below (s .pre .0) less, (c .before .before .if1 .left, c .before .if2 .taken, down))
+
+lower-part-same-length-2 : (t : ℕ)
+    → lower-part-lts.Need-same-length-2 (lower-part-claims t) (lower-part-at t) lower-part.Post
+lower-part-same-length-2 t c = c .before .before .lower-part .kept .0
+
+lower-part-returns-2 : (t : ℕ) → lower-part-lts.Need-returns-2 (lower-part-claims t) (lower-part-at t) lower-part.Post
+lower-part-returns-2 t c =
+    let b2 = c .before .before in
+    let b6 = b2 .before .before .before .before in
+    let s = b6 .before .before .before in
+    left-stays readable-one (s .pre .1 .0) (b2 .lower-part .ensures) (b6 .left-of .ensures) (s .pre .1 .1) refl
+
+lower-part-upper-part-requires : (t : ℕ)
+    → lower-part-lts.Need-upper-part-requires (lower-part-claims t) (lower-part-at t) lower-part.Post
+lower-part-upper-part-requires t c κs =
+    let b3 = c .before .before .before in
+    let s = b3 .before .before .before in
+    let (less, down) = down-left readable-one (s .pre .1 .0) (b3 .left-of .ensures) (s .pre .1 .2) in
+    (falls-below (s .pre .0) less, (c .before .before .if1 .left, c .before .if2 .left, down))
+
+lower-part-link-of-requires : (t : ℕ)
+    → lower-part-lts.Need-link-of-requires (lower-part-claims t) (lower-part-at t) lower-part.Post
+lower-part-link-of-requires t c κs = search needs
+
+lower-part-count-of-requires : (t : ℕ)
+    → lower-part-lts.Need-count-of-requires (lower-part-claims t) (lower-part-at t) lower-part.Post
+lower-part-count-of-requires t c κs = search needs
+
+lower-part-store-left-requires : (t : ℕ)
+    → lower-part-lts.Need-store-left-requires (lower-part-claims t) (lower-part-at t) lower-part.Post
+lower-part-store-left-requires t c κs =
+    let b5 = c .before .before .before .before .before in
+    let b9 = b5 .before .before .before .before in
+    let s = b9 .before .before .before in
+    let made = b5 .upper-part in
+    let (less, down) = down-left readable-one (s .pre .1 .0) (b9 .left-of .ensures) (s .pre .1 .2) in
+    let small = parts-small readable-one (made .ensures) down in (
+      in-kept (formOne .cell) (made .kept .0) (at-in readable-one (s .pre .1 .0) (s .pre .1 .2)),
+      (rw (c .before .link-of .ensures) (small .1), omega (arith, c .count-of .ensures, small .2)),
+    )
+
+lower-part-with-count-requires : (t : ℕ)
+    → lower-part-lts.Need-with-count-requires (lower-part-claims t) (lower-part-at t) lower-part.Post
+lower-part-with-count-requires t c κs =
+    let b2 = c .before .before in
+    let b8 = b2 .before .before .before .before .before .before in
+    let b12 = b8 .before .before .before .before in
+    let s = b12 .before .before .before in
+    let (less, down) = down-left readable-one (s .pre .1 .0) (b12 .left-of .ensures) (s .pre .1 .2) in
+    let small = parts-small readable-one (b8 .upper-part .ensures) down in
+    (omega (arith, small .0), omega (arith, b2 .store-left .ensures .1, b2 .before .count-of .ensures, small .2))
+
+lower-part-same-length-3 : (t : ℕ)
+    → lower-part-lts.Need-same-length-3 (lower-part-claims t) (lower-part-at t) lower-part.Post
+lower-part-same-length-3 t c =
+    let b3 = c .before .before .before in
+    let b9 = b3 .before .before .before .before .before .before in
+    b3 .store-left .kept .0 ∙ b9 .upper-part .kept .0
+
+lower-part-returns-3 : (t : ℕ) → lower-part-lts.Need-returns-3 (lower-part-claims t) (lower-part-at t) lower-part.Post
+lower-part-returns-3 t c =
+    let b3 = c .before .before .before in
+    let b5 = b3 .before .before in
+    let b9 = b5 .before .before .before .before in
+    let b11 = b9 .before .before in
+    let b13 = b11 .before .before in
+    let s = b13 .before .before .before in
+    let (put, more) = b3 .store-left .ensures in
+    lower-read readable-one (c .with-count .result) (c .with-count .ensures)
+    (left-turns readable-one (s .pre .1 .0) (b9 .upper-part .ensures) (b13 .left-of .ensures) (s .pre .1 .1)
+    (b11 .before .if1 .left) (b11 .if2 .left) (rw (b5 .link-of .ensures) at put)
+    (omega (arith, more, b3 .before .count-of .ensures)))
+
+upper-part-sub-c : (t : ℕ) → upper-part-lts.Need-sub-c (upper-part-claims t) (upper-part-at t) upper-part.Post
+upper-part-sub-c t c = search needs
+
+upper-part-right-of-requires : (t : ℕ)
+    → upper-part-lts.Need-right-of-requires (upper-part-claims t) (upper-part-at t) upper-part.Post
+upper-part-right-of-requires t c κs = let s = c .before .before in at-in readable-one (s .pre .1 .0) (s .pre .1 .2)
+
+upper-part-same-length : (t : ℕ)
+    → upper-part-lts.Need-same-length (upper-part-claims t) (upper-part-at t) upper-part.Post
+upper-part-same-length t c = refl
+
+upper-part-returns : (t : ℕ) → upper-part-lts.Need-returns (upper-part-claims t) (upper-part-at t) upper-part.Post
+upper-part-returns t c =
+    let s = c .before .before .before .before in
+    let none = c .if1 .taken in
+    right-stays readable-one (s .pre .1 .0) (parts-none readable-one (s .args .x) none) (c .before .right-of .ensures)
+    (s .pre .1 .1) (sym none)
+
+upper-part-sub-if2 : (t : ℕ) → upper-part-lts.Need-sub-if2 (upper-part-claims t) (upper-part-at t) upper-part.Post
+upper-part-sub-if2 t c = search needs
+
+upper-part-upper-part-requires : (t : ℕ)
+    → upper-part-lts.Need-upper-part-requires (upper-part-claims t) (upper-part-at t) upper-part.Post
+upper-part-upper-part-requires t c κs =
+    let b3 = c .before .before .before in
+    let s = b3 .before .before .before in
+    let (less, down) = down-right readable-one (s .pre .1 .0) (b3 .right-of .ensures) (s .pre .1 .2) in
+    (falls-below (s .pre .0) less, (c .before .before .if1 .left, c .before .if2 .taken, down))
+
+upper-part-same-length-2 : (t : ℕ)
+    → upper-part-lts.Need-same-length-2 (upper-part-claims t) (upper-part-at t) upper-part.Post
+upper-part-same-length-2 t c = c .before .before .upper-part .kept .0
+
+upper-part-returns-2 : (t : ℕ) → upper-part-lts.Need-returns-2 (upper-part-claims t) (upper-part-at t) upper-part.Post
+upper-part-returns-2 t c =
+    let b2 = c .before .before in
+    let b6 = b2 .before .before .before .before in
+    let s = b6 .before .before .before in
+    right-stays readable-one (s .pre .1 .0) (b2 .upper-part .ensures) (b6 .right-of .ensures) (s .pre .1 .1) refl
+
+upper-part-lower-part-requires : (t : ℕ)
+    → upper-part-lts.Need-lower-part-requires (upper-part-claims t) (upper-part-at t) upper-part.Post
+upper-part-lower-part-requires t c κs =
+    let b3 = c .before .before .before in
+    let s = b3 .before .before .before in
+    let (less, down) = down-right readable-one (s .pre .1 .0) (b3 .right-of .ensures) (s .pre .1 .2) in
+    (falls-below (s .pre .0) less, (c .before .before .if1 .left, c .before .if2 .left, down))
+
+upper-part-link-of-requires : (t : ℕ)
+    → upper-part-lts.Need-link-of-requires (upper-part-claims t) (upper-part-at t) upper-part.Post
+upper-part-link-of-requires t c κs = search needs
+
+upper-part-count-of-requires : (t : ℕ)
+    → upper-part-lts.Need-count-of-requires (upper-part-claims t) (upper-part-at t) upper-part.Post
+upper-part-count-of-requires t c κs = search needs
+
+upper-part-store-right-requires : (t : ℕ)
+    → upper-part-lts.Need-store-right-requires (upper-part-claims t) (upper-part-at t) upper-part.Post
+upper-part-store-right-requires t c κs =
+    let b5 = c .before .before .before .before .before in
+    let b9 = b5 .before .before .before .before in
+    let s = b9 .before .before .before in
+    let made = b5 .lower-part in
+    let (less, down) = down-right readable-one (s .pre .1 .0) (b9 .right-of .ensures) (s .pre .1 .2) in
+    let small = parts-small readable-one (made .ensures) down in (
+      in-kept (formOne .cell) (made .kept .0) (at-in readable-one (s .pre .1 .0) (s .pre .1 .2)),
+      (rw (c .before .link-of .ensures) (small .0), omega (arith, c .count-of .ensures, small .2)),
+    )
+
+upper-part-with-count-requires : (t : ℕ)
+    → upper-part-lts.Need-with-count-requires (upper-part-claims t) (upper-part-at t) upper-part.Post
+upper-part-with-count-requires t c κs =
+    let b2 = c .before .before in
+    let b8 = b2 .before .before .before .before .before .before in
+    let b12 = b8 .before .before .before .before in
+    let s = b12 .before .before .before in
+    let (less, down) = down-right readable-one (s .pre .1 .0) (b12 .right-of .ensures) (s .pre .1 .2) in
+    let small = parts-small readable-one (b8 .lower-part .ensures) down in
+    (omega (arith, small .1), omega (arith, b2 .store-right .ensures .1, b2 .before .count-of .ensures, small .2))
+
+upper-part-same-length-3 : (t : ℕ)
+    → upper-part-lts.Need-same-length-3 (upper-part-claims t) (upper-part-at t) upper-part.Post
+upper-part-same-length-3 t c =
+    let b3 = c .before .before .before in
+    let b9 = b3 .before .before .before .before .before .before in
+    b3 .store-right .kept .0 ∙ b9 .lower-part .kept .0
+
+upper-part-returns-3 : (t : ℕ) → upper-part-lts.Need-returns-3 (upper-part-claims t) (upper-part-at t) upper-part.Post
+upper-part-returns-3 t c =
+    let b3 = c .before .before .before in
+    let b5 = b3 .before .before in
+    let b9 = b5 .before .before .before .before in
+    let b11 = b9 .before .before in
+    let b13 = b11 .before .before in
+    let s = b13 .before .before .before in
+    let (put, more) = b3 .store-right .ensures in
+    upper-read readable-one (c .with-count .result) (c .with-count .ensures)
+    (right-turns readable-one (s .pre .1 .0) (b9 .lower-part .ensures) (b13 .right-of .ensures) (s .pre .1 .1)
+    (b11 .before .if1 .left) (b11 .if2 .left) (rw (b5 .link-of .ensures) at put)
+    (omega (arith, more, b3 .before .count-of .ensures)))
+
+pub +lower-part+upper-part-spec : {M : Type 1} → statement M
++lower-part+upper-part-spec =
+    close μ-lower-part μ-upper-part (λ t. lower-part-lts.spec (lower-part-claims t) (lower-part-at t) lower-part.Post
+    (lower-part-sub-c t)
+    (lower-part-left-of-requires t)
+    (lower-part-same-length t)
+    (lower-part-returns t)
+    (lower-part-sub-if2 t)
+    (lower-part-lower-part-requires t)
+    (lower-part-same-length-2 t)
+    (lower-part-returns-2 t)
+    (lower-part-upper-part-requires t)
+    (lower-part-link-of-requires t)
+    (lower-part-count-of-requires t)
+    (lower-part-store-left-requires t)
+    (lower-part-with-count-requires t)
+    (lower-part-same-length-3 t)
+    (lower-part-returns-3 t))
+    λ t. upper-part-lts.spec (upper-part-claims t) (upper-part-at t) upper-part.Post
+    (upper-part-sub-c t)
+    (upper-part-right-of-requires t)
+    (upper-part-same-length t)
+    (upper-part-returns t)
+    (upper-part-sub-if2 t)
+    (upper-part-upper-part-requires t)
+    (upper-part-same-length-2 t)
+    (upper-part-returns-2 t)
+    (upper-part-lower-part-requires t)
+    (upper-part-link-of-requires t)
+    (upper-part-count-of-requires t)
+    (upper-part-store-right-requires t)
+    (upper-part-with-count-requires t)
+    (upper-part-same-length-3 t)
+    (upper-part-returns-3 t)

@@ -132,9 +132,11 @@ pub fn reindex(
     end: usize,
     y: usize,
 )
-    requires { ⌜ ((b : ℕ → ℤ) × (c : ℕ → ℤ) × Touched b c (now v) (now t) (segments .count) (segments .size) a p e end y) ⌝ }
+    requires { ⌜ ((b : ℕ → ℤ) × (c : ℕ → ℤ)
+        × Touched b c (now v) (now t) (segments .count) (segments .size) a p e end y) ⌝ }
     ensures { λ _. ⌜
-        ((b : ℕ → ℤ) → (c : ℕ → ℤ) → Touched b c (now (v .entry)) (now (t .entry)) (segments .count) (segments .size) a p e end y
+        ((b : ℕ → ℤ) → (c : ℕ → ℤ)
+        → Touched b c (now (v .entry)) (now (t .entry)) (segments .count) (segments .size) a p e end y
         → now (t .exit) ≡ indexOf c (length (now (v .entry))) (segments .count))
         ⌝ }
 {
@@ -152,9 +154,11 @@ pub fn reindex(
 // The same after a grant, with less to ask: it changes only the control word at p and, where y words of the free run
 // are left, the one at e. p's segment is scanned, and e's from e on if it is another one.
 pub fn reindex_grant(v: &[i32], t: &mut [u32], segments: Segments, p: usize, e: usize, y: usize)
-    requires { ⌜ ((b : ℕ → ℤ) × (c : ℕ → ℤ) × Touched b c (now v) (now t) (segments .count) (segments .size) p p e e y) ⌝ }
+    requires { ⌜ ((b : ℕ → ℤ) × (c : ℕ → ℤ)
+        × Touched b c (now v) (now t) (segments .count) (segments .size) p p e e y) ⌝ }
     ensures { λ _. ⌜
-        ((b : ℕ → ℤ) → (c : ℕ → ℤ) → Touched b c (now (v .entry)) (now (t .entry)) (segments .count) (segments .size) p p e e y
+        ((b : ℕ → ℤ) → (c : ℕ → ℤ)
+        → Touched b c (now (v .entry)) (now (t .entry)) (segments .count) (segments .size) p p e e y
         → now (t .exit) ≡ indexOf c (length (now (v .entry))) (segments .count))
         ⌝ }
 {

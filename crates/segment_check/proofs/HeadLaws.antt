@@ -189,7 +189,7 @@ tiles-right v next t map seen m held free′ after H L exact =
     (good, arena-partitioned v next t good (L .runs) (all-slots (heldRight v) t ∙ H .right) runs (L .words))
 
 -- and the index is theirs, if the words above the segments' are right too
-pub tiles-stored : (v : List ℤ) (next : ℕ) (t x map seen : Words) (m held free′ s g : ℕ) → Measured v x s g
+pub tiles-stored : (v : List ℤ) (next : ℕ) (t x map seen : Words) (m held free′ s g : ℕ) → Measured v t x s g
     → Headed v next t map seen m (slots t) held → Matched v map x s g free′ → free′ + held ≡ length v → (b : Bool)
     → b ≡ treeRight x s → b ≡ true → Shown next v t x s
 tiles-stored v next t x map seen m held free′ s g Z H M exact b is ok =
@@ -199,13 +199,14 @@ tiles-stored v next t x map seen m held free′ s g Z H M exact b is ok =
     let segments = every (segmentRight c (length v) s x) 0 s in (
       good,
       arena,
-      index-stored v x s g Z L next good arena .0
-          (and-i (treeRight x s) segments (sym is ∙ ok) (M .right c (stored-ground v x s g Z L next good arena))),
+      index-stored v x s g (Z .sizes) L next good arena (Z .long) .0
+          (and-i (treeRight x s) segments (sym is ∙ ok)
+          (M .right c (stored-ground v x s g (Z .sizes) L next good arena))),
     )
 
 -- ---- the other way: a pool that is stored passes
 
-module _ (v : List ℤ) (next : ℕ) (t x : Words) (s g : ℕ) (Z : Measured v x s g) (P : Shown next v t x s) where
+module _ (v : List ℤ) (next : ℕ) (t x : Words) (s g : ℕ) (Z : Measured v t x s g) (P : Shown next v t x s) where
   abbrev L : Ledger
   L = recordsOf t
 
@@ -213,7 +214,7 @@ module _ (v : List ℤ) (next : ℕ) (t x : Words) (s g : ℕ) (Z : Measured v x
   c = controls L (length v)
 
   index-right : (treeRight x s && every (segmentRight c (length v) s x) 0 s) ≡ true
-  index-right = index-stored v x s g Z L next (P .0) (P .1) .1 (P .2)
+  index-right = index-stored v x s g (Z .sizes) L next (P .0) (P .1) (Z .long) .1 (P .2)
 
   pub stored-good : (i : ℕ) → i < slots t → Good v next t i
   stored-good = arena-good v next t (P .0) (P .1)
@@ -235,6 +236,6 @@ module _ (v : List ℤ) (next : ℕ) (t x : Words) (s g : ℕ) (Z : Measured v x
     stored-exact free′ lays =
         ap (λ n. n + held)
         (lays c (passing (free segmentRule L)) (arena-kept v next t (P .0) (P .1) map (H .sets)) refl
-        (stored-ground v x s g Z L next (P .0) (P .1))
+        (stored-ground v x s g (Z .sizes) L next (P .0) (P .1))
         (and-r (treeRight x s) (every (segmentRight c (length v) s x) 0 s) index-right))
         ∙ count

@@ -19,10 +19,10 @@ use Rattle.segment_cores.proofs.ChangeLaws.{controls, index-view, stored-blocks
 use Rattle.segment_index.specs.Index.{indexOf, Agree}
 use Rattle.segment_index.specs.Tree.{Heap}
 use Rattle.segment_index.proofs.IndexLaws.{index-is, index-zero, index-heap, index-agrees}
-use Rattle.segment_blocks.specs.Upkeep.{Ground}
+use Rattle.segment_blocks.specs.Upkeep.{Sizes, Ground}
 use Rattle.segment_blocks.proofs.UpkeepLaws.{sizes-some}
 use Rattle.words.specs.Flags.{Says}
-use Rattle.segment_check.specs.Right.{nodeRight, treeRight, segmentRight, Measured}
+use Rattle.segment_check.specs.Right.{nodeRight, treeRight, segmentRight}
 
 -- a segment's test
 segment-from : (c : ℕ → ℤ) (W s : ℕ) (t : Words) (k : ℕ) → segmentRight c W s t k ≡ true → Agree c W s t k
@@ -86,17 +86,18 @@ module _ (v : List ℤ) (c : ℕ → ℤ) (s g : ℕ) (t : Words) (G : Ground v 
           agrees e k l = rw e (index-agrees c W s k l)
 
 -- where the arena is the stored form of a valid ledger, its blocks are the ledger's, and so is their index
-module _ (v : List ℤ) (t : Words) (s g : ℕ) (Z : Measured v t s g) (L : Ledger) (next : ℕ)
+module _ (v : List ℤ) (t : Words) (s g : ℕ) (Z : Sizes (length v) s g) (L : Ledger) (next : ℕ)
     (good : valid segmentRule (length v) next L ≡ true) (arena : v ≡ arenaOf L v) where
   abbrev c : ℕ → ℤ
   c = controls L (length v)
 
   pub stored-ground : Ground v c s g
-  stored-ground = record { sizes = Z .sizes; blocks = stored-blocks next L v good v v refl arena }
+  stored-ground = record { sizes = Z; blocks = stored-blocks next L v good v v refl arena }
 
-  pub index-stored : Says (treeRight t s && every (segmentRight c (length v) s t) 0 s) (t ≡ segmentIndex s (length v) L)
-  index-stored =
-      let says = index-says v c s g t stored-ground (Z .long) in (
+  pub index-stored : length t ≡ 3 * s
+      → Says (treeRight t s && every (segmentRight c (length v) s t) 0 s) (t ≡ segmentIndex s (length v) L)
+  index-stored long =
+      let says = index-says v c s g t stored-ground long in (
         (λ h. says .0 h ∙ sym (index-view s (length v) L)),
         (λ q. says .1 (q ∙ index-view s (length v) L)),
       )

@@ -15,11 +15,11 @@ use Rattle.words.proofs.Tests.{and-l, and-r, and-i, or-l, or-r, not-false, eqb-
 use Rattle.stored_forms.specs.Segments.{largest}
 use Rattle.stored_forms.proofs.SegmentLaws.{segment-size}
 use Rattle.record_table.proofs.PairLaws.{every-last}
-use Rattle.segment_blocks.specs.Upkeep.{Ground, firstFrom}
+use Rattle.segment_blocks.specs.Upkeep.{Sizes, Ground, firstFrom}
 use Rattle.segment_blocks.proofs.ScanLaws.{come-start, come-end}
 use Rattle.segment_blocks.proofs.BuildLaws.{Passing, pass-start, pass-facing, pass-on}
 use Rattle.segment_blocks.proofs.UpkeepLaws.{sizes-some, leaf-right, first-right}
-use Rattle.segment_check.specs.Right.{Measured, twoRight, segmentRight}
+use Rattle.segment_check.specs.Right.{twoRight, segmentRight}
 use Rattle.segment_check.specs.Laid.{Laid, Strip, Matched}
 use Rattle.segment_check.proofs.LaidLaws.{laid-start}
 
@@ -145,7 +145,7 @@ module _ (v : List ℤ) (map t : Words) (s g : ℕ) where
   }
 
   -- after the last segment no word is left
-  pub match-whole : Measured v t s g → (k at free : ℕ) (after : Bool) → Matching v map t s g k at free after → k ≡ s
+  pub match-whole : Sizes (length v) s g → (k at free : ℕ) (after : Bool) → Matching v map t s g k at free after → k ≡ s
       → at ≡ length v
   match-whole Z k at free after M e = omega (arith, M .inside, high, reach)
     where
@@ -154,10 +154,10 @@ module _ (v : List ℤ) (map t : Words) (s g : ℕ) where
 
       reach : length v ≤ s * g
       reach =
-          subst (λ n. length v ≤ s * n) (sym (Z .sizes .each))
-          (segment-size (length v) s (sizes-some (length v) s g (Z .sizes)) .0)
+          subst (λ n. length v ≤ s * n) (sym (Z .each))
+          (segment-size (length v) s (sizes-some (length v) s g Z) .0)
 
-  pub match-end : Measured v t s g → (k at free : ℕ) (after : Bool) → Matching v map t s g k at free after → k ≡ s
+  pub match-end : Sizes (length v) s g → (k at free : ℕ) (after : Bool) → Matching v map t s g k at free after → k ≡ s
       → Matched v map t s g free
   match-end Z k at free after M e = record {
     after = after;

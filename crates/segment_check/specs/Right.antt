@@ -1,6 +1,6 @@
 -- What the check of the segment pool compares: control words of records and of free runs, and the words of the index.
 -- Assumes nothing.
-use Prim.Native.Nat.{ℕ, _+_, _-_, _*_, max}
+use Prim.Native.Nat.{ℕ, _+_, _-_, _*_, _≤_, max}
 use mathlib.Core.Bool.{Bool, _&&_, _||_}
 use mathlib.Core.List.{List}
 use mathlib.Core.Path.{_≡_}
@@ -10,7 +10,7 @@ use lib.ListN.{length, getD}
 use Rattle.words.specs.Counted.{every}
 use Rattle.words.specs.Lists.{Words}
 use Rattle.words.specs.Signed.{zeroAtZ}
-use Rattle.ledger.specs.Records.{isEmpty}
+use Rattle.ledger.specs.Records.{isEmpty, slots}
 use Rattle.ledger.specs.declared.Row.{Row}
 use Rattle.stored_forms.specs.Segments.{segmentSize, largest, firstBlock}
 use Rattle.segment_index.specs.Control.{freeSize}
@@ -50,6 +50,7 @@ segmentRight c W s t k =
     (firstBlock c W (k * segmentSize W s) (segmentSize W s))
 
 -- the lengths under which the pool is checked
-pub record Measured (v : List ℤ) (t : Words) (s g : ℕ) : Type 0 where
+pub record Measured (v : List ℤ) (t x : Words) (s g : ℕ) : Type 0 where
   pub sizes : Sizes (length v) s g
-  pub long : length t ≡ 3 * s
+  pub few : slots t ≤ 256
+  pub long : length x ≡ 3 * s

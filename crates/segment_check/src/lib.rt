@@ -21,6 +21,7 @@ ghost use Rattle.words.specs.Counted.{every};
 ghost use Rattle.words.specs.Flags.{Says};
 ghost use Rattle.ledger.specs.Records.{slots};
 ghost use Rattle.segment_index.specs.Control.{freeSize};
+ghost use Rattle.segment_blocks.specs.Upkeep.{Sizes};
 ghost use Rattle.segment_check.specs.Right.{Measured, nodeRight, treeRight};
 ghost use Rattle.record_table.specs.Partition.{Noted};
 ghost use Rattle.segment_check.specs.BitMaps.{bitAt};
@@ -145,9 +146,11 @@ fn lay(v: &[i32], map: &[u64], from: usize, hi: usize, free: usize, after: bool)
 // two free ones do, or the index has another leaf or first block for a segment. One pass does both, since each block
 // that is passed costs a wait for its control word.
 fn lay_all(v: &[i32], map: &[u64], t: &[u32], segments: Segments) -> usize
-    requires { ⌜ Measured (now v) (now t) (segments .count) (segments .size) × (length (now v) ≤ 64 * length (now map)) ⌝ }
+    requires { ⌜ Sizes (length (now v)) (segments .count) (segments .size) × (length (now t) ≡ 3 * segments .count)
+        × (length (now v) ≤ 64 * length (now map)) ⌝ }
     ensures { λ r. ⌜
-        (r ≤ length (now (v .entry)) → Matched (now (v .entry)) (now (map .entry)) (now (t .entry)) (segments .count) (segments .size) r)
+        (r ≤ length (now (v .entry))
+        → Matched (now (v .entry)) (now (map .entry)) (now (t .entry)) (segments .count) (segments .size) r)
         × LaysAll (now (v .entry)) (now (map .entry)) (now (t .entry)) (segments .count) (segments .size) r
         ⌝ }
 {
@@ -294,9 +297,11 @@ fn is_shown_over(
     seen: &mut [u8],
     m: usize,
 ) -> bool
-    requires { ⌜ Measured (now arena) (now index) (segments .count) (segments .size) × (length (now arena) ≤ 64 * length (now map)) × (0 < m)
-        × (length (now seen) ≡ m) × (all isZero (now map) ≡ true) × (slots (now table) ≤ 256) ⌝ }
-    ensures { λ r. ⌜ Says r (Shown next (now (arena .entry)) (now (table .entry)) (now (index .entry)) (segments .count)) ⌝ }
+    requires { ⌜ Measured (now arena) (now table) (now index) (segments .count) (segments .size) ⌝ }
+    requires { ⌜ (length (now arena) ≤ 64 * length (now map)) × (all isZero (now map) ≡ true) × (0 < m)
+        × (length (now seen) ≡ m) ⌝ }
+    ensures { λ r. ⌜ Says r
+        (Shown next (now (arena .entry)) (now (table .entry)) (now (index .entry)) (segments .count)) ⌝ }
 {
     let words = arena.len();
     let held = map_rows(&*arena, next, &*table, &mut *map, &mut *seen, m);
@@ -314,56 +319,6 @@ fn is_shown_over(
 }
 
 // The residues and the map are wiped whole, so that few slots get few, and a small pool a small one.
-fn is_shown_few(
-    next: u32,
-    arena: &[i32],
-    table: &[u32],
-    index: &[u32],
-    segments: Segments,
-    map: &mut [u64],
-) -> bool
-    requires { ⌜ Measured (now arena) (now index) (segments .count) (segments .size) × (length (now arena) ≤ 64 * length (now map))
-        × (all isZero (now map) ≡ true) × (slots (now table) ≤ 256) ⌝ }
-    ensures { λ r. ⌜ Says r (Shown next (now (arena .entry)) (now (table .entry)) (now (index .entry)) (segments .count)) ⌝ }
-{
-    let mut seen: [u8; 128] = [0; 128];
-    is_shown_over(
-        next,
-        &*arena,
-        &*table,
-        &*index,
-        segments,
-        &mut *map,
-        &mut seen,
-        128,
-    )
-}
-
-fn is_shown_many(
-    next: u32,
-    arena: &[i32],
-    table: &[u32],
-    index: &[u32],
-    segments: Segments,
-    map: &mut [u64],
-) -> bool
-    requires { ⌜ Measured (now arena) (now index) (segments .count) (segments .size) × (length (now arena) ≤ 64 * length (now map))
-        × (all isZero (now map) ≡ true) × (slots (now table) ≤ 256) ⌝ }
-    ensures { λ r. ⌜ Says r (Shown next (now (arena .entry)) (now (table .entry)) (now (index .entry)) (segments .count)) ⌝ }
-{
-    let mut seen: [u8; 2048] = [0; 2048];
-    is_shown_over(
-        next,
-        &*arena,
-        &*table,
-        &*index,
-        segments,
-        &mut *map,
-        &mut seen,
-        2048,
-    )
-}
-
 fn is_shown_by(
     next: u32,
     arena: &[i32],
@@ -372,68 +327,51 @@ fn is_shown_by(
     segments: Segments,
     map: &mut [u64],
 ) -> bool
-    requires { ⌜ Measured (now arena) (now index) (segments .count) (segments .size) × (length (now arena) ≤ 64 * length (now map))
-        × (all isZero (now map) ≡ true) × (slots (now table) ≤ 256) ⌝ }
-    ensures { λ r. ⌜ Says r (Shown next (now (arena .entry)) (now (table .entry)) (now (index .entry)) (segments .count)) ⌝ }
+    requires { ⌜ Measured (now arena) (now table) (now index) (segments .count) (segments .size)
+        × (length (now arena) ≤ 64 * length (now map)) × (all isZero (now map) ≡ true) ⌝ }
+    ensures { λ r. ⌜ Says r
+        (Shown next (now (arena .entry)) (now (table .entry)) (now (index .entry)) (segments .count)) ⌝ }
 {
     if table.len() / 3 <= 16 {
-        return is_shown_few(next, &*arena, &*table, &*index, segments, &mut *map);
+        let mut few: [u8; 128] = [0; 128];
+        return is_shown_over(
+            next,
+            &*arena,
+            &*table,
+            &*index,
+            segments,
+            &mut *map,
+            &mut few,
+            128,
+        );
     }
-    is_shown_many(next, &*arena, &*table, &*index, segments, &mut *map)
-}
-
-fn is_shown_small(
-    next: u32,
-    arena: &[i32],
-    table: &[u32],
-    index: &[u32],
-    segments: Segments,
-) -> bool
-    requires { ⌜ Measured (now arena) (now index) (segments .count) (segments .size) × (length (now arena) ≤ 128) × (slots (now table) ≤ 256) ⌝ }
-    ensures { λ r. ⌜ Says r (Shown next (now (arena .entry)) (now (table .entry)) (now (index .entry)) (segments .count)) ⌝ }
-{
-    let mut map: [u64; 2] = [0; 2];
-    is_shown_by(next, &*arena, &*table, &*index, segments, &mut map)
-}
-
-fn is_shown_middle(
-    next: u32,
-    arena: &[i32],
-    table: &[u32],
-    index: &[u32],
-    segments: Segments,
-) -> bool
-    requires { ⌜ Measured (now arena) (now index) (segments .count) (segments .size) × (length (now arena) ≤ 2048) × (slots (now table) ≤ 256) ⌝ }
-    ensures { λ r. ⌜ Says r (Shown next (now (arena .entry)) (now (table .entry)) (now (index .entry)) (segments .count)) ⌝ }
-{
-    let mut map: [u64; 32] = [0; 32];
-    is_shown_by(next, &*arena, &*table, &*index, segments, &mut map)
-}
-
-fn is_shown_large(
-    next: u32,
-    arena: &[i32],
-    table: &[u32],
-    index: &[u32],
-    segments: Segments,
-) -> bool
-    requires { ⌜ Measured (now arena) (now index) (segments .count) (segments .size) × (slots (now table) ≤ 256) ⌝ }
-    ensures { λ r. ⌜ Says r (Shown next (now (arena .entry)) (now (table .entry)) (now (index .entry)) (segments .count)) ⌝ }
-{
-    let mut map: [u64; 256] = [0; 256];
-    is_shown_by(next, &*arena, &*table, &*index, segments, &mut map)
+    let mut many: [u8; 2048] = [0; 2048];
+    is_shown_over(
+        next,
+        &*arena,
+        &*table,
+        &*index,
+        segments,
+        &mut *map,
+        &mut many,
+        2048,
+    )
 }
 
 // Whether the table holds a valid ledger, and arena and index are its stored form.
 pub fn is_shown(next: u32, arena: &[i32], table: &[u32], index: &[u32], segments: Segments) -> bool
-    requires { ⌜ Measured (now arena) (now index) (segments .count) (segments .size) × (slots (now table) ≤ 256) ⌝ }
-    ensures { λ r. ⌜ Says r (Shown next (now (arena .entry)) (now (table .entry)) (now (index .entry)) (segments .count)) ⌝ }
+    requires { ⌜ Measured (now arena) (now table) (now index) (segments .count) (segments .size) ⌝ }
+    ensures { λ r. ⌜ Says r
+        (Shown next (now (arena .entry)) (now (table .entry)) (now (index .entry)) (segments .count)) ⌝ }
 {
     if arena.len() <= 128 {
-        return is_shown_small(next, &*arena, &*table, &*index, segments);
+        let mut small: [u64; 2] = [0; 2];
+        return is_shown_by(next, &*arena, &*table, &*index, segments, &mut small);
     }
     if arena.len() <= 2048 {
-        return is_shown_middle(next, &*arena, &*table, &*index, segments);
+        let mut middle: [u64; 32] = [0; 32];
+        return is_shown_by(next, &*arena, &*table, &*index, segments, &mut middle);
     }
-    is_shown_large(next, &*arena, &*table, &*index, segments)
+    let mut large: [u64; 256] = [0; 256];
+    is_shown_by(next, &*arena, &*table, &*index, segments, &mut large)
 }

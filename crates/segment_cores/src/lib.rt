@@ -64,7 +64,8 @@ fn put_rest(v: &mut [i32], at: usize, y: usize)
 pub fn allot(v: &mut [i32], t: &mut [u32], segments: Segments, p: usize, n: usize)
     requires { ⌜ ((L : Ledger) × (M : Ledger) × Granting L M (now v) (now t) (segments .count) (segments .size) p n) ⌝ }
     ensures { λ _. ⌜
-        ((L : Ledger) → (M : Ledger) → Granting L M (now (v .entry)) (now (t .entry)) (segments .count) (segments .size) p n
+        ((L : Ledger) → (M : Ledger)
+        → Granting L M (now (v .entry)) (now (t .entry)) (segments .count) (segments .size) p n
         → Becomes M (wiped (pos 0) (p + 1) (p + n) (now (v .entry))) (segments .count) (now (v .exit)) (now (t .exit)))
         ⌝ }
 {
@@ -87,7 +88,10 @@ fn free_above(v: &[i32], at: usize) -> usize
 // A block that begins below p: the first of p's segment, or of the last segment before it in which a block begins.
 fn begun_before(t: &[u32], segments: Segments, p: usize) -> usize
     requires { ⌜ ((c : ℕ → ℤ) × (W : ℕ) × Seat c W (now t) (segments .count) (segments .log) (segments .size) p) ⌝ }
-    ensures { λ r. ⌜ ((c : ℕ → ℤ) → (W : ℕ) → Seat c W (now (t .entry)) (segments .count) (segments .log) (segments .size) p → Begun c p r) ⌝ }
+    ensures { λ r. ⌜
+        ((c : ℕ → ℤ) → (W : ℕ) → Seat c W (now (t .entry)) (segments .count) (segments .log) (segments .size) p
+        → Begun c p r)
+        ⌝ }
 {
     let s = segments.count;
     let d = segments.log;
@@ -105,7 +109,9 @@ fn begun_before(t: &[u32], segments: Segments, p: usize) -> usize
 fn free_below(v: &[i32], t: &[u32], segments: Segments, p: usize) -> usize
     requires { ⌜ ((L : Ledger) × Sitting L (now v) (now t) (segments .count) (segments .log) (segments .size) p) ⌝ }
     ensures { λ r. ⌜
-        ((L : Ledger) → Sitting L (now (v .entry)) (now (t .entry)) (segments .count) (segments .log) (segments .size) p → Beneath (free segmentRule L) p r)
+        ((L : Ledger)
+        → Sitting L (now (v .entry)) (now (t .entry)) (segments .count) (segments .log) (segments .size) p
+        → Beneath (free segmentRule L) p r)
         ⌝ }
 {
     if p == 0 {
@@ -136,9 +142,11 @@ fn merge(v: &mut [i32], p: usize, n: usize, x: usize, y: usize)
 
 // The block at p, of n words, is released, and coalesced with the free blocks beside it.
 pub fn release(v: &mut [i32], t: &mut [u32], segments: Segments, p: usize, n: usize)
-    requires { ⌜ ((L : Ledger) × (M : Ledger) × Releasing L M (now v) (now t) (segments .count) (segments .log) (segments .size) p n) ⌝ }
+    requires { ⌜ ((L : Ledger) × (M : Ledger)
+        × Releasing L M (now v) (now t) (segments .count) (segments .log) (segments .size) p n) ⌝ }
     ensures { λ _. ⌜
-        ((L : Ledger) → (M : Ledger) → Releasing L M (now (v .entry)) (now (t .entry)) (segments .count) (segments .log) (segments .size) p n
+        ((L : Ledger) → (M : Ledger)
+        → Releasing L M (now (v .entry)) (now (t .entry)) (segments .count) (segments .log) (segments .size) p n
         → Becomes M (now (v .entry)) (segments .count) (now (v .exit)) (now (t .exit)))
         ⌝ }
 {

@@ -72,8 +72,8 @@ module _ {S : ℕ} {v : List ℤ} {t x : Words} (fit : InRange S v t x) {r : Seg
     each = d .size ∙ ap (segmentSize (length v)) (sym (d .count));
   }
 
-  pub measured : Measured v x (r .count) (r .size)
-  measured = record { sizes = sized; long = fit .indexed ∙ ap (λ (s : ℕ). 3 * s) (sym (d .count)) }
+  pub measured : Measured v t x (r .count) (r .size)
+  measured = record { sizes = sized; few = fit .few; long = fit .indexed ∙ ap (λ (s : ℕ). 3 * s) (sym (d .count)) }
 
 -- ---- the words
 

@@ -30,7 +30,7 @@ headed d P =
     let s = d .before .before .before .before .before .before .before in
     let a = s .args in
     d .map-rows .ensures .1
-    (stored-good (now (a .arena)) (a .next) (now (a .table)) (now (a .index)) (a .segments .count) (a .segments .size) (s .pre .0) P)
+    (stored-good (now (a .arena)) (a .next) (now (a .table)) (now (a .index)) _ _ (s .pre .0) P)
 
 -- and the blocks that are laid
 exact : (c : tie.After-lay-all) → (let a = start c .args in
@@ -40,7 +40,7 @@ exact c P =
     let d = entered c in
     let s = start c in
     let a = s .args in
-    stored-exact (now (a .arena)) (a .next) (now (a .table)) (now (a .index)) (a .segments .count) (a .segments .size) (s .pre .0) P
+    stored-exact (now (a .arena)) (a .next) (now (a .table)) (now (a .index)) _ _ (s .pre .0) P
     (d .map-rows .last .1 .1 .1 .0) (d .map-rows .last .1 .1 .1 .1 .0) (a .m) (d .map-rows .result) (headed d P)
     (c .lay-all .result) (c .lay-all .ensures .1)
 
@@ -61,7 +61,7 @@ returns c =
       λ e. absurd (false≢true e),
       λ P. absurd (omega (
         arith,
-        stored-held (now (a .arena)) (a .next) (now (a .table)) (now (a .index)) (a .segments .count) (a .segments .size) (s .pre .0) P
+        stored-held (now (a .arena)) (a .next) (now (a .table)) (now (a .index)) _ _ (s .pre .0) P
             (d .map-rows .last .1 .1 .1 .0) (d .map-rows .last .1 .1 .1 .1 .0) (a .m) (d .map-rows .result)
             (headed d P),
       )),
@@ -110,12 +110,12 @@ returns-4 c =
     let a = s .args in
     let free = f .lay-all .result in (
       λ e. tiles-stored (now (a .arena)) (a .next) (now (a .table)) (now (a .index)) (d .map-rows .last .1 .1 .1 .0)
-          (d .map-rows .last .1 .1 .1 .1 .0) (a .m) (d .map-rows .result) free (a .segments .count) (a .segments .size) (s .pre .0)
+          (d .map-rows .last .1 .1 .1 .1 .0) (a .m) (d .map-rows .result) free _ _ (s .pre .0)
           (d .map-rows .ensures .0 (f .before .before .if1 .left))
           (f .lay-all .ensures .0 (c .before .before .if2 .left)) (c .before .if3 .left) (c .tree-right .result)
           (c .tree-right .ensures) e,
       λ P. c .tree-right .ensures
-          ∙ stored-tree (now (a .arena)) (a .next) (now (a .table)) (now (a .index)) (a .segments .count) (a .segments .size) (s .pre .0) P,
+          ∙ stored-tree (now (a .arena)) (a .next) (now (a .table)) (now (a .index)) _ _ (s .pre .0) P,
     )
 
 pub is-shown-over-spec : {M : Type 1} → statement M

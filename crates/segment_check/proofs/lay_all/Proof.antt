@@ -40,7 +40,7 @@ mul-lesser : tie.Need-mul-lesser Inv-loop μ-loop
 mul-lesser c =
     let l = c .before in
     let s = l .before .before .before in
-    omega (arith, sizes-top _ _ _ (s .pre .0 .sizes) (l .loop .k) (c .loop-test .taken))
+    omega (arith, sizes-top _ _ _ (s .pre .0) (l .loop .k) (c .loop-test .taken))
 
 lesser-requires : tie.Need-lesser-requires Inv-loop μ-loop
 lesser-requires c κs = tt
@@ -68,7 +68,7 @@ lay-requires c κs =
     let l = top .before .before in
     let s = l .before .before .before in
     let (is, upto, m, leads) = l .loop .inv in
-    (s .pre .0 .sizes .most, s .pre .1, omega (arith, top .lesser .ensures), m .inside, m .few, m .laid)
+    (s .pre .0 .most, s .pre .2, omega (arith, top .lesser .ensures), m .inside, m .few, m .laid)
 
 add-if2 : tie.Need-add-if2 Inv-loop μ-loop
 add-if2 c = omega arith
@@ -96,7 +96,7 @@ returns c =
       λ h. absurd (omega arith),
       λ f n K z G right.
           let (inside, led) = turn .lay .ensures .1 f n K (m .right f G .0 .scan) (leads f n K z G) in
-          let two = match-two (now (a .v)) (now (a .map)) (now (a .t)) (a .segments .count) (a .segments .size) (l .loop .k) (l .loop .at)
+          let two = match-two (now (a .v)) (now (a .map)) (now (a .t)) _ _ (l .loop .k) (l .loop .at)
           (l .loop .free) (top .lesser .result) (turn .lay .result .next) (turn .lay .result .free)
           (turn .lay .result .most) (l .loop .after) (turn .lay .result .after) m (t .loop-test .taken) hi
           (turn .lay .ensures .0 inside) f G right in
@@ -127,7 +127,7 @@ loop-again c =
     let hi : top .lesser .result ≡ min ((l .loop .k + 1) * a .segments .size) w = rw is at (top .lesser .ensures) in (
       is,
       omega arith,
-      match-on (now (a .v)) (now (a .map)) (now (a .t)) (a .segments .count) (a .segments .size) (l .loop .k) (l .loop .at) (l .loop .free)
+      match-on (now (a .v)) (now (a .map)) (now (a .t)) _ _ (l .loop .k) (l .loop .at) (l .loop .free)
           (top .lesser .result) (turn .lay .result .next) (turn .lay .result .free) (turn .lay .result .most)
           (l .loop .after) (turn .lay .result .after) m here hi inside (turn .lay .ensures .0 inside) right,
       λ f n K z G. turn .lay .ensures .1 f n K (m .right f G .0 .scan) (leads f n K z G) .1,
@@ -160,10 +160,11 @@ returns-2 c =
     (l .loop .after) (m .laid) (m .few) past in (
       λ h. absurd (omega arith),
       λ f n K z G right.
-          let two = match-two (now (a .v)) (now (a .map)) (now (a .t)) (a .segments .count) (a .segments .size) (l .loop .k) (l .loop .at)
+          let two = match-two (now (a .v)) (now (a .map)) (now (a .t)) _ _ (l .loop .k) (l .loop .at)
           (l .loop .free) (top .lesser .result) (l .loop .at) (l .loop .free) 0 (l .loop .after) (l .loop .after) m
           (t .loop-test .taken) hi strip f G right in
-          let no = none-two (now (a .t)) (a .segments .count) (l .loop .k) (l .loop .at) (top .lesser .result) w past two in
+          let no = none-two (now (a .t)) (a .segments .count) (l .loop .k) (l .loop .at) (top .lesser .result) w past
+          two in
           absurd (true≢false (sym (c .if3 .taken) ∙ rw is no)),
     )
 
@@ -185,12 +186,13 @@ loop-again-2 c =
     let w = length (now (a .v)) in
     let past = i .if1 .left in
     let hi : top .lesser .result ≡ min ((l .loop .k + 1) * a .segments .size) w = rw is at (top .lesser .ensures) in
-    let right = two-none (now (a .t)) (a .segments .count) (l .loop .k) (l .loop .at) (top .lesser .result) w past (c .if3 .left) in
+    let right = two-none (now (a .t)) (a .segments .count) (l .loop .k) (l .loop .at) (top .lesser .result) w past
+    (c .if3 .left) in
     let strip = strip-none (now (a .v)) (now (a .map)) (l .loop .at) (top .lesser .result) (l .loop .free)
     (l .loop .after) (m .laid) (m .few) past in (
       is,
       omega arith,
-      match-on (now (a .v)) (now (a .map)) (now (a .t)) (a .segments .count) (a .segments .size) (l .loop .k) (l .loop .at) (l .loop .free)
+      match-on (now (a .v)) (now (a .map)) (now (a .t)) _ _ (l .loop .k) (l .loop .at) (l .loop .free)
           (top .lesser .result) (l .loop .at) (l .loop .free) 0
           (l .loop .after) (l .loop .after) m here hi (m .inside) strip right,
       leads,
@@ -202,10 +204,10 @@ returns-3 c =
     let s = l .before .before .before in
     let a = s .args in
     let (is, upto, m, leads) = l .loop .inv in (
-      λ h. match-end (now (a .v)) (now (a .map)) (now (a .t)) (a .segments .count) (a .segments .size) (s .pre .0) (l .loop .k) (l .loop .at)
+      λ h. match-end (now (a .v)) (now (a .map)) (now (a .t)) _ _ (s .pre .0) (l .loop .k) (l .loop .at)
           (l .loop .free) (l .loop .after) m (omega arith),
       λ f n K z G right. leads f n K z G .count
-          ∙ ap n (match-whole (now (a .v)) (now (a .map)) (now (a .t)) (a .segments .count) (a .segments .size) (s .pre .0) (l .loop .k)
+          ∙ ap n (match-whole (now (a .v)) (now (a .map)) (now (a .t)) _ _ (s .pre .0) (l .loop .k)
           (l .loop .at) (l .loop .free) (l .loop .after) m (omega arith)),
     )
 

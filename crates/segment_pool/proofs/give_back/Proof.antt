@@ -93,7 +93,8 @@ returns c =
     let l = w .before .before .before .before .before in
     let g = l .before .before .before in
     let s = g .before .before .before .before .before .before .before in
-    let left = subst (λ (n : ℕ). Becomes (rest s) (now (s .args .arena)) n (l .release .last .0) (l .release .last .1 .0))
+    let left = subst
+    (λ (n : ℕ). Becomes (rest s) (now (s .args .arena)) n (l .release .last .0) (l .release .last .1 .0))
     (g .segments-of .ensures .count) (l .release .ensures (old s) (rest s) (released-at g)) in
     let after = release-pool (s .args .head) (s .args .s) (now (s .args .arena)) (now (s .args .table))
     (now (s .args .index)) (s .args .named) (s .args .slot) (s .pre .0) (s .pre .1)

@@ -23,8 +23,7 @@ segments-of-requires c κs = let in-range = fit (c .before .before .before) in (
 
 is-shown-requires : tie.Need-is-shown-requires
 is-shown-requires c κs =
-    let in-range = fit (c .before .before .before .before) in
-    (measured in-range (c .segments-of .ensures), in-range .few)
+    measured (fit (c .before .before .before .before)) (c .segments-of .ensures)
 
 returns : tie.Need-returns
 returns c =
@@ -32,7 +31,8 @@ returns c =
     let s = d .before .before .before .before in
     let a = s .args in
     stored-says (a .next) (fit s) (d .before .ranged .ensures) (c .is-shown .result)
-    (subst (λ (n : ℕ). Says (c .is-shown .result) (Shown (a .next) (now (a .arena)) (now (a .table)) (now (a .index)) n))
+    (subst
+    (λ (n : ℕ). Says (c .is-shown .result) (Shown (a .next) (now (a .arena)) (now (a .table)) (now (a .index)) n))
     (d .segments-of .ensures .count) (c .is-shown .ensures))
 
 pub is-stored-spec : {M : Type 1} → statement M

@@ -4,7 +4,6 @@ use Prim.Native.Nat.{ℕ, _/_, _≤_}
 use native.Mathlib.Omega.{arith}
 use mathlib.Core.Path.{_≡_, refl, sym, ap, _∙_}
 use mathlib.Core.Bool.{true, false, _||_, true≢false}
-use mathlib.Core.Option.{some}
 use lib.Dec.{eqb, ltb}
 use Rattle.words.proofs.Tests.{false-of, or-l, or-r, eqb-eq, eqb-ne, eqb-false, not-lt, of-ge}
 use Rattle.ledger.specs.declared.Rule.{Rule}

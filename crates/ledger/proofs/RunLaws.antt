@@ -12,9 +12,9 @@ use mathlib.Core.List.{List, [], _∷_, _++_}
 use mathlib.Core.Option.{some}
 use lib.Dec.{eqb, leb, ltb}
 use lib.ListN.{length}
-use Rattle.words.specs.Lists.{all, any}
+use Rattle.words.specs.Lists.{any}
 use Rattle.words.specs.Counted.{within}
-use Rattle.words.proofs.Tests.{and-l, and-r, and-map, or-l, or-r, not-true, not-false, eqb-eq, eqb-ne, eqb-false}
+use Rattle.words.proofs.Tests.{and-l, and-map, or-l, or-r, not-true, not-false, eqb-eq, eqb-ne, eqb-false}
 use Rattle.words.proofs.Tests.{le-of, of-le, lt-of, not-lt}
 use Rattle.words.proofs.Tests.{of-gt, within-in, within-low, within-high, within-of}
 use Rattle.ledger.specs.declared.Row.{Row}
@@ -44,6 +44,12 @@ in-first r rs u a b = rw (within-in (r .start) (r .start + r .size) u a b)
 
 past-first : (r : Run) (rs : List Run) (u : ℕ) → r .start + r .size ≤ u → covered (r ∷ rs) u ≡ covered rs u
 past-first r rs u a = rw (within-high (r .start) (r .start + r .size) u a)
+
+pub covered-append : (xs ys : List Run) (u : ℕ) → covered (xs ++ ys) u ≡ (covered xs u || covered ys u)
+covered-append [] ys u = refl
+covered-append (r ∷ xs) ys u =
+    let here = within (r .start) (r .start + r .size) u in
+    ap (λ b. here || b) (covered-append xs ys u) ∙ sym (or-assoc here (covered xs u) (covered ys u))
 
 -- one end is no further than the other, of two gapped lists that cover the same units
 module _ (k e : ℕ) (r q : Run) (rs qs : List Run) (g : Gapped k e (r ∷ rs)) (h : Gapped k e (q ∷ qs))
@@ -210,9 +216,6 @@ module _ (f : ℕ → Bool) (N : ℕ) where
       go u x y (no l) =
           gapped-below c N (runsFrom f c (N - c)) (gapped-at c b) u (omega arith) ∙ sym (h u x (omega arith))
 
-  pub runs-none : (k : ℕ) → k ≤ N → ((u : ℕ) → k ≤ u → u < N → f u ≡ false) → runsFrom f k (N - k) ≡ []
-  runs-none k l h = runs-unique-from f (N - k) k N (omega arith) [] tt (λ u a b. sym (h u a b))
-
   -- past the end of a run there is a gap
   gapped-after : (e : ℕ) → e ≤ N → (e < N → f e ≡ false) → Gapped (suc e) N (runsFrom f e (N - e))
   gapped-after e l h = go (decLe N e)
@@ -375,15 +378,6 @@ module _ (ρ : Rule) where
   runs-few W L = let few = runs-live W L in let live = live-few L in omega arith
 
 -- ---- the runs after a release
-
--- runs that end before s stay
-pub addRun-past : (s m : ℕ) (xs ys : List Run) → all (λ r. ltb (r .start + r .size) s) xs ≡ true
-    → addRun s m (xs ++ ys) ≡ xs ++ addRun s m ys
-addRun-past s m [] ys h = refl
-addRun-past s m (x ∷ xs) ys h =
-    let ends : Run → Bool = λ r. ltb (r .start + r .size) s in
-    rw (and-l (ends x) (all ends xs) h)
-    (ap (λ (l : List Run). x ∷ l) (addRun-past s m xs ys (and-r (ends x) (all ends xs) h)))
 
 -- no unit from s to s + m is in a run
 abbrev Clear : ℕ → ℕ → List Run → Type 0

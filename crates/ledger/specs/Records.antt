@@ -17,7 +17,7 @@ row t a w = record { ticket = t; address = a; words = w }
 abbrev pub Ledger : Type 0
 Ledger = List Row
 
--- Words to a record, and how a record lies in them. Nothing else knows.
+-- Words to a record, and how a record lies in them; every other definition goes by these.
 abbrev pub recordWords : ℕ
 recordWords = 3
 

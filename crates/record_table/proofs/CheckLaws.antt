@@ -2,7 +2,7 @@
 use Prim.Native.Nat.{ℕ, _+_, _-_, _*_, _/_, _%_, _≤_, _<_}
 use native.Mathlib.Nat.{mul-add, div-le-self, mul-div-le}
 use native.Mathlib.Omega.{arith}
-use mathlib.Core.Path.{_≡_, refl, sym, ap, _∙_}
+use mathlib.Core.Path.{_≡_, refl, sym, _∙_}
 use mathlib.Core.Logic.{_≢_}
 use mathlib.Core.Bool.{Bool, true, false, not, _&&_, _||_, or-true, true≢false}
 use lib.Dec.{eqb, leb, ltb}
@@ -17,7 +17,7 @@ use Rattle.ledger.specs.Records.{Ledger, recordAt, slots, recordsOf, isEmpty}
 use Rattle.ledger.specs.Units.{span, first, past, fits, apart, valid}
 use Rattle.ledger.proofs.UnitLaws.{Fitted, fits-facts}
 use Rattle.record_table.specs.Checks.{rowOk, differ, beside, AllInside}
-use Rattle.record_table.proofs.PairLaws.{pairs, pairs-both}
+use Rattle.record_table.proofs.PairLaws.{pairs-both}
 
 -- ---- the records by their slots
 

@@ -1,10 +1,10 @@
--- Laws of tiles: if the free tiles and the records together have as many units as the arena, the records are a valid
--- ledger and the free tiles its free runs. Assumes nothing.
+-- Laws of blocks side by side: if free blocks and records together have as many units as the arena, the records are a
+-- valid ledger and the free blocks its free runs. Assumes nothing.
 use Prim.Native.Nat.{ℕ, zero, suc, _+_, _/_, _≤_, _<_}
 use native.Mathlib.Omega.{arith}
 use native.Mathlib.Nat.{zero-add}
 use mathlib.Core.Path.{_≡_, refl, sym, ap, _∙_}
-use mathlib.Core.Bool.{Bool, true, false, cond, not, _&&_, _||_, or-assoc}
+use mathlib.Core.Bool.{Bool, true, false, cond, not, _&&_, _||_}
 use mathlib.Core.List.{List, [], _∷_, _++_}
 use Rattle.words.specs.Lists.{Words, all, pairwise}
 use Rattle.words.specs.Counted.{every, within, sumTo}
@@ -16,7 +16,7 @@ use Rattle.ledger.specs.Records.{Ledger, recordAt, slots, recordsOf, isEmpty}
 use Rattle.ledger.specs.Units.{first, past, span, apart, valid, covers, free}
 use Rattle.ledger.specs.Runs.{Run, runsFrom, freeRuns, Gapped, covered}
 use Rattle.ledger.proofs.UnitLaws.{covers-of}
-use Rattle.ledger.proofs.RunLaws.{gapped-weaken, gapped-below, runs-are, runs-unique}
+use Rattle.ledger.proofs.RunLaws.{gapped-below, runs-are, runs-unique}
 use Rattle.record_table.specs.Checks.{rowOk, differ, beside, Inside, AllInside}
 use Rattle.record_table.proofs.PairLaws.{none-of, before, pairs-back}
 use Rattle.record_table.proofs.CheckLaws.{all-slots, valid-parts, rows-inside}
@@ -27,18 +27,6 @@ use Rattle.words.proofs.SumLaws.{sum-terms, sum-range}
 use native.Mathlib.Decide.{ℕ-discrete, decLt}
 
 -- ---- runs one after another
-
-pub gapped-append : (a e b N : ℕ) (xs ys : List Run) → Gapped a e xs → suc e ≤ b → a ≤ b → e ≤ N → Gapped b N ys
-    → Gapped a N (xs ++ ys)
-gapped-append a e b N [] ys g l m k h = gapped-weaken a b N ys m h
-gapped-append a e b N (r ∷ xs) ys g l m k h =
-    (g .0, g .1, omega arith, gapped-append (suc (r .start + r .size)) e b N xs ys (g .3) l (omega arith) k h)
-
-pub covered-append : (xs ys : List Run) (u : ℕ) → covered (xs ++ ys) u ≡ (covered xs u || covered ys u)
-covered-append [] ys u = refl
-covered-append (r ∷ xs) ys u =
-    let here = within (r .start) (r .start + r .size) u in
-    ap (λ b. here || b) (covered-append xs ys u) ∙ sym (or-assoc here (covered xs u) (covered ys u))
 
 pub total-append : (xs ys : List Run) → total (xs ++ ys) ≡ total xs + total ys
 total-append [] ys = sym (zero-add (total ys))

@@ -13,7 +13,7 @@ use lib.ListN.{length, getD, set}
 use Rattle.words.specs.Lists.{Words, firstThat}
 use Rattle.words.specs.Counted.{lowest}
 use Rattle.words.proofs.Tests.{false-of, or-l, or-r, eqb-ne, eqb-false, absurd-some}
-use Rattle.words.proofs.CountedLaws.{lowest-some, lowest-none, lowest-nothing, lowest-here, lowest-next, lowest-skip}
+use Rattle.words.proofs.CountedLaws.{lowest-some, lowest-none, lowest-nothing, lowest-here, lowest-skip}
 use Rattle.words.proofs.CountedLaws.{lowest-end}
 use Rattle.ledger.specs.declared.Row.{Row}
 use Rattle.ledger.specs.declared.Rule.{Rule}
@@ -46,12 +46,6 @@ module _ (f : Row → Bool) (t : Words) where
     pub search-here : i < slots t → f (recordAt t i) ≡ true → At i ≡ found (slotThat f t)
     search-here h e =
         ap found (lowest-here (slotThat f t) (testAt f t) (slots t) i (s .left) h (ap f (record-at t i h) ∙ e))
-
-    pub search-next : i < slots t → f (recordAt t i) ≡ false → Searched f t (i + 1)
-    search-next h e = record {
-      upto = omega arith;
-      left = lowest-next (slotThat f t) (testAt f t) (slots t) i (s .left) h (ap f (record-at t i h) ∙ e);
-    }
 
     -- a block in which no slot passes
     pub search-skip : (e : ℕ) → i ≤ e → e ≤ slots t → ((j : ℕ) → i ≤ j → j < e → f (recordAt t j) ≡ false)

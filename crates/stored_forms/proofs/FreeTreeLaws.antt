@@ -13,8 +13,7 @@ use lib.ListN.{length, getD}
 use Rattle.words.specs.Lists.{Words, any}
 use Rattle.words.specs.Counted.{within}
 use Rattle.words.specs.Places.{stamp}
-use Rattle.words.proofs.Tests.{bool-iff, and-l, and-r, and-i, eqb-eq, le-of, not-true, not-false}
-use Rattle.words.proofs.Tests.{within-in, within-low, within-high}
+use Rattle.words.proofs.Tests.{bool-iff, and-i, not-true, not-false, within-in, within-low, within-high}
 use Rattle.words.proofs.ListLaws.{any-getD, any-at}
 use Rattle.words.proofs.PlaceLaws.{length-stamp, stamp-keeps, stamp-sets, stamp-is}
 use Rattle.ledger.specs.Records.{Ledger, emptyRow, isLive}
@@ -22,7 +21,7 @@ use Rattle.ledger.specs.Units.{addressAt, first, past, valid, covers, free, own
 use Rattle.ledger.specs.Runs.{Run, run, runsFrom, freeRuns, covered, Gapped}
 use Rattle.ledger.proofs.UnitLaws.{valid-at, covers-of, owned-covered}
 use Rattle.ledger.proofs.RunLaws.{gapped-weaken, runs-are}
-use Rattle.stored_forms.specs.Tree.{inorder, Form, formRule, treeRange, cellRun, freeTree, nodeWord}
+use Rattle.stored_forms.specs.Tree.{inorder, Form, formRule, cellRun, freeTree, nodeWord}
 use Rattle.stored_forms.proofs.TreeLaws.{inorder-treeOf}
 use Rattle.stored_forms.specs.Blocks.{Within, Holds, In}
 use Rattle.stored_forms.proofs.NodeLaws.{Readable, in-range, covered-in, in-covered}
@@ -68,16 +67,6 @@ module _ (p : ℕ) (some-cells : 0 < p) where
   covered-scaled (r ∷ rs) c =
       ap₂ _||_ (ap (λ e. within (r .start * p) e c) (sym (add-mul (r .start) (r .size) p))
       ∙ within-scaled (r .start) (r .start + r .size) c) (covered-scaled rs c)
-
--- ---- the range of an arena
-
-pub tree-range : (F : Form) (W : ℕ) → treeRange F W ≡ true → (F .unit ≤ W) × (W ≤ F .most) × (W % F .unit ≡ 0)
-unfolding treeRange
-tree-range F W h = (
-  le-of (F .unit) W (search (and-l, and-r)),
-  le-of W (F .most) (search (and-l, and-r)),
-  eqb-eq (W % F .unit) 0 (search (and-l, and-r)),
-)
 
 -- ---- the free tree in an arena of W words, a whole number of units
 

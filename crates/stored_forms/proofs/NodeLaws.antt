@@ -14,6 +14,7 @@ use Rattle.words.specs.Lists.{Words}
 use Rattle.words.specs.Counted.{within}
 use Rattle.words.proofs.Tests.{of-lt, of-ge, within-in, within-low, within-high, within-of}
 use Rattle.ledger.specs.Runs.{Run, covered, Gapped}
+use Rattle.ledger.proofs.RunLaws.{covered-append}
 use Rattle.ledger.proofs.RunLaws.{gapped-weaken}
 use Rattle.stored_forms.specs.Tree.{Tree, leaf, node, inorder, Form, formOne, cellWords}
 use Rattle.stored_forms.specs.Tree.{lengthAt, leftAt, rightAt, link, nodeWord}
@@ -71,12 +72,6 @@ in-range (node a q b) lo hi c w (inr (inr i)) =
     (omega arith, omega arith)
 
 -- ---- the blocks by the list of the runs
-
-covered-append : (xs ys : List Run) (c : ℕ) → covered (xs ++ ys) c ≡ (covered xs c || covered ys c)
-covered-append [] ys c = refl
-covered-append (r ∷ xs) ys c =
-    ap (λ b. within (r .start) (r .start + r .size) c || b) (covered-append xs ys c)
-    ∙ sym (or-assoc (within (r .start) (r .start + r .size) c) (covered xs c) (covered ys c))
 
 pub covered-in : (t : Tree) (c : ℕ) → covered (inorder t) c ≡ true → In c t
 covered-in leaf c e = absurd (false≢true e)

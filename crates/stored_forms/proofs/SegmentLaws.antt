@@ -389,26 +389,12 @@ module _ (W next : ℕ) (L : Ledger) (good : valid segmentRule W next L ≡ true
             let begins = and-i (isLive r) (eqb u u) (held-fits .live) (eqb-same u) in
             absurd (true≢false (sym begins ∙ not-true (beginsAt u r) (rw (here .is) at none-there)))
 
-    starts-inside : (u : ℕ) → first segmentRule r < u → u < past segmentRule r → startsAt L u ≡ 0
-    starts-inside u a b = starts-is L u ∙ go (firstThat (beginsAt u) L) refl
-      where
-        go : (o : Option Row) → firstThat (beginsAt u) L ≡ o → unitsOf o ≡ 0
-        go none e = refl
-        go (some s) e =
-            let same = one-holder u s r (begun-covered u s e) (held-covered u (omega arith) b) in
-            let at = sym (begun-first u s e) ∙ ap (first segmentRule) same in
-            absurd (omega arith)
-
     -- "negative if held"
     pub control-held : controlWord W L (first segmentRule r) ≡ negℤ (pos (span segmentRule (r .words)))
     unfolding controlWord
     control-held =
         let some-units = span-pos segmentRule (omega arith) (r .words) (held-fits .asked) in
         rw (starts-held, of-lt 0 (span segmentRule (r .words)) some-units)
-
-    pub control-inside : (u : ℕ) → first segmentRule r < u → u < past segmentRule r → controlWord W L u ≡ pos 0
-    unfolding controlWord
-    control-inside u a b = rw (starts-inside u a b, covered-held u r (held-covered u (omega arith) b))
 
   -- ---- a free run
 

@@ -6,7 +6,7 @@ use native.Mathlib.Omega.{arith}
 use mathlib.Core.Path.{_≡_, refl, sym, ap, ap₂, _∙_}
 use mathlib.Core.Bool.{Bool, true, false, cond, not, false≢true}
 use mathlib.Core.List.{List, [], _∷_, _++_, map, append-nil}
-use mathlib.Core.Option.{Option, none, some}
+use mathlib.Core.Option.{none, some}
 use lib.Dec.{leb}
 use Rattle.words.specs.Lists.{all}
 use Rattle.words.proofs.Tests.{and-l, and-r, and-i, not-true, le-of, of-le, lt-of, of-lt, not-le, of-gt, absurd-some}

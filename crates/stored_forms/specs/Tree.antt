@@ -34,6 +34,7 @@ abbrev pub inorder : Tree → List Run
 inorder leaf = []
 inorder (node a q b) = inorder a ++ q ∷ inorder b
 
+-- r is shorter than q, and r is no longer than q
 abbrev pub shorter : Run → Run → Bool
 shorter q r = ltb (r .size) (q .size)
 

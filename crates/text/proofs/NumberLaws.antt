@@ -63,9 +63,6 @@ decimal-large n h b = rw (decimal-room 8 (n / 10) (omega arith)) (decimal-step n
 pub length-small : (n : ℕ) → n < 10 → length (decimalOf n) ≡ 1
 length-small n h = ap length (decimal-small n h)
 
-pub length-large : (n : ℕ) → 10 ≤ n → n ≤ largest → length (decimalOf n) ≡ length (decimalOf (n / 10)) + 1
-length-large n h b = ap length (decimal-large n h b) ∙ length-append (decimalOf (n / 10)) ((48 + n % 10) ∷ [])
-
 -- ---- two digits at a time
 
 pub decimal-two : (n : ℕ) → 10 ≤ n → n < 100 → decimalOf n ≡ lastTwo n

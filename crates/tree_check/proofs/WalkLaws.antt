@@ -13,11 +13,12 @@ use Rattle.words.specs.Counted.{within}
 use Rattle.words.proofs.Tests.{and-l, or-l, or-r, le-of, lt-of, of-lt, within-in}
 use Rattle.words.proofs.ListLaws.{all-imp, all-append-r}
 use Rattle.ledger.specs.Runs.{Run, run, Gapped, covered}
+use Rattle.ledger.proofs.RunLaws.{covered-append}
 use Rattle.stored_forms.specs.Tree.{Tree, leaf, node, link, inorder, noLonger, formOne}
 use Rattle.stored_forms.specs.Tree.{lengthAt, leftAt, rightAt}
 use Rattle.stored_forms.proofs.NodeLaws.{readable-one, holds-reads}
 use Rattle.record_table.specs.Partition.{total}
-use Rattle.record_table.proofs.PartitionLaws.{covered-append, total-append}
+use Rattle.record_table.proofs.PartitionLaws.{total-append}
 use Rattle.tree_check.specs.Maps.{Covers}
 use Rattle.tree_check.specs.Walk.{earliest, under, Ready, Between, Placed, Found, Apart, ends, LiesAt, Passes}
 use Rattle.tree_check.proofs.LeadLaws.{leads-cover}

@@ -3,12 +3,12 @@ use Prim.Native.Nat.{ℕ, zero, suc, _+_, _-_, _≤_, _<_}
 use native.Mathlib.Nat.{sub-zero, add-zero, zero-add, add-suc, suc-add}
 use native.Mathlib.Numerals.{add-one}
 use native.Mathlib.Omega.{arith}
-use native.Mathlib.Decide.{decLt, ℕ-discrete}
-use mathlib.Core.Path.{_≡_, refl, sym, ap, ap₂, _∙_}
+use native.Mathlib.Decide.{ℕ-discrete}
+use mathlib.Core.Path.{_≡_, refl, sym, ap, _∙_}
 use mathlib.Core.Bool.{Bool, true, false, _&&_, true≢false, and-true, and-assoc}
 use mathlib.Core.Option.{Option, none, some}
 use Rattle.words.specs.Counted.{every, lowest}
-use Rattle.words.proofs.Tests.{and-l, and-r, and-i, bool-iff, false-of, absurd-some}
+use Rattle.words.proofs.Tests.{and-l, and-r, and-i, false-of, absurd-some}
 
 -- ---- every
 
@@ -40,12 +40,6 @@ every-fails f k (suc n) e = go (f k) refl e (every-fails f (suc k) n)
 pub every-breaks : (f : ℕ → Bool) (k n u : ℕ) → k ≤ u → u < k + n → f u ≡ false → every f k n ≡ false
 every-breaks f k n u a b c = false-of (every f k n) (λ e. true≢false (sym (every-at f k n e u a b) ∙ c))
 
-pub every-same : (p q : ℕ → Bool) (i n : ℕ) → ((k : ℕ) → i ≤ k → k < i + n → p k ≡ q k) → every p i n ≡ every q i n
-every-same p q i zero h = refl
-every-same p q i (suc n) h =
-    ap₂ (λ (a b : Bool). a && b) (h i (omega arith) (omega arith))
-    (every-same p q (suc i) n (λ k a b. h k (omega arith) (omega arith)))
-
 every-add : (p : ℕ → Bool) (i m n : ℕ) → every p i (m + n) ≡ (every p i m && every p (i + m) n)
 every-add p i zero n = rw (zero-add, add-zero)
 every-add p i (suc m) n =
@@ -76,18 +70,6 @@ module _ (r : Bool) (p : ℕ → Bool) (n i : ℕ) (inv : r ≡ every p i (n - i
 
     pub every-stop : block ≡ false → false ≡ r
     every-stop t = sym (parts ∙ ap (λ b. b && every p e (n - e)) t)
-
--- numbers up to i pass, so that those from m on decide, where m is not above i
-pub every-rest : (p : ℕ → Bool) (lo n i m : ℕ) → every p lo (i - lo) ≡ true → lo ≤ m → m ≤ i → i ≤ n
-    → every p m (n - m) ≡ every p lo (n - lo)
-every-rest p lo n i m e a b c =
-    bool-iff (every p m (n - m)) (every p lo (n - lo))
-    (λ h. every-of p lo (n - lo) (λ k x y. go h k x (omega arith) (decLt k i)))
-    (λ h. every-of p m (n - m) (λ k x y. every-at p lo (n - lo) h k (omega arith) (omega arith)))
-  where
-    go : every p m (n - m) ≡ true → (k : ℕ) → lo ≤ k → k < n → Dec (k < i) → p k ≡ true
-    go h k x y (yes l) = every-at p lo (i - lo) e k x (omega arith)
-    go h k x y (no l) = every-at p m (n - m) h k (omega arith) (omega arith)
 
 -- ---- a flag that each turn may clear: whole is the answer, and ok what the turns before i found
 
@@ -205,6 +187,3 @@ module _ (r : Option ℕ) (p : ℕ → Bool) (n i : ℕ) (inv : r ≡ lowest p i
 
   pub lowest-here : i < n → p i ≡ true → some i ≡ r
   lowest-here h e = sym (inv ∙ lowest-more p n i h ∙ ap (choose i (lowest p (i + 1) (n - (i + 1)))) e)
-
-  pub lowest-next : i < n → p i ≡ false → r ≡ lowest p (i + 1) (n - (i + 1))
-  lowest-next h e = inv ∙ lowest-more p n i h ∙ ap (choose i (lowest p (i + 1) (n - (i + 1)))) e

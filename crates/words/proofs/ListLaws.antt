@@ -1,5 +1,5 @@
 -- Laws of tests over lists, and of lists made from a count. Assumes nothing.
-use Prim.Native.Nat.{ℕ, zero, suc, _+_, _≤_, _<_}
+use Prim.Native.Nat.{ℕ, zero, suc, _+_, _<_}
 use native.Mathlib.Nat.{add-zero, add-suc, suc-add, not-suc-le-zero, le-of-suc-le-suc}
 use native.Mathlib.Omega.{arith}
 use mathlib.Core.Path.{_≡_, refl, sym, ap, ap₂, _∙_}
@@ -148,16 +148,3 @@ module _ {A : Type 0} where
   pub all-listFrom : (p : A → Bool) (f : ℕ → A) (i n : ℕ) → all p (listFrom f i n) ≡ every (λ k. p (f k)) i n
   all-listFrom p f i zero = refl
   all-listFrom p f i (suc n) = ap (λ b. p (f i) && b) (all-listFrom p f (suc i) n)
-
-  pub any-listFrom-none : (p : A → Bool) (f : ℕ → A) (i n : ℕ) → ((k : ℕ) → i ≤ k → k < i + n → p (f k) ≡ false)
-      → any p (listFrom f i n) ≡ false
-  any-listFrom-none p f i zero h = refl
-  any-listFrom-none p f i (suc n) h =
-      rw (h i (omega arith) (omega arith)) (any-listFrom-none p f (suc i) n (λ k a b. h k (omega arith) (omega arith)))
-
-  pub listFrom-same : (f g : ℕ → A) (i n : ℕ) → ((k : ℕ) → i ≤ k → k < i + n → f k ≡ g k)
-      → listFrom f i n ≡ listFrom g i n
-  listFrom-same f g i zero h = refl
-  listFrom-same f g i (suc n) h =
-      ap₂ (λ (x : A) (l : List A). x ∷ l) (h i (omega arith) (omega arith))
-      (listFrom-same f g (suc i) n (λ k a b. h k (omega arith) (omega arith)))

@@ -7,7 +7,7 @@ use mathlib.Core.Logic.{_≢_}
 use mathlib.Core.Bool.{Bool, true, false, not, _&&_, _||_, false≢true, true≢false, and-false, or-true}
 use mathlib.Core.Option.{none, some}
 use lib.Bits.{bitOr, or-zero-l, or-add-and, and-le-r}
-use lib.Dec.{T, eqb, leb, ltb}
+use lib.Dec.{eqb, leb, ltb}
 use borrow.Author.Tests as author
 use Rattle.words.specs.Counted.{within}
 

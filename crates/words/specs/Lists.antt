@@ -1,6 +1,6 @@
 -- Lists of words, and tests over lists. Assumes nothing.
 use Prim.Native.Nat.{ℕ, zero, suc}
-use mathlib.Core.Bool.{Bool, true, false, cond, not, _&&_, _||_}
+use mathlib.Core.Bool.{Bool, true, false, cond, _&&_, _||_}
 use mathlib.Core.List.{List, [], _∷_}
 use mathlib.Core.Option.{Option, none, some}
 use lib.Dec.{eqb}
@@ -44,10 +44,6 @@ isZero n = eqb n 0
 -- the word at place i is 0
 abbrev pub zeroAt : Words → ℕ → Bool
 zeroAt a i = isZero (getD a i 0)
-
--- the word at place i is not 0
-abbrev pub setAt : Words → ℕ → Bool
-setAt a i = not (zeroAt a i)
 
 abbrev pub sameWords : Words → Words → Bool
 sameWords [] [] = true

@@ -2,7 +2,7 @@
 use Rattle.calls.specs.declared.Answer as calls
 use Rattle.tree_check.specs.declared.Head as tree-head
 use Rattle.tree_cores.specs.declared.Outcome as tree
-use Rattle.segment_pool.specs.declared.Outcome as segment
+use Rattle.segment_requests.specs.declared.Outcome as segment
 use Rattle.pool_c.specs.declared.TreeHead.{TreeHead}
 use Rattle.pool_c.specs.declared.Answer.{Answer}
 use Rattle.pool_c.specs.declared.TreeOutcome.{TreeOutcome}

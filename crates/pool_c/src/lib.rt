@@ -8,9 +8,9 @@ ghost use Rattle.calls.specs.Step.{format, allocate, release, find, list, step}
 ghost use Rattle.calls.specs.Engines.{treeEngine, segmentEngine};
 ghost use Rattle.call_parts.specs.Results.{resultOf};
 ghost use Rattle.tree_check.specs.Gate.{treePool, noHead};
-ghost use Rattle.segment_pool.specs.Promises.{segmentPool};
+ghost use Rattle.segment_check.specs.Gate.{segmentPool};
 ghost use Rattle.tree_cores.specs.Outcomes as tree;
-ghost use Rattle.segment_pool.specs.Promises as segment;
+ghost use Rattle.segment_requests.specs.Outcomes as segment;
 ghost use Rattle.pool_c.specs.Structs.{headOf, answerOf, treeOutcome, segmentOutcome};
 
 // lf_tree_head
@@ -90,7 +90,7 @@ fn c_tree_outcome(done: tree_cores::Outcome) -> TreeOutcome
     }
 }
 
-fn c_segment_outcome(done: segment_pool::Outcome) -> SegmentOutcome
+fn c_segment_outcome(done: segment_requests::Outcome) -> SegmentOutcome
     ensures { λ r. ⌜ segmentOutcome r ≡ done ⌝ }
 {
     let after = done.head;
@@ -211,8 +211,9 @@ pub extern "C" fn lf_segment_format(
     segments: u32,
     index: &mut [u32],
 ) -> SegmentOutcome
-    ensures { λ r. ⌜ segment.handed (segmentOutcome r) (now (arena .exit)) (now (table .exit)) (now (index .exit)) []
-        ≡ segment.left (step segmentEngine format
+    ensures { λ r. ⌜
+        segment.handed segments (segmentOutcome r) (now (arena .exit)) (now (table .exit)) (now (index .exit)) []
+        ≡ resultOf (step segmentEngine format
         (segmentPool segments 0 (now (arena .entry)) (now (table .entry)) (now (index .entry)))) ⌝ }
 {
     let done = segment_pool::format(segments, arena, table, index);
@@ -228,11 +229,12 @@ pub extern "C" fn lf_segment_allocate(
     index: &mut [u32],
     words: u32,
 ) -> SegmentOutcome
-    ensures { λ r. ⌜ segment.handed (segmentOutcome r) (now (arena .exit)) (now (table .exit)) (now (index .exit)) []
-        ≡ segment.left (step segmentEngine (allocate words)
+    ensures { λ r. ⌜
+        segment.handed segments (segmentOutcome r) (now (arena .exit)) (now (table .exit)) (now (index .exit)) []
+        ≡ resultOf (step segmentEngine (allocate words)
         (segmentPool segments next (now (arena .entry)) (now (table .entry)) (now (index .entry)))) ⌝ }
 {
-    let head = segment_pool::Head { next };
+    let head = segment_requests::Head { next };
     let done = segment_pool::allocate(head, segments, arena, table, index, words);
     c_segment_outcome(done)
 }
@@ -248,11 +250,12 @@ pub extern "C" fn lf_segment_release(
     address: u32,
     words: u32,
 ) -> SegmentOutcome
-    ensures { λ r. ⌜ segment.handed (segmentOutcome r) (now (arena .exit)) (now (table .exit)) (now (index .exit)) []
-        ≡ segment.left (step segmentEngine (release (row ticket address words))
+    ensures { λ r. ⌜
+        segment.handed segments (segmentOutcome r) (now (arena .exit)) (now (table .exit)) (now (index .exit)) []
+        ≡ resultOf (step segmentEngine (release (row ticket address words))
         (segmentPool segments next (now (arena .entry)) (now (table .entry)) (now (index .entry)))) ⌝ }
 {
-    let head = segment_pool::Head { next };
+    let head = segment_requests::Head { next };
     let named = Row {
         ticket,
         address,
@@ -277,7 +280,7 @@ pub extern "C" fn lf_segment_find(
         ≡ step segmentEngine (find (row ticket address words))
         (segmentPool segments next (now (arena .entry)) (now (table .entry)) (now (index .entry))) .answer ⌝ }
 {
-    let head = segment_pool::Head { next };
+    let head = segment_requests::Head { next };
     let named = Row {
         ticket,
         address,
@@ -298,12 +301,12 @@ pub extern "C" fn lf_segment_list(
     answers: &mut [u32],
 ) -> SegmentOutcome
     ensures { λ r. ⌜
-        segment.handed (segmentOutcome r) (now (arena .exit)) (now (table .exit)) (now (index .exit))
+        segment.handed segments (segmentOutcome r) (now (arena .exit)) (now (table .exit)) (now (index .exit))
         (now (answers .exit) ∷ [])
-        ≡ segment.left (step segmentEngine (list (now (requests .entry)) (now (answers .entry)))
+        ≡ resultOf (step segmentEngine (list (now (requests .entry)) (now (answers .entry)))
         (segmentPool segments next (now (arena .entry)) (now (table .entry)) (now (index .entry)))) ⌝ }
 {
-    let head = segment_pool::Head { next };
+    let head = segment_requests::Head { next };
     let done = segment_pool::list(head, segments, arena, table, index, requests, answers);
     c_segment_outcome(done)
 }

@@ -9,8 +9,8 @@
 //   format             allocate N      release T A W      find T A W      look T A W
 //   list N K V..       a list of N words, V over and over, with K words for its answers, which start as sevens
 use ledger::Row;
-use segment_pool::Head;
-use segment_pool::Outcome;
+use segment_requests::Head;
+use segment_requests::Outcome;
 use testing::is;
 use testing::least;
 use testing::mixed;

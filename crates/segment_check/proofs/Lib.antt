@@ -6,3 +6,4 @@ pub mod ArenaLaws
 pub mod IndexLaws
 pub mod MatchLaws
 pub mod HeadLaws
+pub mod GateLaws

@@ -1,4 +1,5 @@
--- What the check of the segment pool compares, and blocks that lie side by side in its arena.
+-- What the check of the segment pool compares, blocks that lie side by side in its arena, and the pool that is lent.
 pub mod Right
 pub mod BitMaps
 pub mod Laid
+pub mod Gate

@@ -6,8 +6,10 @@ use record_table::read_row;
 use segment_index::Segments;
 use segment_index::free_at;
 use segment_index::is_held;
+use segment_index::is_segments;
 use segment_index::larger;
 use segment_index::lesser;
+use segment_index::segments_of;
 use segment_index::size_at;
 use words::zero_part_signed;
 ghost use mathlib.Core.Path.{_≡_};
@@ -22,6 +24,10 @@ ghost use Rattle.words.specs.Flags.{Says};
 ghost use Rattle.ledger.specs.Records.{slots};
 ghost use Rattle.segment_index.specs.Control.{freeSize};
 ghost use Rattle.segment_blocks.specs.Upkeep.{Sizes};
+ghost use Rattle.calls.specs.Pool.{lengths, stored};
+ghost use Rattle.calls.specs.Step.{GateIs};
+ghost use Rattle.calls.specs.Engines.{segmentEngine};
+ghost use Rattle.segment_check.specs.Gate.{segmentPool, RightLengths, Ranged};
 ghost use Rattle.segment_check.specs.Right.{Measured, nodeRight, treeRight};
 ghost use Rattle.record_table.specs.Partition.{Noted};
 ghost use Rattle.segment_check.specs.BitMaps.{bitAt};
@@ -359,7 +365,7 @@ fn is_shown_by(
 }
 
 // Whether the table holds a valid ledger, and arena and index are its stored form.
-pub fn is_shown(next: u32, arena: &[i32], table: &[u32], index: &[u32], segments: Segments) -> bool
+fn is_shown(next: u32, arena: &[i32], table: &[u32], index: &[u32], segments: Segments) -> bool
     requires { ⌜ Measured (now arena) (now table) (now index) (segments .count) (segments .size) ⌝ }
     ensures { λ r. ⌜ Says r
         (Shown next (now (arena .entry)) (now (table .entry)) (now (index .entry)) (segments .count)) ⌝ }
@@ -374,4 +380,57 @@ pub fn is_shown(next: u32, arena: &[i32], table: &[u32], index: &[u32], segments
     }
     let mut large: [u64; 256] = [0; 256];
     is_shown_by(next, &*arena, &*table, &*index, segments, &mut large)
+}
+
+// ---- the tests before every call
+
+pub fn right_lengths(s: u32, arena: &[i32], table: &[u32], index: &[u32]) -> bool
+    ensures { λ r. ⌜ RightLengths s (now (arena .entry)) (now (table .entry)) (now (index .entry)) r ⌝ }
+{
+    let w = arena.len();
+    let t = table.len();
+    let one = is_segments(s);
+    (2 <= w)
+        & (w <= 16384)
+        & one
+        & (t % 3 == 0)
+        & (1 <= t / 3)
+        & (t / 3 <= 256)
+        & (index.len() == 3 * (s as usize))
+}
+
+// What the type says of every word of the arena, as a fact for proofs: it is known where a word is read.
+pub fn ranged(arena: &[i32])
+    ensures { λ _. ⌜ Ranged (now (arena .entry)) ⌝ }
+{
+    let mut i = 0;
+    while i < arena.len() {
+        let _word = arena[i];
+        i += 1;
+    }
+}
+
+// Whether head and lent memory are the stored form of a ledger.
+fn is_stored(s: u32, next: u32, arena: &[i32], table: &[u32], index: &[u32]) -> bool
+    requires { ⌜ lengths segmentEngine (segmentPool s next (now arena) (now table) (now index)) ≡ true ⌝ }
+    ensures { λ r. ⌜ r
+        ≡ stored segmentEngine (segmentPool s next (now (arena .entry)) (now (table .entry)) (now (index .entry))) ⌝ }
+{
+    ranged(arena);
+    let segments = segments_of(s, arena.len());
+    is_shown(next, &*arena, &*table, &*index, segments)
+}
+
+// The number of the tests that stand before every call: 8, 1, or 0 for a sound pool.
+pub fn gate_number(s: u32, next: u32, arena: &[i32], table: &[u32], index: &[u32]) -> u32
+    ensures { λ r. ⌜ GateIs segmentEngine
+        (segmentPool s next (now (arena .entry)) (now (table .entry)) (now (index .entry))) r ⌝ }
+{
+    if !right_lengths(s, &*arena, &*table, &*index) {
+        return 8;
+    }
+    if !is_stored(s, next, &*arena, &*table, &*index) {
+        return 1;
+    }
+    0
 }

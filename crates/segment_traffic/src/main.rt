@@ -3,7 +3,7 @@
 // all; the memory must then be as a format leaves it.
 use calls::Answer;
 use ledger::Row;
-use segment_pool::Head;
+use segment_requests::Head;
 use testing::Tally;
 use testing::all_are;
 use testing::book_grant;

@@ -2,7 +2,7 @@
 use mathlib.Core.Path.{ap}
 use borrow.Author.Needs.{needs}
 use Rattle.calls.specs.declared.Answer.{Answer}
-use Rattle.segment_pool.specs.declared.Outcome.{Outcome}
+use Rattle.segment_requests.specs.declared.Outcome.{Outcome}
 use Rattle.pool_c.proofs.c_segment_outcome.Statement.{statement}
 use Rattle.pool_c.proofs.c_segment_outcome.Tie as tie
 

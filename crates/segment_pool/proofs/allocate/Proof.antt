@@ -1,14 +1,16 @@
 -- `segment_pool::allocate` meets its contract: the gate, then one act, and the outcome of its effect. Assumes nothing.
-use mathlib.Core.Path.{refl}
+use mathlib.Core.Path.{refl, ap, _∙_}
 use mathlib.Core.List.{[]}
 use borrow.Author.Needs.{needs}
 use denote.Ref.{now}
 use Rattle.calls.specs.Pool.{Pool}
 use Rattle.calls.specs.Engines.{segmentEngine}
-use Rattle.segment_pool.specs.Promises.{segmentPool, handed}
+use Rattle.segment_check.specs.Gate.{segmentPool}
+use Rattle.segment_requests.specs.Outcomes.{handed}
 use Rattle.calls.specs.Step.{allocate, ask}
 use Rattle.calls.proofs.GateLaws.{gate-opens}
-use Rattle.segment_pool.proofs.ActedLaws.{same-left, gate-left, one-left}
+use Rattle.call_parts.proofs.ResultLaws.{gate-result, single-result}
+use Rattle.segment_requests.specs.declared.Outcome.{Outcome}
 use Rattle.segment_pool.proofs.allocate.Statement.{statement}
 use Rattle.segment_pool.proofs.allocate.Tie as tie
 
@@ -35,9 +37,10 @@ returns : tie.Need-returns
 returns c =
     let g = c .before .before in
     let s = g .before .before .before .before .before .before in
-    gate-left (s .args .head) (s .args .s) (now (s .args .arena)) (now (s .args .table)) (now (s .args .index))
-    (c .refused-with .result) (g .gate-number .result) (g .gate-number .ensures) (c .before .if1 .taken)
-    (allocate (s .args .words)) refl refl (c .refused-with .ensures)
+    ap (λ (o : Outcome). handed (s .args .s) o (now (s .args .arena)) (now (s .args .table)) (now (s .args .index)) [])
+    (c .refused-with .ensures)
+    ∙ gate-result segmentEngine (pool s) (g .gate-number .result) (g .gate-number .ensures) (c .before .if1 .taken)
+    (allocate (s .args .words)) refl refl
 
 grant-requires : tie.Need-grant-requires
 grant-requires c κs =
@@ -68,8 +71,8 @@ returns-2 c =
     let x = q .grant .last .1 .1 .1 .1 .0 in
     let ok = gate-opens segmentEngine (pool s) (g .gate-number .result) (g .gate-number .ensures)
     (q .before .before .before .before .if1 .left) in
-    one-left (pool s) ok (handed (c .outcome-of-grant .result) b u x []) .0 (s .args .words)
-    (same-left (ask (s .args .words)) (pool s) b u x (c .outcome-of-grant .ensures) (q .grant .ensures))
+    ap (λ (y : Outcome). handed (s .args .s) y b u x []) (c .outcome-of-grant .ensures) ∙ q .grant .ensures
+    ∙ single-result segmentEngine (ask (s .args .words)) (pool s) ok
 
 pub allocate-spec : {M : Type 1} → statement M
 allocate-spec =

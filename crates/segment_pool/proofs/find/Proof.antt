@@ -6,7 +6,7 @@ use Rattle.calls.specs.Step.{Outcome, find}
 use Rattle.calls.specs.Engines.{segmentEngine}
 use Rattle.calls.proofs.GateLaws.{gate-refuses, gate-opens}
 use Rattle.call_parts.proofs.FindLaws.{find-slot, find-refused}
-use Rattle.segment_pool.specs.Promises.{segmentPool}
+use Rattle.segment_check.specs.Gate.{segmentPool}
 use Rattle.segment_pool.proofs.find.Statement.{statement}
 use Rattle.segment_pool.proofs.find.Tie as tie
 

@@ -8,9 +8,10 @@ use Rattle.words.proofs.Tests.{not-true, not-false}
 use Rattle.segment_cores.specs.Stores.{Becomes}
 use Rattle.calls.specs.Pool.{lengths}
 use Rattle.calls.specs.Engines.{segmentEngine}
-use Rattle.segment_pool.specs.Promises.{segmentPool}
-use Rattle.segment_pool.proofs.GateLaws.{InRange, measured}
-use Rattle.segment_pool.proofs.FormatLaws.{format-refused, format-done, fit}
+use Rattle.segment_check.specs.Gate.{segmentPool}
+use Rattle.segment_check.proofs.GateLaws.{InRange, measured}
+use Rattle.call_parts.proofs.FormatLaws.{format-result}
+use Rattle.segment_pool.proofs.FormatLaws.{head-refused, blank-pool, fit}
 use Rattle.segment_pool.proofs.format.Statement.{statement}
 use Rattle.segment_pool.proofs.format.Tie as tie
 
@@ -47,7 +48,7 @@ returns : tie.Need-returns
 returns c =
     let r = c .before .before in
     let s = r .before .before .before .before .before .before in
-    format-refused (s .args .s) (now (s .args .arena)) (now (s .args .table)) (now (s .args .index))
+    head-refused (s .args .s) (now (s .args .arena)) (now (s .args .table)) (now (s .args .index))
     (c .refused .result) (sym (not-true _ (c .before .if1 .taken)) ∙ r .right-lengths .ensures 0) (c .refused .ensures)
 
 segments-of-requires : tie.Need-segments-of-requires
@@ -81,11 +82,16 @@ returns-2 c =
     let d = l .before .before .before in
     let i = d .before in
     let s = entry i in
-    format-done (s .args .s) (now (s .args .arena)) (now (s .args .table)) (now (s .args .index)) (right i)
-    (l .lay-out .last .0) (w .wipe .last .0) (l .lay-out .last .1 .0) (c .succeeded .result)
+    format-result segmentEngine
+    (segmentPool (s .args .s) 0 (now (s .args .arena)) (now (s .args .table)) (now (s .args .index))) (right i)
+    (c .succeeded .result)
+    (segmentPool (s .args .s) 1 (l .lay-out .last .0) (w .wipe .last .0) (l .lay-out .last .1 .0))
+    (c .succeeded .ensures)
+    (blank-pool (s .args .s) (now (s .args .arena)) (now (s .args .table)) (now (s .args .index)) (right i)
+    (l .lay-out .last .0) (w .wipe .last .0) (l .lay-out .last .1 .0)
     (λ L none. subst (λ (n : ℕ). Becomes L (now (s .args .arena)) n (l .lay-out .last .0) (l .lay-out .last .1 .0))
     (d .segments-of .ensures .count) (l .lay-out .ensures L none))
-    (w .wipe .ensures) (c .succeeded .ensures)
+    (w .wipe .ensures))
 
 pub format-spec : {M : Type 1} → statement M
 format-spec =

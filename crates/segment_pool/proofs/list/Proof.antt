@@ -1,22 +1,31 @@
 -- `segment_pool::list` meets its contract: row 8 of the list, the gate, then all requests. Assumes nothing.
-use mathlib.Core.Path.{_∙_, sym, refl}
+use mathlib.Core.Path.{_∙_, sym, ap, refl}
+use mathlib.Core.List.{[], _∷_}
 use borrow.Author.Needs.{needs}
 use denote.Ref.{now}
 use Rattle.words.proofs.Tests.{not-true, not-false}
 use Rattle.calls.specs.Pool.{Pool}
 use Rattle.calls.specs.Engines.{segmentEngine}
-use Rattle.segment_pool.specs.Promises.{segmentPool}
+use Rattle.segment_check.specs.Gate.{segmentPool}
 use Rattle.calls.specs.Step.{list}
 use Rattle.calls.proofs.GateLaws.{gate-opens}
-use Rattle.segment_pool.proofs.ActedLaws.{gate-left}
-use Rattle.segment_pool.proofs.RequestLaws.{list-unsuited, list-left}
+use Rattle.call_parts.proofs.ResultLaws.{gate-result, unsuited-result, list-result}
+use Rattle.call_parts.specs.Results.{Result}
 use Rattle.call_parts.proofs.WholeLists.{suited-lengths}
+use Rattle.segment_requests.specs.declared.Outcome.{Outcome}
+use Rattle.segment_requests.specs.Outcomes.{handed}
 use Rattle.segment_pool.proofs.list.Statement.{statement}
 use Rattle.segment_pool.proofs.list.Tie as tie
 
 abbrev pool : tie.Start → Pool
 pool s =
     segmentPool (s .args .s) (s .args .head .next) (now (s .args .arena)) (now (s .args .table)) (now (s .args .index))
+
+-- an outcome that leaves all as it came
+abbrev same : tie.Start → Outcome → Result
+same s o =
+    handed (s .args .s) o (now (s .args .arena)) (now (s .args .table)) (now (s .args .index))
+    (now (s .args .answers) ∷ [])
 
 list-suits-requires : tie.Need-list-suits-requires
 list-suits-requires c κs = search needs
@@ -31,10 +40,9 @@ returns : tie.Need-returns
 returns c =
     let u = c .before .before in
     let s = u .before .before .before .before .before .before in
-    list-unsuited (s .args .head) (s .args .s) (now (s .args .arena)) (now (s .args .table)) (now (s .args .index))
-    (now (s .args .asked)) (now (s .args .answers))
+    ap (same s) (c .refused-with .ensures)
+    ∙ unsuited-result segmentEngine (pool s) (now (s .args .asked)) (now (s .args .answers))
     (sym (u .list-suits .ensures) ∙ not-true (u .list-suits .result) (c .before .if1 .taken))
-    (c .refused-with .result) (c .refused-with .ensures)
 
 gate-number-requires : tie.Need-gate-number-requires
 gate-number-requires c κs = search needs
@@ -61,9 +69,9 @@ returns-2 c =
     let u = f .before in
     let s = u .before .before .before .before .before .before in
     let suits = sym (u .list-suits .ensures) ∙ not-false (u .list-suits .result) (f .if1 .left) in
-    gate-left (s .args .head) (s .args .s) (now (s .args .arena)) (now (s .args .table)) (now (s .args .index))
-    (c .refused-with2 .result) (g .gate-number .result) (g .gate-number .ensures) (c .before .if2 .taken)
-    (list (now (s .args .asked)) (now (s .args .answers))) refl suits (c .refused-with2 .ensures)
+    ap (same s) (c .refused-with2 .ensures)
+    ∙ gate-result segmentEngine (pool s) (g .gate-number .result) (g .gate-number .ensures) (c .before .if2 .taken)
+    (list (now (s .args .asked)) (now (s .args .answers))) refl suits
 
 serve-all-requires : tie.Need-serve-all-requires
 serve-all-requires c κs =
@@ -102,11 +110,10 @@ returns-3 c =
     let s = u .before .before .before .before .before .before in
     let suits = sym (u .list-suits .ensures) ∙ not-false (u .list-suits .result) (f .if1 .left) in
     let ok = gate-opens segmentEngine (pool s) (g .gate-number .result) (g .gate-number .ensures) (e .if2 .left) in
-    list-left (s .args .head) (s .args .s) (now (s .args .arena)) (now (s .args .table)) (now (s .args .index))
-    (now (s .args .asked)) (now (s .args .answers)) suits ok
-    (record { head = d .serve-all .result; answer = c .succeeded .result }) (d .serve-all .last .1 .1 .0)
-    (d .serve-all .last .1 .1 .1 .0) (d .serve-all .last .1 .1 .1 .1 .0) (d .serve-all .last .1 .1 .1 .1 .1 .1 .0)
-    (c .succeeded .ensures) (d .serve-all .ensures)
+    list-result segmentEngine (pool s) (now (s .args .asked)) (now (s .args .answers)) suits ok (c .succeeded .result)
+    (segmentPool (s .args .s) (d .serve-all .result .next) (d .serve-all .last .1 .1 .0)
+    (d .serve-all .last .1 .1 .1 .0) (d .serve-all .last .1 .1 .1 .1 .0))
+    (d .serve-all .last .1 .1 .1 .1 .1 .1 .0) (c .succeeded .ensures) (d .serve-all .ensures)
 
 pub list-spec : {M : Type 1} → statement M
 list-spec =

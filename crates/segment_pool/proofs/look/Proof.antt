@@ -11,8 +11,8 @@ use Rattle.calls.specs.declared.Answer.{Answer}
 use Rattle.calls.specs.Engines.{segmentEngine}
 use Rattle.calls.proofs.Engines.{segment-laws}
 use Rattle.call_parts.proofs.FindLaws.{found-inside}
-use Rattle.segment_pool.specs.Promises.{segmentPool}
-use Rattle.segment_pool.proofs.LookLaws.{look-holds, look-found}
+use Rattle.segment_check.specs.Gate.{asWords, segmentPool}
+use Rattle.call_parts.proofs.LookLaws.{look-holds, look-found}
 use Rattle.segment_pool.proofs.look.Statement.{statement}
 use Rattle.segment_pool.proofs.look.Tie as tie
 
@@ -25,8 +25,8 @@ returns c =
     let s = f .before .before .before in
     let p = segmentPool (s .args .s) (s .args .head .next) (now (s .args .arena)) (now (s .args .table))
     (now (s .args .index)) in
-    look-holds p (s .args .named) (s .args .arena) (s .args .placeholder) (f .find .result) (f .find .ensures)
-    (c .if1 .taken)
+    look-holds segmentEngine p (s .args .named) (s .args .arena) (s .args .placeholder)
+    (asWords (now (s .args .placeholder))) (f .find .result) (f .find .ensures) (c .if1 .taken)
 
 cast-from : tie.Need-cast-from
 cast-from c = search needs
@@ -64,8 +64,8 @@ returns-2 c =
     let p = segmentPool (s .args .s) (s .args .head .next) (now (s .args .arena)) (now (s .args .table))
     (now (s .args .index)) in
     rw (add-sub-cancel-left (s .args .named .address) (s .args .named .words))
-    (look-found p (s .args .named) (s .args .arena) (s .args .placeholder) (f .find .result) (f .find .ensures)
-    (i .if1 .left))
+    (look-found segmentEngine p (s .args .named) (s .args .arena) (s .args .placeholder)
+    (asWords (now (s .args .placeholder))) (f .find .result) (f .find .ensures) (i .if1 .left))
 
 pub look-spec : {M : Type 1} → statement M
 look-spec =

@@ -1,15 +1,17 @@
 -- `segment_pool::release` meets its contract: the gate, then one act, and the outcome of its effect. Assumes nothing.
-use mathlib.Core.Path.{refl}
+use mathlib.Core.Path.{refl, ap, _∙_}
 use mathlib.Core.List.{[]}
 use borrow.Author.Needs.{needs}
 use denote.Ref.{now}
 use Rattle.ledger.specs.Records.{vacate}
 use Rattle.calls.specs.Pool.{Pool}
 use Rattle.calls.specs.Engines.{segmentEngine}
-use Rattle.segment_pool.specs.Promises.{segmentPool, handed}
+use Rattle.segment_check.specs.Gate.{segmentPool}
+use Rattle.segment_requests.specs.Outcomes.{handed}
 use Rattle.calls.specs.Step.{release, give}
 use Rattle.calls.proofs.GateLaws.{gate-opens}
-use Rattle.segment_pool.proofs.ActedLaws.{same-left, gate-left, one-left}
+use Rattle.call_parts.proofs.ResultLaws.{gate-result, single-result}
+use Rattle.segment_requests.specs.declared.Outcome.{Outcome}
 use Rattle.segment_pool.proofs.release.Statement.{statement}
 use Rattle.segment_pool.proofs.release.Tie as tie
 
@@ -36,9 +38,10 @@ returns : tie.Need-returns
 returns c =
     let g = c .before .before in
     let s = g .before .before .before .before .before .before in
-    gate-left (s .args .head) (s .args .s) (now (s .args .arena)) (now (s .args .table)) (now (s .args .index))
-    (c .refused-with .result) (g .gate-number .result) (g .gate-number .ensures) (c .before .if1 .taken)
-    (release (s .args .named)) refl refl (c .refused-with .ensures)
+    ap (λ (o : Outcome). handed (s .args .s) o (now (s .args .arena)) (now (s .args .table)) (now (s .args .index)) [])
+    (c .refused-with .ensures)
+    ∙ gate-result segmentEngine (pool s) (g .gate-number .result) (g .gate-number .ensures) (c .before .if1 .taken)
+    (release (s .args .named)) refl refl
 
 vacate-requires : tie.Need-vacate-requires
 vacate-requires c κs =
@@ -69,8 +72,8 @@ returns-2 c =
     let x = q .vacate .last .1 .1 .1 .1 .0 in
     let ok = gate-opens segmentEngine (pool s) (g .gate-number .result) (g .gate-number .ensures)
     (q .before .before .before .before .if1 .left) in
-    one-left (pool s) ok (handed (c .outcome-of-release .result) b u x []) .1 (s .args .named)
-    (same-left (give (s .args .named)) (pool s) b u x (c .outcome-of-release .ensures) (q .vacate .ensures))
+    ap (λ (y : Outcome). handed (s .args .s) y b u x []) (c .outcome-of-release .ensures) ∙ q .vacate .ensures
+    ∙ single-result segmentEngine (give (s .args .named)) (pool s) ok
 
 pub release-spec : {M : Type 1} → statement M
 release-spec =

@@ -1,0 +1,33 @@
+-- `segment_check::right_lengths` meets its contract: its tests are those of the definition. Assumes nothing.
+use mathlib.Core.Path.{_∙_, ap}
+use mathlib.Core.Bool.{Bool, _&&_}
+use borrow.Author.Needs.{needs}
+use denote.Ref.{now}
+use lib.Dec.{eqb, leb}
+use lib.ListN.{length}
+use Prim.Native.Nat.{_*_, _%_}
+use Rattle.ledger.specs.Records.{slots}
+use Rattle.segment_check.proofs.GateLaws.{lengths-are}
+use Rattle.segment_check.proofs.right_lengths.Statement.{statement}
+use Rattle.segment_check.proofs.right_lengths.Tie as tie
+
+is-segments-requires : tie.Need-is-segments-requires
+is-segments-requires c κs = search needs
+
+mul-result : tie.Need-mul-result
+mul-result c = search needs
+
+returns : tie.Need-returns
+returns c =
+    let a = c .before .before .before .args in
+    let v = now (a .arena) in
+    let t = now (a .table) in
+    let x = now (a .index) in
+    λ next. ap
+    (λ (b : Bool). ((((((leb 2 (length v) && leb (length v) 16384) && b) && eqb (length t % 3) 0)
+    && leb 1 (slots t)) && leb (slots t) 256) && eqb (length x) (3 * a .s)))
+    (c .is-segments .ensures)
+    ∙ lengths-are (a .s) next v t x
+
+pub right-lengths-spec : {M : Type 1} → statement M
+right-lengths-spec = tie.close (tie.spec is-segments-requires mul-result returns)

@@ -1,3 +1,0 @@
--- What the segment pool's calls promise.
-pub mod Promises
-pub mod Granting

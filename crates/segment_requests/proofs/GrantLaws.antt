@@ -1,0 +1,135 @@
+-- A grant on a sound segment pool: the search finds the lowest fit, and the words taken from its block leave the stored
+-- form of the ledger with the new record. Assumes nothing.
+use Prim.Native.Nat.{ℕ, _+_, _*_, _≤_, _<_}
+use native.Mathlib.Nat.{div-one}
+use native.Mathlib.Omega.{arith}
+use mathlib.Core.Path.{_≡_, refl, sym, ap, ap₂, _∙_}
+use mathlib.Core.Logic.{_≢_}
+use mathlib.Core.Bool.{Bool, false, _||_}
+use mathlib.Core.List.{List}
+use mathlib.Core.Option.{Option, none, some}
+use lib.Dec.{eqb, ltb}
+use lib.IntN.{ℤ, pos}
+use lib.ListN.{length, length-map, set}
+use mir.Syntax.{w32}
+use mir.Val.{ofZ}
+use Rattle.words.specs.Lists.{Words}
+use Rattle.words.specs.Places.{wiped}
+use Rattle.words.proofs.PlaceLaws.{map-wiped}
+use Rattle.words.proofs.Tests.{or-l, eqb-ne, eqb-false}
+use Rattle.ledger.specs.declared.Row.{Row}
+use Rattle.ledger.specs.Records.{Ledger, row, slots, recordsOf, tableOf, enter}
+use Rattle.ledger.specs.Units.{span, addressAt, past, free, lowestFit}
+use Rattle.ledger.proofs.FitLaws.{fit-lowest}
+use Rattle.ledger.proofs.UnitLaws.{past-new}
+use Rattle.stored_forms.specs.Segments.{segmentRule}
+use Rattle.segment_index.specs.declared.Segments.{Segments}
+use Rattle.segment_index.specs.Index.{Divided}
+use Rattle.segment_cores.specs.Stores.{Granting, Becomes}
+use Rattle.segment_cores.proofs.CallLaws.{granting}
+use Rattle.segment_cores.proofs.UnitLaws.{span-words, address-after}
+use Rattle.segment_cores.specs.Cores.{unitOr}
+use Rattle.calls.specs.Pool.{Pool, nextAfter}
+use Rattle.calls.specs.Step.{ask, success, fitOf, answerTo, poolAfter}
+use Rattle.calls.specs.Engines.{segmentEngine}
+use Rattle.calls.proofs.ActLaws.{Asked, ask-done}
+use Rattle.calls.proofs.GrantLaws.{over, zeroed, grant-store, next-above}
+use Rattle.record_table.proofs.SlotLaws.{empty-found}
+use Rattle.segment_requests.specs.declared.Head.{Head}
+use Rattle.segment_requests.specs.Granting.{Found}
+use Rattle.segment_check.specs.Gate.{asWords, segmentPool}
+use Rattle.segment_check.proofs.GateLaws.{InRange}
+use Rattle.segment_requests.proofs.StoredLaws.{sound-range, sound-form, stored-pool}
+
+-- the machine's fit, by the arena's own length
+pub fit-is : (S next n : ℕ) (v : List ℤ) (t x : Words)
+    → fitOf segmentEngine (segmentPool S next v t x) n
+    ≡ lowestFit (free segmentRule (recordsOf t)) (length v) (span segmentRule n)
+unfolding fitOf segmentEngine
+fit-is S next n v t x = rw (length-map v (ofZ w32), div-one (length v))
+
+-- ---- what the search says
+
+module _ (f : ℕ → Bool) (W n r : ℕ) (some-units : 1 ≤ n) (is : r ≡ unitOr W (lowestFit f W n)) where
+  pub none-fits : r ≡ W → lowestFit f W n ≡ none
+  none-fits e = go (lowestFit f W n) refl is
+    where
+      go : (o : Option ℕ) → lowestFit f W n ≡ o → r ≡ unitOr W o → o ≡ none
+      go none l h = refl
+      go (some k) l h = absurd (omega (arith, fit-lowest f W n k l .room))
+
+  pub one-fits : r ≢ W → lowestFit f W n ≡ some r
+  one-fits e = go (lowestFit f W n) refl is
+    where
+      go : (o : Option ℕ) → lowestFit f W n ≡ o → r ≡ unitOr W o → o ≡ some r
+      go none l h = absurd (e h)
+      go (some k) l h = ap some (sym h)
+
+pub some-words : (n : ℕ) → (eqb n 0 || ltb 16384 n) ≡ false → 1 ≤ n
+some-words n size = let z = eqb-false n 0 (or-l (eqb n 0) (ltb 16384 n) size) in omega arith
+
+-- ---- the grant
+
+module _ (h : Head) (S : ℕ) (v : List ℤ) (t x : Words) (n slot at : ℕ) (f : Found h S v t x n slot at) where
+  abbrev lent : Pool
+  lent = segmentPool S (h .next) v t x
+
+  abbrev L : Ledger
+  L = recordsOf t
+
+  abbrev new : Row
+  new = row (h .next) (addressAt segmentRule at) n
+
+  pub place-range : InRange S v t x
+  place-range = sound-range S (h .next) v t x (f .ok)
+
+  pub place-slot : slot < slots t
+  place-slot = empty-found t slot (f .empty) .0
+
+  pub place-inside : at < length v
+  place-inside =
+      omega (arith, fit-lowest (free segmentRule L) (length v) (span segmentRule n) at (f .fit) .room, span-words n)
+
+  asked : Asked segmentEngine lent n at
+  unfolding segmentEngine
+  asked = record {
+    size = f .size;
+    slot = empty-found t slot (f .empty) .1;
+    ticket = eqb-ne (h .next) 0 (f .ticket);
+    fit = fit-is S (h .next) n v t x ∙ f .fit;
+  }
+
+  pub place-granting : {r : Segments} → Divided S (length v) r
+      → Granting L (enter new L) v x (r .count) (r .size) at (span segmentRule n)
+  unfolding sound-form
+  place-granting {r} d =
+      granting L v x (r .count) (r .size) (sound-form S (h .next) v t x (f .ok) (f .ranged) d) (nextAfter (h .next)) n
+      at (asked .slot) (f .ticket) (next-above (h .next)) (some-words n (f .size)) (f .fit)
+
+  pub place-answer : success (row (h .next) (at + 1) n) ≡ answerTo segmentEngine lent (ask n)
+  unfolding segmentEngine
+  place-answer =
+      ap (λ (y : ℕ). success (row (h .next) y n)) (sym (address-after at))
+      ∙ sym (ask-done segmentEngine lent n at asked .0)
+
+  -- the words that a grant zeroes
+  abbrev ground : List ℤ
+  ground = wiped (pos 0) (at + 1) (at + span segmentRule n) v
+
+  ground-words : zeroed segmentEngine lent n at ≡ asWords ground
+  unfolding zeroed segmentEngine
+  ground-words =
+      let e = past-new segmentRule (omega arith) (h .next) at n in
+      let hi : 1 * past segmentRule new ≡ at + span segmentRule n = omega arith in
+      ap₂ (λ (a b : ℕ). wiped 0 a b (asWords v)) (address-after at) hi
+      ∙ sym (map-wiped (ofZ w32) (pos 0) (at + 1) (at + span segmentRule n) v)
+
+  pub place-pool : (b : List ℤ) (u y : Words) → Becomes (enter new L) ground S b y
+      → u ≡ tableOf (set L slot (row (h .next) (at + 1) n))
+      → segmentPool S (nextAfter (h .next)) b u y ≡ poolAfter segmentEngine lent (ask n)
+  place-pool b u y becomes e =
+      stored-pool (over lent (zeroed segmentEngine lent n at)) (enter new L) (nextAfter (h .next)) ground b u y
+      ground-words becomes
+      (e ∙ ap (λ (z : ℕ). tableOf (set L slot (row (h .next) z n))) (sym (address-after at))
+      ∙ ap tableOf (sym (empty-found t slot (f .empty) .2 new)))
+      ∙ unfold segmentEngine in sym (ask-done segmentEngine lent n at asked .1 ∙ grant-store segmentEngine lent n at)

@@ -1,0 +1,5 @@
+-- The laws of requests on a sound segment pool.
+pub mod StoredLaws
+pub mod RefusedLaws
+pub mod GrantLaws
+pub mod ReleaseLaws

@@ -1,0 +1,38 @@
+-- A request refused in its effect alone: the outcome that the effect comes to is the refusal. Assumes nothing.
+use mathlib.Core.Path.{_≡_, ap, _∙_}
+use mathlib.Core.Bool.{false}
+use mathlib.Core.List.{List, []}
+use lib.IntN.{ℤ}
+use lib.Dec.{eqb}
+use Prim.Native.Nat.{ℕ, _/_}
+use Rattle.words.specs.Lists.{Words}
+use Rattle.ledger.specs.declared.Row.{Row}
+use Rattle.calls.specs.Pool.{Pool}
+use Rattle.calls.specs.Step.{Act, ask, give}
+use Rattle.calls.specs.Engines.{segmentEngine}
+use Rattle.call_parts.specs.Results.{acted}
+use Rattle.call_parts.proofs.AskLaws.{RefusedBy}
+use Rattle.call_parts.proofs.ResultLaws.{acted-refused}
+use Rattle.segment_check.specs.Gate.{segmentPool}
+use Rattle.segment_requests.specs.declared.Head.{Head}
+use Rattle.segment_requests.specs.declared.Outcome.{Outcome}
+use Rattle.segment_requests.specs.Outcomes.{handed, refusedWith, granted, vacated}
+
+module _ (h : Head) (S : ℕ) (v : List ℤ) (t x : Words) where
+  abbrev p : Pool
+  p = segmentPool S (h .next) v t x
+
+  pub refused-acted : (act : Act) (o : Outcome) (n : ℕ) → o ≡ refusedWith h n → RefusedBy segmentEngine p act n
+      → handed S o v t x [] ≡ acted segmentEngine act p
+  refused-acted act o n e r =
+      ap (λ (y : Outcome). handed S y v t x []) e ∙ acted-refused segmentEngine act p n r
+
+  pub granted-refused : (e n : ℕ) → e / 65536 ≡ n → eqb n 0 ≡ false → (k : ℕ) → RefusedBy segmentEngine p (ask k) n
+      → handed S (granted h k e) v t x [] ≡ acted segmentEngine (ask k) p
+  granted-refused e n is some k =
+      let refuses : eqb (e / 65536) 0 ≡ false = ap (λ (m : ℕ). eqb m 0) is ∙ some in
+      refused-acted (ask k) (granted h k e) n (rw refuses (ap (refusedWith h) is))
+
+  pub vacated-refused : (n : ℕ) → eqb n 0 ≡ false → (r : Row) → RefusedBy segmentEngine p (give r) n
+      → handed S (vacated h r n) v t x [] ≡ acted segmentEngine (give r) p
+  vacated-refused n some r = refused-acted (give r) (vacated h r n) n (rw some)

@@ -1,0 +1,285 @@
+// Requests on a sound segment pool: what an allocation and a release do, one or a list of them, and the outcomes that
+// they come to. The calls of segment_pool check the pool first.
+use call_parts::Named;
+use call_parts::Request;
+use calls::Answer;
+use ledger::Row;
+use ledger::Rule;
+use record_table::Found as Slot;
+ghost use mathlib.Core.Path.{_≡_};
+ghost use mathlib.Core.Bool.{true};
+ghost use mathlib.Core.List.{[]};
+ghost use Prim.Native.Nat.{_+_, _*_, _/_, _%_, _<_, _≤_};
+ghost use lib.ListN.{length};
+ghost use Rattle.calls.specs.Pool.{sound};
+ghost use Rattle.calls.specs.Step.{ask, give, answerTo, poolAfter};
+ghost use Rattle.calls.specs.Engines.{segmentEngine};
+ghost use Rattle.call_parts.specs.Parts.{namedIn, actOf, requestAt, withAnswer};
+ghost use Rattle.call_parts.specs.Results.{acted, ran};
+ghost use Rattle.segment_check.specs.Gate.{segmentPool};
+ghost use Rattle.segment_requests.specs.Granting.{Found};
+ghost use Rattle.segment_requests.specs.Outcomes.{handed, refusedWith, granted, vacated};
+
+// What a call is passed and hands back: the next ticket, 0 when none is left.
+pub struct Head {
+    pub next: u32,
+}
+
+// A head with the answer.
+pub struct Outcome {
+    pub head: Head,
+    pub answer: Answer,
+}
+
+// A refusal: the head as it came.
+pub fn refused_with(head: Head, number: u32) -> Outcome
+    ensures { λ r. ⌜ r ≡ refusedWith head number ⌝ }
+{
+    Outcome {
+        head,
+        answer: call_parts::refused(number),
+    }
+}
+
+// ---- allocate
+
+// The effect of an allocation that is refused: no address, and its number in the upper half.
+fn no_effect(number: u32) -> u32
+    requires { ⌜ number < 65536 ⌝ }
+    ensures { λ r. ⌜ r / 65536 ≡ number ⌝ }
+{
+    65536 * number
+}
+
+// Takes the first words of the free block that was found, under the next ticket. What an allocation has come to, as
+// far as its caller does not know it, is one number, its effect: a struct would come back through memory, and what is
+// read there at once costs a wait.
+fn place(
+    head: Head,
+    s: u32,
+    arena: &mut [i32],
+    table: &mut [u32],
+    index: &mut [u32],
+    words: u32,
+    slot: usize,
+    at: usize,
+) -> u32
+    requires { ⌜ Found head s (now arena) (now table) (now index) words slot at ⌝ }
+    ensures { λ r. ⌜ handed s (granted head words r) (now (arena .exit)) (now (table .exit)) (now (index .exit)) []
+        ≡ acted segmentEngine (ask words)
+        (segmentPool s (head .next) (now (arena .entry)) (now (table .entry)) (now (index .entry))) ⌝ }
+{
+    let n = record_table::span_of(Rule { unit: 1, lead: 1 }, words);
+    let segments = segment_index::segments_of(s, arena.len());
+    segment_cores::allot(arena, index, segments, at, n);
+    let address = (at + 1) as u32;
+    let new = Row {
+        ticket: head.next,
+        address,
+        words,
+    };
+    record_table::write_row(table, slot, new);
+    address
+}
+
+// An allocation on a sound pool: the tests in the order of their numbers, then the search.
+pub fn grant(
+    head: Head,
+    s: u32,
+    arena: &mut [i32],
+    table: &mut [u32],
+    index: &mut [u32],
+    words: u32,
+) -> u32
+    requires { ⌜ sound segmentEngine (segmentPool s (head .next) (now arena) (now table) (now index)) ≡ true ⌝ }
+    ensures { λ r. ⌜ handed s (granted head words r) (now (arena .exit)) (now (table .exit)) (now (index .exit)) []
+        ≡ acted segmentEngine (ask words)
+        (segmentPool s (head .next) (now (arena .entry)) (now (table .entry)) (now (index .entry))) ⌝ }
+{
+    if (words == 0) | (16384 < words) {
+        return no_effect(2);
+    }
+    let Slot::At(slot) = record_table::empty_slot(table) else {
+        return no_effect(3);
+    };
+    let next = head.next;
+    if next == 0 {
+        return no_effect(4);
+    }
+    segment_check::ranged(arena);
+    let segments = segment_index::segments_of(s, arena.len());
+    let at = segment_cores::search(arena, index, segments, words + 1);
+    if at == arena.len() {
+        return no_effect(5);
+    }
+    place(head, s, arena, table, index, words, slot, at)
+}
+
+// The outcome of an allocation with this effect.
+pub fn outcome_of_grant(head: Head, words: u32, done: u32) -> Outcome
+    ensures { λ r. ⌜ r ≡ granted head words done ⌝ }
+{
+    let number = done / 65536;
+    if number != 0 {
+        return refused_with(head, number);
+    }
+    let new = Row {
+        ticket: head.next,
+        address: done % 65536,
+        words,
+    };
+    Outcome {
+        head: Head {
+            next: call_parts::next_after(head.next),
+        },
+        answer: call_parts::succeeded(new),
+    }
+}
+
+// ---- release
+
+// Gives back the words of the named record, which stands in the slot, and empties the slot.
+fn give_back(
+    head: Head,
+    s: u32,
+    arena: &mut [i32],
+    table: &mut [u32],
+    index: &mut [u32],
+    named: Row,
+    slot: usize,
+) -> u32
+    requires { ⌜ (sound segmentEngine (segmentPool s (head .next) (now arena) (now table) (now index))
+        ≡ true) × (namedIn (now table) named ≡ Named.Slot slot) ⌝ }
+    ensures { λ r. ⌜ handed s (vacated head named r) (now (arena .exit)) (now (table .exit)) (now (index .exit)) []
+        ≡ acted segmentEngine (give named)
+        (segmentPool s (head .next) (now (arena .entry)) (now (table .entry)) (now (index .entry))) ⌝ }
+{
+    segment_check::ranged(arena);
+    let at = record_table::first_unit(Rule { unit: 1, lead: 1 }, named);
+    let n = record_table::span_of(Rule { unit: 1, lead: 1 }, named.words);
+    let segments = segment_index::segments_of(s, arena.len());
+    segment_cores::release(arena, index, segments, at, n);
+    let none = Row {
+        ticket: 0,
+        address: 0,
+        words: 0,
+    };
+    record_table::write_row(table, slot, none);
+    0
+}
+
+// A release on a sound pool: its number.
+pub fn vacate(
+    head: Head,
+    s: u32,
+    arena: &mut [i32],
+    table: &mut [u32],
+    index: &mut [u32],
+    named: Row,
+) -> u32
+    requires { ⌜ sound segmentEngine (segmentPool s (head .next) (now arena) (now table) (now index)) ≡ true ⌝ }
+    ensures { λ r. ⌜ handed s (vacated head named r) (now (arena .exit)) (now (table .exit)) (now (index .exit)) []
+        ≡ acted segmentEngine (give named)
+        (segmentPool s (head .next) (now (arena .entry)) (now (table .entry)) (now (index .entry))) ⌝ }
+{
+    match call_parts::named_slot(table, named) {
+        Named::Refused(number) => number,
+        Named::Slot(slot) => give_back(head, s, arena, table, index, named, slot),
+    }
+}
+
+// The outcome of a release with this number.
+pub fn outcome_of_release(head: Head, named: Row, number: u32) -> Outcome
+    ensures { λ r. ⌜ r ≡ vacated head named number ⌝ }
+{
+    if number != 0 {
+        return refused_with(head, number);
+    }
+    Outcome {
+        head: Head { next: head.next },
+        answer: call_parts::succeeded(named),
+    }
+}
+
+// ---- list
+
+// One request on a sound pool.
+fn serve(
+    head: Head,
+    s: u32,
+    arena: &mut [i32],
+    table: &mut [u32],
+    index: &mut [u32],
+    request: Request,
+) -> Outcome
+    requires { ⌜ sound segmentEngine (segmentPool s (head .next) (now arena) (now table) (now index)) ≡ true ⌝ }
+    ensures { λ r. ⌜ handed s r (now (arena .exit)) (now (table .exit)) (now (index .exit)) []
+        ≡ acted segmentEngine (actOf request)
+        (segmentPool s (head .next) (now (arena .entry)) (now (table .entry)) (now (index .entry))) ⌝ }
+{
+    match request {
+        Request::Ask(words) => {
+            let done = grant(head, s, arena, table, index, words);
+            outcome_of_grant(head, words, done)
+        }
+        Request::Give(named) => {
+            let done = vacate(head, s, arena, table, index, named);
+            outcome_of_release(head, named, done)
+        }
+        Request::Bad => refused_with(head, 9),
+    }
+}
+
+// Request i, with its answer written: the head after it.
+fn serve_at(
+    head: Head,
+    s: u32,
+    arena: &mut [i32],
+    table: &mut [u32],
+    index: &mut [u32],
+    asked: &[u32],
+    answers: &mut [u32],
+    i: usize,
+) -> Head
+    requires { ⌜ sound segmentEngine (segmentPool s (head .next) (now arena) (now table) (now index)) ≡ true ⌝ }
+    requires { ⌜ (4 * i + 3 < length (now asked)) × (4 * i + 3 < length (now answers)) ⌝ }
+    ensures { λ r. ⌜ segmentPool s (r .next) (now (arena .exit)) (now (table .exit)) (now (index .exit))
+        ≡ poolAfter segmentEngine
+        (segmentPool s (head .next) (now (arena .entry)) (now (table .entry)) (now (index .entry)))
+        (requestAt (now (asked .entry)) i) ⌝ }
+    ensures { λ _. ⌜ now (answers .exit)
+        ≡ withAnswer (now (answers .entry)) i (answerTo segmentEngine
+        (segmentPool s (head .next) (now (arena .entry)) (now (table .entry)) (now (index .entry)))
+        (requestAt (now (asked .entry)) i)) ⌝ }
+{
+    let request = call_parts::request_at(asked, i);
+    let done = serve(head, s, arena, table, index, request);
+    call_parts::put_answer(answers, i, done.answer);
+    done.head
+}
+
+// All requests on a sound pool, one after another: the head after them.
+pub fn serve_all(
+    head: Head,
+    s: u32,
+    arena: &mut [i32],
+    table: &mut [u32],
+    index: &mut [u32],
+    asked: &[u32],
+    answers: &mut [u32],
+) -> Head
+    requires { ⌜ sound segmentEngine (segmentPool s (head .next) (now arena) (now table) (now index)) ≡ true ⌝ }
+    requires { ⌜ (length (now asked) % 4 ≡ 0) × (length (now asked) ≤ length (now answers)) ⌝ }
+    ensures { λ r. ⌜
+        (segmentPool s (r .next) (now (arena .exit)) (now (table .exit)) (now (index .exit)), now (answers .exit))
+        ≡ ran segmentEngine (now (asked .entry)) (now (answers .entry))
+        (segmentPool s (head .next) (now (arena .entry)) (now (table .entry)) (now (index .entry))) ⌝ }
+{
+    let mut after = head;
+    let mut i = 0;
+    while i < asked.len() / 4 {
+        after = serve_at(after, s, arena, table, index, asked, answers, i);
+        i += 1;
+    }
+    after
+}

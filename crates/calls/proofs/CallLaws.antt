@@ -9,12 +9,13 @@ use Rattle.words.specs.Lists.{Words}
 use Rattle.words.proofs.Tests.{eqb-false}
 use Rattle.ledger.specs.declared.Row.{Row}
 use Rattle.ledger.specs.Records.{Plan, vacate}
-use Rattle.calls.specs.Pool.{Pool, ledger, Engine}
+use Rattle.calls.specs.Pool.{Pool, ledger, Engine, sound}
 use Rattle.calls.specs.Step.{Call, format, single, look, list, refusal, accepted, Act, ask, give, query, bad, Kind}
 use Rattle.calls.specs.Step.{plans, reads, others, kindOf, Counted, named, numberOf, poolDone, answerTo}
-use Rattle.calls.specs.Step.{poolAfter, countedOf, poolAfterAll, actsOf, buffersOf, suits, fills, ownAnswer}
-use Rattle.calls.specs.Step.{buffersAfter, asOne, countedWhole, refusedBy}
+use Rattle.calls.specs.Step.{poolAfter, countedOf, poolAfterAll, actsOf, buffersOf, fills, ownAnswer}
+use Rattle.calls.specs.Step.{buffersAfter, asOne, countedWhole, gate, refusedBy}
 use Rattle.calls.proofs.ActLaws.{planned, act-refused, act-accepted, kind-plans}
+use Rattle.calls.proofs.GateLaws.{gate-sound}
 
 module _ (E : Engine) where
   -- a refused act leaves the pool as it was
@@ -52,7 +53,7 @@ module _ (E : Engine) where
 
 -- a call that the gate refuses leaves the pool, unless it fills memory anew
 pub refused-pool : (E : Engine) (c : Call Words) (q : Pool) (n : ℕ) → fills c ≡ false → refusedBy E c q n .pool ≡ q
-refused-pool E format q n f = absurd (true≢false f)
+refused-pool E (format first) q n f = absurd (true≢false f)
 refused-pool E (single a) q n f = refl
 refused-pool E (look r hold) q n f = refl
 refused-pool E (list rs bs) q n f = refl
@@ -61,7 +62,7 @@ refused-pool E (list rs bs) q n f = refl
 pub own-refused : (E : Engine) (c : Call Words) (q : Pool) → fills c ≡ false
     → accepted (ownAnswer c (countedOf E q (actsOf c))) ≡ false
     → poolAfterAll E q (actsOf c) ≡ q
-own-refused E format q h f = absurd (true≢false h)
+own-refused E (format first) q h f = absurd (true≢false h)
 own-refused E (single a) q h f = act-kept E q a f
 own-refused E (look r hold) q h f = act-kept E q (query r) f
 own-refused E (list rs bs) q h f = absurd (true≢false f)
@@ -69,14 +70,15 @@ own-refused E (list rs bs) q h f = absurd (true≢false f)
 -- where the call did its acts unaccepted, there was no buffer to write
 pub own-buffers : (c : Call Words) (cs : List Counted) → accepted (ownAnswer c cs) ≡ false
     → buffersAfter c cs ≡ buffersOf c
-own-buffers format cs f = refl
+own-buffers (format first) cs f = refl
 own-buffers (single a) cs f = refl
 own-buffers (look r hold) cs f = refl
 own-buffers (list rs bs) cs f = absurd (true≢false f)
 
--- only a list call can fail to suit its buffers, and then it counts as one call
-pub unsuited-whole : (c : Call Words) (n : ℕ) → suits c ≡ false → countedWhole c n ≡ asOne (refusal n)
-unsuited-whole format n h = absurd (true≢false h)
-unsuited-whole (single a) n h = absurd (true≢false h)
-unsuited-whole (look r hold) n h = absurd (true≢false h)
-unsuited-whole (list rs bs) n h = refl
+-- where the gate of a sound pool stops a call, it is a list call or one that fills memory, and counts as one call
+pub stopped-whole : (E : Engine) (c : Call Words) (q : Pool) → sound E q ≡ true → gate E c q ≢ 0 → (n : ℕ)
+    → countedWhole c n ≡ asOne (refusal n)
+stopped-whole E (format first) q ok g n = refl
+stopped-whole E (single a) q ok g n = absurd (g (gate-sound E (single a) q refl refl ok))
+stopped-whole E (look r hold) q ok g n = absurd (g (gate-sound E (look r hold) q refl refl ok))
+stopped-whole E (list rs bs) q ok g n = refl

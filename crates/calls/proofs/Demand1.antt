@@ -19,13 +19,13 @@ use Rattle.calls.specs.Step.{Act, ask, give, query, bad, Outcome, listSu
 use Rattle.calls.specs.Step.{poolAfter, buffersOf, suits, fills, shownBy, gate, refusedHead, refusedBy, actsDone}
 use Rattle.calls.specs.Step.{behind, perform, step}
 use Rattle.calls.specs.Demand1.{BadSize, NoRecord, NoTicket, NoRoom, Unknown, Same, AskNumbers, NameNumbers}
-use Rattle.calls.specs.Demand1.{ActNumbers, Refused, Performed, RequestForms, Demand1}
+use Rattle.calls.specs.Demand1.{ActNumbers, FormatNumbers, Refused, Performed, RequestForms, Demand1}
 use Rattle.calls.proofs.StoreLaws.{sound-valid, sound-form}
 use Rattle.calls.proofs.RowLaws.{size-test, record-test, ticket-test, room-test, unknown-test, record-same}
 use Rattle.calls.proofs.RowLaws.{same-record}
 use Rattle.calls.proofs.ActLaws.{named-none, named-some, named-right, named-zero, act-refused, answer-number}
 use Rattle.calls.proofs.ActLaws.{counted-append}
-use Rattle.calls.proofs.GateLaws.{Way, stops, runs, way, both, neither, gate-number, step-sound}
+use Rattle.calls.proofs.GateLaws.{Way, stops, runs, way, both, neither, GateNumber, gate-number, step-sound}
 use Rattle.calls.proofs.CallLaws.{reads-kept}
 
 -- a test that fails, and what it says
@@ -189,7 +189,7 @@ module _ (E : Engine) where
 
   refused-run : (c : Call Words) (p : Pool) → accepted (perform E c p .answer) ≡ false → Refused E c p (perform E c p)
   unfolding perform actsDone
-  refused-run format p h = absurd (true≢false h)
+  refused-run (format first) p h = absurd (true≢false h)
   refused-run (single a) p h = refused-one (single a) p a (perform E (single a) p) refl refl refl refl refl h
   refused-run (look r hold) p h =
       refused-one (look r hold) p (query r) (perform E (look r hold) p) refl refl refl refl refl h
@@ -245,7 +245,7 @@ module _ (E : Engine) where
       acted a = ap ofAct (answer-number E p a) ∙ act-number p a
 
       go : (c : Call Words) → ofAct (perform E c p .answer .number) ≡ true
-      go format = refl
+      go (format first) = refl
       go (single a) = acted a
       go (look r hold) = acted (query r)
       go (list rs bs) = refl
@@ -266,10 +266,37 @@ module _ (E : Engine) where
   eight-step c p =
       then-iff (gate-gives c p 8 (λ z. omega arith) (run-number c p .1)) (gate-number E c p .eight)
 
-  format-number : (p : Pool) → lengths E p ≡ true → step E format p .answer .number ≡ 0
-  unfolding step perform
-  format-number p e =
-      rw (gate-number E format p .zero .1 (and-i (lengths E p) true e refl, λ f. absurd (true≢false f)))
+  -- a format's number is the gate's
+  format-number : (p : Pool) (first : ℕ) → step E (format first) p .answer .number ≡ gate E (format first) p
+  unfolding perform
+  format-number p first = by (step E (format first) p) (way E (format first) p)
+    where
+      by : (o : Outcome) → Way E (format first) p o → o .answer .number ≡ gate E (format first) p
+      by o (stops n g z e) = ap numberIn e ∙ sym g
+      by o (runs g e) = ap numberIn e ∙ sym g
+
+  format-numbers : (p : Pool) (first : ℕ)
+      → FormatNumbers (lengths E p) first (step E (format first) p .answer .number)
+  format-numbers p first = rw (format-number p first) (record { six = six; zero = zero })
+    where
+      g : GateNumber (lengths E p && true) true (eqb first 0) (stored E p) (gate E (format first) p)
+      g = gate-number E (format first) p
+
+      right : (lengths E p && true) ≡ true → lengths E p ≡ true
+      right h = and-l (lengths E p) true h
+
+      six : (gate E (format first) p ≡ 6) ↔ ((lengths E p ≡ true) × (first ≡ 0))
+      six = (
+        (λ h. let (_, l, z) = g .six .0 h in (right l, eqb-eq first 0 z)),
+        (λ h. g .six .1 (refl, and-i (lengths E p) true (h .0) refl, ap (λ n. eqb n 0) (h .1))),
+      )
+
+      zero : (gate E (format first) p ≡ 0) ↔ ((lengths E p ≡ true) × (first ≢ 0))
+      zero = (
+        (λ h. let (l, _, z) = g .zero .0 h in (right l, eqb-false first 0 (z refl))),
+        (λ h. g .zero .1
+            (and-i (lengths E p) true (h .0) refl, λ f. absurd (true≢false f), λ _. eqb-ne first 0 (h .1))),
+      )
 
   acts-performed : (c : Call Words) (p : Pool) → Performed E c p (actsDone E c p)
   unfolding actsDone
@@ -361,7 +388,7 @@ demand1 E laws =
       refusedAct = refused-act E;
       eight = eight-step E;
       one = one-step E laws;
-      formats = format-number E;
+      formats = format-numbers E;
       performed = λ c p f s ok. subst (Performed E c p) (sym (step-sound E c p f s ok)) (acts-performed E c p);
       numbers = λ p a ok. subst (ActNumbers E p a) (sym (answer-number E p a)) (act-numbers E laws p a ok);
       inTurn = λ p xs ys. counted-append E xs ys p;

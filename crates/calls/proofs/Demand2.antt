@@ -17,7 +17,7 @@ use Rattle.ledger.specs.Runs.{freeRuns}
 use Rattle.ledger.proofs.RecordLaws.{record-kept}
 use Rattle.ledger.proofs.UnitLaws.{free-enter, free-settle, valid-settle}
 use Rattle.ledger.proofs.RunLaws.{runs-are}
-use Rattle.calls.specs.Pool.{store, Pool, ledger, wordCount, Engine, Laws, firstTicket, nextAfter, ruleOf}
+use Rattle.calls.specs.Pool.{store, Pool, ledger, wordCount, Engine, Laws, nextAfter, ruleOf}
 use Rattle.calls.specs.Pool.{lengths, sound}
 use Rattle.calls.specs.Step.{Call, format, success, zeroAnswer, refusal, accepted, Act, ask, give, query}
 use Rattle.calls.specs.Step.{Outcome, fitOf, numberOf, newRow, grant, carry, answerDone, answerTo}
@@ -135,20 +135,22 @@ module _ (E : Engine) (laws : Laws E) where
       (λ p x r e. refl)
 
   -- a format that is accepted had the right lengths
-  format-done : (p : Pool) → accepted (step E format p .answer) ≡ true
-      → (lengths E p ≡ true) × (step E format p ≡ formatDone E p)
+  pub format-done : (p : Pool) (first : ℕ) → accepted (step E (format first) p .answer) ≡ true
+      → (lengths E p ≡ true) × (step E (format first) p ≡ formatDone E first p)
   unfolding perform
-  format-done p h = by (step E format p) (way E format p) h
+  format-done p first h = by (step E (format first) p) (way E (format first) p) h
     where
-      by : (o : Outcome) → Way E format p o → accepted (o .answer) ≡ true → (lengths E p ≡ true) × (o ≡ formatDone E p)
+      by : (o : Outcome) → Way E (format first) p o → accepted (o .answer) ≡ true
+          → (lengths E p ≡ true) × (o ≡ formatDone E first p)
       by o (stops n g z e) h =
           absurd (false≢true (sym (eqb-ne n 0 z) ∙ ap (λ (q : Outcome). accepted (q .answer)) (sym e) ∙ h))
-      by o (runs g e) h = (and-l (lengths E p) true (gate-number E format p .zero .0 g .0), e)
+      by o (runs g e) h = (and-l (lengths E p) true (gate-number E (format first) p .zero .0 g .0), e)
 
-  format-sound : (p : Pool) → accepted (step E format p .answer) ≡ true → sound E (step E format p .pool) ≡ true
-  format-sound p h =
-      let (right, made) = format-done p h in
-      ap (λ (o : Outcome). sound E (o .pool)) made ∙ blank-sound E laws p right
+  format-sound : (p : Pool) (first : ℕ) → accepted (step E (format first) p .answer) ≡ true
+      → sound E (step E (format first) p .pool) ≡ true
+  format-sound p first h =
+      let (right, made) = format-done p first h in
+      ap (λ (o : Outcome). sound E (o .pool)) made ∙ blank-sound E laws p first right
 
   -- ---- a held block
 
@@ -218,13 +220,13 @@ module _ (E : Engine) (laws : Laws E) where
           (acts-spare (actsOf c) p ok r e s)
 
 module _ (E : Engine) (laws : Laws E) where
-  format-blank : (p : Pool) → accepted (step E format p .answer) ≡ true
-      → (ledger (step E format p .pool) ≡ blank E p) × (step E format p .pool .head .next ≡ firstTicket)
-      × (step E format p .answer ≡ zeroAnswer)
-  format-blank p h =
-      let made = format-done E laws p h .1 in (
-        ap (λ (o : Outcome). ledger (o .pool)) made ∙ ledger-store E (blank E p) firstTicket p,
-        ap (λ (o : Outcome). o .pool .head .next) made ∙ next-store E (blank E p) firstTicket p,
+  format-blank : (p : Pool) (first : ℕ) → accepted (step E (format first) p .answer) ≡ true
+      → (ledger (step E (format first) p .pool) ≡ blank E p) × (step E (format first) p .pool .head .next ≡ first)
+      × (step E (format first) p .answer ≡ zeroAnswer)
+  format-blank p first h =
+      let made = format-done E laws p first h .1 in (
+        ap (λ (o : Outcome). ledger (o .pool)) made ∙ ledger-store E (blank E p) first p,
+        ap (λ (o : Outcome). o .pool .head .next) made ∙ next-store E (blank E p) first p,
         ap (λ (o : Outcome). o .answer) made,
       )
 
@@ -247,8 +249,8 @@ demand2 E laws =
       finds = finds-at E laws;
       stays = act-sound E laws;
       throughout = λ p c. acts-sound E laws (actsOf c) p;
-      formats = λ p h. let (holds, next, answer) = format-blank E laws p h in
-          (format-sound E laws p h, holds, next, answer);
+      formats = λ p first h. let (holds, next, answer) = format-blank E laws p first h in
+          (format-sound E laws p first h, holds, next, answer);
       keeps = λ p a. (count-kept E laws p a, act-shape E laws p a);
       merged = λ p. runs-are (free (ruleOf E p) (ledger p)) (wordCount p / ruleOf E p .unit);
       spares = act-spares E laws;

@@ -102,7 +102,7 @@ module _ (E : Engine) (laws : Laws E) (p : Pool) (ok : sound E p ≡ true) (ms :
   list-right : (q : Pool) → sound E q ≡ true → (c : Call Buffer) (o : Outcome) → o ≡ step E (mapCall (see q) c) q
       → RightList q c o
   unfolding actsDone
-  list-right q so format o j = tt
+  list-right q so (format first) o j = tt
   list-right q so (single a) o j = tt
   list-right q so (look r hold) o j = tt
   list-right q so (list rs bs) o j = λ h.

@@ -5,6 +5,7 @@ use native.Mathlib.Decide.{ℕ-discrete}
 use mathlib.Core.Path.{_≡_, refl, sym, _∙_}
 use mathlib.Core.Logic.{_≢_, _↔_}
 use mathlib.Core.Bool.{Bool, true, false, cond, _&&_, true≢false, false≢true}
+use lib.Dec.{eqb}
 use Rattle.words.specs.Lists.{Words}
 use Rattle.words.proofs.Tests.{and-l, and-r, and-i, eqb-ne}
 use Rattle.calls.specs.Pool.{Pool, Engine, lengths, stored, sound}
@@ -15,6 +16,13 @@ use Rattle.calls.specs.Step.{refusedBy, actsDone, perform, step}
 pub data Way (E : Engine) (c : Call Words) (p : Pool) (o : Outcome) : Type 0 where
   stops : (n : ℕ) → gate E c p ≡ n → n ≢ 0 → o ≡ refusedBy E c p n → Way E c p o
   runs : gate E c p ≡ 0 → o ≡ perform E c p → Way E c p o
+
+-- a format whose first ticket is 0
+abbrev zeroFirst : Call Words → Bool
+zeroFirst (format first) = eqb first 0
+zeroFirst (single a) = false
+zeroFirst (look r hold) = false
+zeroFirst (list rs bs) = false
 
 module _ (E : Engine) (c : Call Words) (p : Pool) where
   pub way : Way E c p (step E c p)
@@ -35,22 +43,22 @@ module _ (E : Engine) (c : Call Words) (p : Pool) where
   perform-acts = go c
     where
       go : (c : Call Words) → fills c ≡ false → perform E c p ≡ actsDone E c p
-      go format f = absurd (true≢false f)
+      go (format first) f = absurd (true≢false f)
       go (single a) f = refl
       go (look r hold) f = refl
       go (list rs bs) f = refl
 
-  behind-is : behind E c p ≡ cond (fills c) 0 (cond (stored E p) 0 1)
+  behind-is : behind E c p ≡ cond (fills c) (cond (zeroFirst c) 6 0) (cond (stored E p) 0 1)
   unfolding behind
   behind-is = go c
     where
-      go : (c : Call Words) → behind E c p ≡ cond (fills c) 0 (cond (stored E p) 0 1)
-      go format = refl
+      go : (c : Call Words) → behind E c p ≡ cond (fills c) (cond (zeroFirst c) 6 0) (cond (stored E p) 0 1)
+      go (format first) = refl
       go (single a) = refl
       go (look r hold) = refl
       go (list rs bs) = refl
 
--- ---- the gate's number: 8, 1 or 0
+-- ---- the gate's number: 8, 1, 6 or 0
 
 -- two statements that both hold, or of which neither does
 pub both : {P Q : Type 0} → P → Q → P ↔ Q
@@ -59,55 +67,69 @@ both p q = (λ h. q, λ h. p)
 pub neither : {P Q : Type 0} → (P → ⊥) → (Q → ⊥) → P ↔ Q
 neither f g = (λ p. absurd (f p), λ q. absurd (g q))
 
--- a: the lengths suit; f: the call fills memory anew; s: the pool is stored
-pub record GateNumber (a f s : Bool) (n : ℕ) : Type 0 where
+-- a: the lengths suit; f: the call fills memory anew; z: with first ticket 0; s: the pool is stored
+pub record GateNumber (a f z s : Bool) (n : ℕ) : Type 0 where
   pub eight : (n ≡ 8) ↔ (a ≡ false)
   pub one : (n ≡ 1) ↔ ((f ≡ false) × (a ≡ true) × (s ≡ false))
-  pub zero : (n ≡ 0) ↔ ((a ≡ true) × (f ≡ false → s ≡ true))
+  pub six : (n ≡ 6) ↔ ((f ≡ true) × (a ≡ true) × (z ≡ true))
+  pub zero : (n ≡ 0) ↔ ((a ≡ true) × (f ≡ false → s ≡ true) × (f ≡ true → z ≡ false))
 
-gate-cases : (a f s : Bool) → GateNumber a f s (cond a (cond f 0 (cond s 0 1)) 8)
-gate-cases false f s = record {
+gate-cases : (a f z s : Bool) → GateNumber a f z s (cond a (cond f (cond z 6 0) (cond s 0 1)) 8)
+gate-cases false f z s = record {
   eight = both refl refl;
   one = neither (λ h. omega arith) (λ h. false≢true (h .1));
+  six = neither (λ h. omega arith) (λ h. false≢true (h .1));
   zero = neither (λ h. omega arith) (λ h. false≢true (h .0));
 }
-gate-cases true true s = record {
+gate-cases true true true s = record {
   eight = neither (λ h. omega arith) true≢false;
   one = neither (λ h. omega arith) (λ h. true≢false (h .0));
-  zero = both refl (refl, λ h. absurd (true≢false h));
+  six = both refl (refl, refl, refl);
+  zero = neither (λ h. omega arith) (λ h. true≢false (h .2 refl));
 }
-gate-cases true false true = record {
+gate-cases true true false s = record {
+  eight = neither (λ h. omega arith) true≢false;
+  one = neither (λ h. omega arith) (λ h. true≢false (h .0));
+  six = neither (λ h. omega arith) (λ h. false≢true (h .2));
+  zero = both refl (refl, λ h. absurd (true≢false h), λ h. refl);
+}
+gate-cases true false z true = record {
   eight = neither (λ h. omega arith) true≢false;
   one = neither (λ h. omega arith) (λ h. true≢false (h .2));
-  zero = both refl (refl, λ h. refl);
+  six = neither (λ h. omega arith) (λ h. false≢true (h .0));
+  zero = both refl (refl, λ h. refl, λ h. absurd (false≢true h));
 }
-gate-cases true false false = record {
+gate-cases true false z false = record {
   eight = neither (λ h. omega arith) true≢false;
   one = both refl (refl, refl, refl);
+  six = neither (λ h. omega arith) (λ h. false≢true (h .0));
   zero = neither (λ h. omega arith) (λ h. false≢true (h .1 refl));
 }
 
 module _ (E : Engine) (c : Call Words) (p : Pool) where
-  pub gate-number : GateNumber (lengths E p && suits c) (fills c) (stored E p) (gate E c p)
+  pub gate-number : GateNumber (lengths E p && suits c) (fills c) (zeroFirst c) (stored E p) (gate E c p)
   unfolding gate
-  gate-number = rw (behind-is E c p) (gate-cases (lengths E p && suits c) (fills c) (stored E p))
+  gate-number = rw (behind-is E c p) (gate-cases (lengths E p && suits c) (fills c) (zeroFirst c) (stored E p))
 
   -- a sound pool, and lengths that suit
-  pub gate-sound : suits c ≡ true → sound E p ≡ true → gate E c p ≡ 0
+  pub gate-sound : fills c ≡ false → suits c ≡ true → sound E p ≡ true → gate E c p ≡ 0
   unfolding sound
-  gate-sound s ok =
-      gate-number .zero .1
-      (and-i (lengths E p) (suits c) (and-l (lengths E p) (stored E p) ok) s, λ f. and-r (lengths E p) (stored E p) ok)
+  gate-sound f s ok =
+      gate-number .zero .1 (
+        and-i (lengths E p) (suits c) (and-l (lengths E p) (stored E p) ok) s,
+        (λ _. and-r (lengths E p) (stored E p) ok),
+        (λ t. absurd (true≢false (sym t ∙ f))),
+      )
 
   pub sound-gate : fills c ≡ false → gate E c p ≡ 0 → sound E p ≡ true
   unfolding sound
   sound-gate f z =
-      let (a, s) = gate-number .zero .0 z in
+      let (a, s, _) = gate-number .zero .0 z in
       and-i (lengths E p) (stored E p) (and-l (lengths E p) (suits c) a) (s f)
 
   pub step-sound : fills c ≡ false → suits c ≡ true → sound E p ≡ true → step E c p ≡ actsDone E c p
   unfolding step
-  step-sound f s ok = rw (gate-sound s ok) (perform-acts E c p f)
+  step-sound f s ok = rw (gate-sound f s ok) (perform-acts E c p f)
 
 -- ---- one gate for all calls that fill nothing and suit their buffers
 

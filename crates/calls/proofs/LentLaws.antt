@@ -180,7 +180,7 @@ returned-head q e h f =
     λ i. record { root = root i; next = next i }
 
 pub fills-seen : (f : Buffer → Words) (c : Call Buffer) → fills (mapCall f c) ≡ fills c
-fills-seen f format = refl
+fills-seen f (format first) = refl
 fills-seen f (single a) = refl
 fills-seen f (look r hold) = refl
 fills-seen f (list rs bs) = refl
@@ -194,7 +194,7 @@ outcome-is E q e = refl
 -- the words written beside the pool: elsewhere, or as they were
 pub buffers-left : (c : Call Buffer) (q : Pool) (xs : List Words)
     → (all (all isOther) (writtenBy c) ≡ false → xs ≡ buffersOf (mapCall (see q) c)) → leaveAll (writtenBy c) xs q ≡ q
-buffers-left format q xs h = refl
+buffers-left (format first) q xs h = refl
 buffers-left (single a) q xs h = refl
 buffers-left (look r hold) q xs h = refl
 buffers-left (list rs bs) q [] h = refl

@@ -17,7 +17,7 @@ use Rattle.ledger.specs.Units.{valid, owned}
 use Rattle.ledger.proofs.RecordLaws.{records-table, length-tableOf, length-table-settle, settle-nil, settle-more}
 use Rattle.ledger.proofs.UnitLaws.{owned-settle, valid-settle, valid-blank}
 use Rattle.calls.specs.Pool.{Pool, ledger, wordCount, Engine, Laws, StoredForm, ruleOf, store, lengths, samePool}
-use Rattle.calls.specs.Pool.{stored, sound, mostRecords, firstTicket}
+use Rattle.calls.specs.Pool.{stored, sound, mostRecords}
 use Rattle.calls.specs.Step.{blank}
 
 pub same-pool-eq : (p q : Pool) → samePool p q ≡ true → p ≡ q
@@ -164,14 +164,14 @@ module _ (E : Engine) where
       settled-none = rw (settle-nil (ledger p)) (sym is-store)
 
     -- format: a pool with no record
-    pub blank-sound : (p : Pool) → lengths E p ≡ true → sound E (store E (blank E p) firstTicket p) ≡ true
+    pub blank-sound : (p : Pool) (first : ℕ) → lengths E p ≡ true → sound E (store E (blank E p) first p) ≡ true
     unfolding lengths
-    blank-sound p h =
+    blank-sound p first h =
         let z : length (p .table) % recordWords ≡ 0 = eqb-eq (length (p .table) % recordWords) 0
         (search (and-l, and-r)) in
-        store-sound p (blank E p) firstTicket h
+        store-sound p (blank E p) first h
         (length-tableOf (blank E p) ∙ rw (length-replicate (slots (p .table)) emptyRow) (omega arith))
-        (valid-blank (ruleOf E p) (wordCount p) firstTicket (slots (p .table)))
+        (valid-blank (ruleOf E p) (wordCount p) first (slots (p .table)))
 
   -- one more plan carried out
   unfoldable pub settled : Pool → List Member → Pool

@@ -85,7 +85,7 @@ pub record StrayCall (E : Engine) (start : Ledger) (b : Brings) (s : Progress) (
 pub no-filling : (E : Engine) (start : Ledger) (b : Brings) (s : Progress) (c : Call Words) (m : Pool)
     → fills c ≡ true → standAll start b s (perform E c m .counted) ≡ true → ⊥
 unfolding perform stands
-no-filling E start b s format m f h = false≢true h
+no-filling E start b s (format first) m f h = false≢true h
 no-filling E start b s (single a) m f h = false≢true f
 no-filling E start b s (look r hold) m f h = false≢true f
 no-filling E start b s (list rs bs) m f h = false≢true f
@@ -105,13 +105,13 @@ module _ (E : Engine) (start : Ledger) (b : Brings) (s : Progress) (w : b .whole
   }
     where
       right : (c : Call Words) → Right start b s (countedWhole c n)
-      right format = tt
+      right (format first) = tt
       right (single a) = right-stray start b s a (refusal n) w z
       right (look r hold) = tt
       right (list rs bs) = tt
 
       still : (c : Call Words) → afterAct start b s (countedWhole c n) ≡ s
-      still format = refl
+      still (format first) = refl
       still (single a) = stays start b s a (refusal n) (not-due start b s w (kindOf a)) z
       still (look r hold) = refl
       still (list rs bs) = refl

@@ -2,12 +2,13 @@
 use Prim.Native.Nat.{ℕ}
 use native.Mathlib.Omega.{arith}
 use mathlib.Core.Path.{_≡_, refl, sym, ap, _∙_, subst}
+use mathlib.Core.Logic.{_≢_}
 use mathlib.Core.Bool.{Bool, true, false, not, _&&_, _||_, false≢true, true≢false}
 use mathlib.Core.List.{List, [], _∷_}
 use mathlib.Core.Option.{Option, none, some}
 use lib.Dec.{eqb}
 use Rattle.words.specs.Lists.{Words, isSome}
-use Rattle.words.proofs.Tests.{and-l, and-r, not-true, eqb-eq, eqb-ne, false-of}
+use Rattle.words.proofs.Tests.{and-l, and-r, not-true, eqb-eq, eqb-ne}
 use Rattle.ledger.specs.declared.Row.{Row}
 use Rattle.ledger.specs.Records.{Ledger, recordOf, Plan, vacate, Member, member, planFor, settle}
 use Rattle.ledger.proofs.RecordLaws.{record-gone, record-kept}
@@ -15,15 +16,15 @@ use Rattle.calls.specs.declared.Answer.{Answer}
 use Rattle.calls.specs.Pool.{Pool, ledger, Engine, Laws, sound}
 use Rattle.calls.specs.Step.{Call, format, single, look, list, success, refusal, accepted, Act, query, Kind, plans}
 use Rattle.calls.specs.Step.{reads, others, kindOf, Counted, Outcome, named, carry, answerTo, poolAfter, countedOf}
-use Rattle.calls.specs.Step.{poolAfterAll, actsOf, buffersOf, suits, fills, ownAnswer, asOne, refusedBy, actsDone}
-use Rattle.calls.specs.Step.{perform, step}
+use Rattle.calls.specs.Step.{poolAfterAll, actsOf, buffersOf, fills, ownAnswer, asOne, gate, refusedBy}
+use Rattle.calls.specs.Step.{actsDone, perform, step}
 use Rattle.calls.specs.Demand3.{Brings, Progress, remove, isPlan, live, isDue, isReplay, standsAs, stands, RightAs}
 use Rattle.calls.specs.Demand3.{Right, afterAs, afterAct, standAll, RightAll, afterActs}
 use Rattle.calls.proofs.StoreLaws.{ledger-store, settled-sound, settled, settled-more}
 use Rattle.calls.proofs.ActLaws.{named-none, named-zero, plan-done, kind-plans}
-use Rattle.calls.proofs.GateLaws.{Way, stops, runs, way, gate-sound, perform-acts}
+use Rattle.calls.proofs.GateLaws.{Way, stops, runs, way, perform-acts}
 use Rattle.calls.proofs.ProgressLaws.{Inv, inv-carried, is-plan, given, stays, NotDue}
-use Rattle.calls.proofs.CallLaws.{act-kept, reads-kept, plan-refused, own-refused, own-buffers, unsuited-whole}
+use Rattle.calls.proofs.CallLaws.{act-kept, reads-kept, plan-refused, own-refused, own-buffers, stopped-whole}
 use Rattle.calls.proofs.Strays.{no-filling}
 
 -- ---- their acts
@@ -227,12 +228,12 @@ module _ (E : Engine) (laws : Laws E) (p : Pool) (ok : sound E p ≡ true) (ms :
     unfolding settled
     whole-sound = ap (λ (z : Pool). sound E z) e ∙ settled-sound E laws p ok (s .done)
 
-    -- the gate of a sound pool stops only a list call that does not suit its buffers; it counts as a whole
-    whole-stopped : (c : Call Words) (n : ℕ) → eqb n 0 ≡ false → suits c ≡ false → WholeCall s q c (refusedBy E c q n)
+    -- what the gate of a sound pool stops counts as a whole
+    whole-stopped : (c : Call Words) (n : ℕ) → eqb n 0 ≡ false → gate E c q ≢ 0 → WholeCall s q c (refusedBy E c q n)
     unfolding afterAct
-    whole-stopped c n z u =
+    whole-stopped c n z g =
         let k : refusedBy E c q n .counted ≡ asOne (refusal n) ∷ [] =
-        ap (λ (x : Counted). x ∷ []) (unsuited-whole c n u) in
+        ap (λ (x : Counted). x ∷ []) (stopped-whole E c q whole-sound g n) in
         record {
           pool = λ h. absurd (false≢true (sym z ∙ h));
           inv = subst (λ (cs : List Counted). Inv ms (afterActs (ledger p) all-own s cs)) (sym k) v;
@@ -270,7 +271,7 @@ module _ (E : Engine) (laws : Laws E) (p : Pool) (ok : sound E p ≡ true) (ms :
             → standAll (ledger p) all-own s (countedOf E q (actsOf c)) ≡ true
             → accepted (ownAnswer c (countedOf E q (actsOf c))) ≡ false
             → afterActs (ledger p) all-own s (countedOf E q (actsOf c)) ≡ s
-        still format n h f = absurd (true≢false n)
+        still (format first) n h f = absurd (true≢false n)
         still (single a) n h f = one a h f
         still (look r hold) n h f = one (query r) h f
         still (list rs bs) n h f = absurd (true≢false f)
@@ -293,8 +294,7 @@ module _ (E : Engine) (laws : Laws E) (p : Pool) (ok : sound E p ≡ true) (ms :
         by : (o : Outcome) → Way E c q o → standAll (ledger p) all-own s (o .counted) ≡ true → WholeCall s q c o
         by o (stops n g z i) h =
             at o (refusedBy E c q n) i
-            (whole-stopped c n (eqb-ne n 0 z)
-            (false-of (suits c) (λ u. z (sym g ∙ gate-sound E c q u whole-sound))))
+            (whole-stopped c n (eqb-ne n 0 z) (λ y. z (sym g ∙ y)))
         by o (runs g i) h =
             at o (perform E c q) i
             (acts (fills c) refl (subst (λ (z : Outcome). standAll (ledger p) all-own s (z .counted) ≡ true) i h))

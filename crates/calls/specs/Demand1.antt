@@ -6,7 +6,7 @@
 use Prim.Native.Nat.{ℕ, _+_, _/_, _%_, _≤_, _<_}
 use mathlib.Core.Path.{_≡_}
 use mathlib.Core.Logic.{_≢_, _↔_, _⊎_}
-use mathlib.Core.Bool.{true, false, _&&_}
+use mathlib.Core.Bool.{Bool, true, false, _&&_}
 use mathlib.Core.List.{List, _++_}
 use lib.ListN.{length}
 use Rattle.words.specs.Flags.{Says}
@@ -67,6 +67,12 @@ ActNumbers E p (give r) x = NameNumbers p r x
 ActNumbers E p (query r) x = NameNumbers p r x
 ActNumbers E p bad x = x ≡ 9
 
+-- ---- the number of a format, behind 8: its first ticket is 0, or it is accepted
+
+pub record FormatNumbers (right : Bool) (first x : ℕ) : Type 0 where
+  pub six : (x ≡ 6) ↔ ((right ≡ true) × (first ≡ 0))
+  pub zero : (x ≡ 0) ↔ ((right ≡ true) × (first ≢ 0))
+
 -- ---- a refused call
 
 -- its number with ticket, address and words 0; head (but for format's zeros), S, arena, table, index and answer
@@ -104,11 +110,11 @@ pub record Demand1 (E : Engine) : Type 0 where
   pub refused : (c : Call Words) (p : Pool) → accepted (step E c p .answer) ≡ false → Refused E c p (step E c p)
   pub refusedAct : (p : Pool) (a : Act) → accepted (answerTo E p a) ≡ false
       → (answerTo E p a ≡ refusal (answerTo E p a .number)) × (poolAfter E p a ≡ p)
-  -- 8 and 1, exactly when their rows say; format gives 8 or succeeds
+  -- 8 and 1, exactly when their rows say; a format gives 8, 6 or 0
   pub eight : (c : Call Words) (p : Pool) → (step E c p .answer .number ≡ 8) ↔ ((lengths E p && suits c) ≡ false)
   pub one : (c : Call Words) (p : Pool) → (step E c p .answer .number ≡ 1)
       ↔ ((fills c ≡ false) × ((lengths E p && suits c) ≡ true) × (StoredForm E p → ⊥))
-  pub formats : (p : Pool) → lengths E p ≡ true → step E format p .answer .number ≡ 0
+  pub formats : (p : Pool) (first : ℕ) → FormatNumbers (lengths E p) first (step E (format first) p .answer .number)
   -- else the call does its acts, and every act's number is the one whose row holds
   pub performed : (c : Call Words) (p : Pool) → fills c ≡ false → suits c ≡ true → sound E p ≡ true
       → Performed E c p (step E c p)

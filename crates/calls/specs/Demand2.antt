@@ -13,7 +13,7 @@ use Rattle.ledger.specs.declared.Row.{Row}
 use Rattle.ledger.specs.Records.{recordOf, enter, vacate, member, settle}
 use Rattle.ledger.specs.Units.{span, first, past, covers, free}
 use Rattle.ledger.specs.Runs.{AreRuns, freeRuns}
-use Rattle.calls.specs.Pool.{Pool, ledger, wordCount, Engine, firstTicket, nextAfter, ruleOf, sound}
+use Rattle.calls.specs.Pool.{Pool, ledger, wordCount, Engine, nextAfter, ruleOf, sound}
 use Rattle.calls.specs.Step.{Call, format, success, zeroAnswer, refusal, accepted, Act, ask, give, query, Kind}
 use Rattle.calls.specs.Step.{plans, reads, others, kindOf, newRow, answerTo, poolAfter, actsOf, fills, blank, step}
 use Rattle.calls.specs.Demand1.{BadSize, NoRecord, NoTicket, NoRoom}
@@ -90,12 +90,12 @@ pub record Demand2 (E : Engine) : Type 0 where
   pub stays : (p : Pool) (a : Act) → sound E p ≡ true → sound E (poolAfter E p a) ≡ true
   -- every act of a call is answered on a sound pool: a list's requests too
   pub throughout : (p : Pool) (c : Call Words) → sound E p ≡ true → Throughout E p (actsOf c)
-  -- a formatted pool is sound, has no record, and its next ticket is 1; the answer is 0 and zeros
-  pub formats : (p : Pool) → accepted (step E format p .answer) ≡ true
-      → (sound E (step E format p .pool) ≡ true)
-      × (ledger (step E format p .pool) ≡ blank E p)
-      × (step E format p .pool .head .next ≡ firstTicket)
-      × (step E format p .answer ≡ zeroAnswer)
+  -- a formatted pool is sound, has no record, and its next ticket is the first number given; the answer is 0 and zeros
+  pub formats : (p : Pool) (first : ℕ) → accepted (step E (format first) p .answer) ≡ true
+      → (sound E (step E (format first) p .pool) ≡ true)
+      × (ledger (step E (format first) p .pool) ≡ blank E p)
+      × (step E (format first) p .pool .head .next ≡ first)
+      × (step E (format first) p .answer ≡ zeroAnswer)
   -- no act changes the arena's length or S
   pub keeps : (p : Pool) (a : Act) → (wordCount (poolAfter E p a) ≡ wordCount p) × (poolAfter E p a .shape ≡ p .shape)
   pub merged : (p : Pool)

@@ -126,7 +126,7 @@ RightList q (list rs bs) o =
     listSuits (see q rs) (see q bs) ≡ true
     → (o .answer ≡ zeroAnswer)
     × (o .buffers ≡ (answerWords (answersOf (o .counted)) ++ drop (length (see q rs)) (see q bs)) ∷ [])
-RightList q format o = Unit {0}
+RightList q (format first) o = Unit {0}
 RightList q (single a) o = Unit {0}
 RightList q (look r hold) o = Unit {0}
 

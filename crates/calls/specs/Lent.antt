@@ -99,7 +99,7 @@ pub record Event : Type 0 where
   pub call : Call Buffer
 
 abbrev pub mapCall : {A B : Type 0} → (A → B) → Call A → Call B
-mapCall f format = format
+mapCall f (format first) = format first
 mapCall f (single a) = single a
 mapCall f (look r hold) = look r (f hold)
 mapCall f (list rs bs) = list (f rs) (f bs)
@@ -154,7 +154,7 @@ onWhole p c = record {
 -- the words that a call writes beside the pool: a list call four for the answer to each request, "Answer words beyond
 -- the list stay"
 abbrev pub writtenBy : Call Buffer → List Buffer
-writtenBy format = []
+writtenBy (format first) = []
 writtenBy (single a) = []
 writtenBy (look r hold) = []
 writtenBy (list rs bs) = take (length rs) bs ∷ []

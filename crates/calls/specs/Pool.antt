@@ -53,10 +53,7 @@ pub record Engine : Type 0 where
 abbrev pub mostRecords : ℕ
 mostRecords = 256
 
--- the first ticket of a formatted pool, and the ticket after n: after 4,294,967,295 there is none
-abbrev pub firstTicket : ℕ
-firstTicket = 1
-
+-- the ticket after n: after 4,294,967,295 there is none
 abbrev pub nextAfter : ℕ → ℕ
 nextAfter n = cond (eqb n 4294967295) 0 (suc n)
 

@@ -13,7 +13,7 @@ use Rattle.ledger.specs.Records.{Ledger, row, emptyRow, slots, recordOf, sameBl
 use Rattle.ledger.specs.Records.{settle}
 use Rattle.ledger.specs.Units.{span, addressAt, past, free, lowestFit}
 use Rattle.calls.specs.declared.Answer.{Answer}
-use Rattle.calls.specs.Pool.{Head, Pool, withHead, ledger, wordCount, Engine, firstTicket, nextAfter, ruleOf}
+use Rattle.calls.specs.Pool.{Head, Pool, withHead, ledger, wordCount, Engine, nextAfter, ruleOf}
 use Rattle.calls.specs.Pool.{store, lengths, stored}
 
 -- ---- acts
@@ -44,7 +44,8 @@ kindOf bad = others
 
 -- The calls, with all arguments but the pool. `B` is what a lent buffer is: its words, or where they lie.
 pub data Call (B : Type 0) : Type 0 where
-  format : Call B
+  -- with the first ticket number
+  format : ℕ → Call B
   -- a call that is one act: allocate, release, find
   single : Act → Call B
   -- with the placeholder
@@ -194,26 +195,26 @@ answersOf cs = map (λ c. c .answer) cs
 
 -- its acts, the buffers that it is lent to write, and whether its list suits them
 abbrev pub actsOf : Call Words → List Act
-actsOf format = []
+actsOf (format first) = []
 actsOf (single a) = a ∷ []
 actsOf (look r hold) = query r ∷ []
 actsOf (list rs bs) = requests rs
 
 abbrev pub buffersOf : {B : Type 0} → Call B → List B
-buffersOf format = []
+buffersOf (format first) = []
 buffersOf (single a) = []
 buffersOf (look r hold) = []
 buffersOf (list rs bs) = bs ∷ []
 
 abbrev pub suits : Call Words → Bool
-suits format = true
+suits (format first) = true
 suits (single a) = true
 suits (look r hold) = true
 suits (list rs bs) = listSuits rs bs
 
 -- a call that fills head, arena and table anew, whatever lay there: "Format takes no head and any contents"
 abbrev pub fills : {B : Type 0} → Call B → Bool
-fills format = true
+fills (format first) = true
 fills (single a) = false
 fills (look r hold) = false
 fills (list rs bs) = false
@@ -224,19 +225,19 @@ firstAnswer [] = zeroAnswer
 firstAnswer (c ∷ cs) = c .answer
 
 abbrev pub ownAnswer : Call Words → List Counted → Answer
-ownAnswer format cs = zeroAnswer
+ownAnswer (format first) cs = zeroAnswer
 ownAnswer (single a) cs = firstAnswer cs
 ownAnswer (look r hold) cs = firstAnswer cs
 ownAnswer (list rs bs) cs = zeroAnswer
 
 abbrev pub shownBy : Call Words → Answer → Slice
-shownBy format x = nothing
+shownBy (format first) x = nothing
 shownBy (single a) x = nothing
 shownBy (look r hold) x = cond (accepted x) (arenaPart (r .address) (r .words)) placeholder
 shownBy (list rs bs) x = nothing
 
 abbrev pub buffersAfter : Call Words → List Counted → List Words
-buffersAfter format cs = []
+buffersAfter (format first) cs = []
 buffersAfter (single a) cs = []
 buffersAfter (look r hold) cs = []
 -- answer words beyond the list stay
@@ -248,7 +249,7 @@ asOne x = record { act = none; answer = x }
 
 -- what a call that the gate refuses by n counts as: its act, or as a whole
 abbrev pub countedWhole : Call Words → ℕ → Counted
-countedWhole format n = asOne (refusal n)
+countedWhole (format first) n = asOne (refusal n)
 countedWhole (single a) n = record { act = some a; answer = refusal n }
 countedWhole (look r hold) n = record { act = some (query r); answer = refusal n }
 countedWhole (list rs bs) n = asOne (refusal n)
@@ -256,9 +257,11 @@ countedWhole (list rs bs) n = asOne (refusal n)
 -- ---- the step
 
 module _ (E : Engine) where
-  -- The gate, before anything is done: 8 by the lengths; behind it 1, if the call needs a sound pool; 0 lets it pass.
+  -- The gate, before anything is done: 8 by the lengths; behind it 1, if the call needs a sound pool, and 6 for a
+  -- format whose first ticket is 0 (02, ticket 2: "Formatting now takes the first ticket number, 1 or more, and answers
+  -- 6 for 0 (after 8)"); 0 lets it pass.
   unfoldable pub behind : Call Words → Pool → ℕ
-  behind format p = 0
+  behind (format first) p = cond (eqb first 0) 6 0
   behind (single a) p = cond (stored E p) 0 1
   behind (look r hold) p = cond (stored E p) 0 1
   behind (list rs bs) p = cond (stored E p) 0 1
@@ -276,7 +279,7 @@ module _ (E : Engine) where
   zeroHead = record { root = replicate (E .links) 0; next = 0 }
 
   abbrev pub refusedHead : Call Words → Pool → Head
-  refusedHead format p = zeroHead
+  refusedHead (format first) p = zeroHead
   refusedHead (single a) p = p .head
   refusedHead (look r hold) p = p .head
   refusedHead (list rs bs) p = p .head
@@ -290,16 +293,17 @@ module _ (E : Engine) where
     buffers = buffersOf c;
   }
 
-  -- "Formatting makes a pool with no records, all words as below, next ticket 1."
+  -- "Formatting makes a pool with no records, all words as below"; the next ticket is the first number that it was
+  -- given.
   abbrev pub blank : Pool → Ledger
   blank p = replicate (slots (p .table)) emptyRow
 
-  abbrev pub formatDone : Pool → Outcome
-  formatDone p = record {
+  abbrev pub formatDone : ℕ → Pool → Outcome
+  formatDone first p = record {
     answer = zeroAnswer;
     counted = asOne zeroAnswer ∷ [];
     shown = nothing;
-    pool = store E (blank p) firstTicket p;
+    pool = store E (blank p) first p;
     buffers = [];
   }
 
@@ -316,7 +320,7 @@ module _ (E : Engine) where
       }
 
   unfoldable pub perform : Call Words → Pool → Outcome
-  perform format p = formatDone p
+  perform (format first) p = formatDone first p
   perform (single a) p = actsDone (single a) p
   perform (look r hold) p = actsDone (look r hold) p
   perform (list rs bs) p = actsDone (list rs bs) p

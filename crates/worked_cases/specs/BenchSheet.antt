@@ -1,5 +1,5 @@
 -- The bench sheet of document 01: the calls of T1 to T14, and every answer, head, arena, table and index along the
--- way. Between T13 and T14 stands the sheet's A 12, which is refused. Assumes nothing.
+-- way. Between T13 and T14 stands the sheet's A 12, which is refused. The first ticket is 1. Assumes nothing.
 use Prim.Native.Nat.{ℕ}
 use mathlib.Core.List.{List, [], _∷_}
 use lib.ListN.{replicate}
@@ -52,11 +52,11 @@ segmentMemory = record {
 -- T1 to T11, and T12 to T14
 abbrev pub treeCalls : List (Call Words)
 treeCalls =
-    format ∷ allocate 5 ∷ allocate 4 ∷ allocate 6 ∷ release (row 1 0 5) ∷ release (row 1 0 5) ∷ allocate 7
+    format 1 ∷ allocate 5 ∷ allocate 4 ∷ allocate 6 ∷ release (row 1 0 5) ∷ release (row 1 0 5) ∷ allocate 7
     ∷ release (row 3 10 6) ∷ allocate 8 ∷ release (row 2 6 5) ∷ release (row 2 6 4) ∷ []
 
 abbrev pub segmentCalls : List (Call Words)
-segmentCalls = format ∷ allocate 3 ∷ allocate 12 ∷ allocate 11 ∷ []
+segmentCalls = format 1 ∷ allocate 3 ∷ allocate 12 ∷ allocate 11 ∷ []
 
 abbrev pub treeStates : List State
 treeStates =

@@ -59,8 +59,9 @@ treeEvents =
     -- a rightly named release with a wrong head, and a replay with one
     ∷ otherHead treeStart (record { root = 9 ∷ []; next = 1 }) (release (row 1 0 5))
     ∷ otherHead treeStart (record { root = 77 ∷ []; next = 4 }) (release (row 3 10 6))
-    -- a format of the pool's arena with a word beside it, and a replay with half of the arena
-    ∷ otherArena treeStart 0 (allOf inArena treeStart ++ (other 5 ∷ [])) (allOf inIndex treeStart) format
+    -- formats that are refused: by 6 on the pool whole, by 8 with a word beside its arena; a replay with half of it
+    ∷ onWhole treeStart (format 0)
+    ∷ otherArena treeStart 0 (allOf inArena treeStart ++ (other 5 ∷ [])) (allOf inIndex treeStart) (format 5)
     ∷ otherArena treeStart 0 (take 12 (allOf inArena treeStart)) (allOf inIndex treeStart) (release (row 3 10 6))
     -- a list with a refusal, a release of the set, its replay and a wrong name, and words beyond it
     ∷ onWhole treeStart (list
@@ -91,9 +92,10 @@ segmentSet = member 2 vacate ∷ []
 
 abbrev pub segmentEvents : List Event
 segmentEvents =
-    -- a rightly named release with a wrong S and the pool's own parts; a format with a wrong S
+    -- a rightly named release with a wrong S and the pool's own parts; formats with a wrong S, and with first ticket 0
     otherArena segmentStart 8 (allOf inArena segmentStart) (allOf inIndex segmentStart) (release (row 2 5 11))
-    ∷ otherArena segmentStart 3 (allOf inArena segmentStart) (allOf inIndex segmentStart) format
+    ∷ otherArena segmentStart 3 (allOf inArena segmentStart) (allOf inIndex segmentStart) (format 1)
+    ∷ onWhole segmentStart (format 0)
     ∷ onWhole segmentStart (look (row 1 1 3) (otherWords (9 ∷ [])))
     -- a list with a release of the set, its replay, and a request for which there is no room
     ∷ onWhole segmentStart (list

@@ -10,8 +10,8 @@ use Rattle.words.proofs.Tests.{eqb-false}
 use Rattle.ledger.specs.declared.Row.{Row}
 use Rattle.ledger.specs.Records.{Plan, vacate}
 use Rattle.calls.specs.Pool.{Pool, ledger, Engine, sound}
-use Rattle.calls.specs.Step.{Call, format, single, look, list, refusal, accepted, Act, ask, give, query, bad, Kind}
-use Rattle.calls.specs.Step.{plans, reads, others, kindOf, Counted, named, numberOf, poolDone, answerTo}
+use Rattle.calls.specs.Step.{Call, format, single, look, list, refusal, accepted, Act, ask, give, query, bad}
+use Rattle.calls.specs.Step.{Kind, plans, reads, others, kindOf, Counted, named, numberOf, poolDone, answerTo}
 use Rattle.calls.specs.Step.{poolAfter, countedOf, poolAfterAll, actsOf, buffersOf, fills, ownAnswer}
 use Rattle.calls.specs.Step.{buffersAfter, asOne, countedWhole, gate, refusedBy}
 use Rattle.calls.proofs.ActLaws.{planned, act-refused, act-accepted, kind-plans}

@@ -195,7 +195,7 @@ module _ (E : Engine) where
       refused-one (look r hold) p (query r) (perform E (look r hold) p) refl refl refl refl refl h
   refused-run (list rs bs) p h = absurd (true≢false h)
 
-  refused-step : (c : Call Words) (p : Pool) → accepted (step E c p .answer) ≡ false → Refused E c p (step E c p)
+  pub refused-step : (c : Call Words) (p : Pool) → accepted (step E c p .answer) ≡ false → Refused E c p (step E c p)
   refused-step c p h = by (step E c p) (way E c p) h
     where
       by : (o : Outcome) → Way E c p o → accepted (o .answer) ≡ false → Refused E c p o

@@ -3,13 +3,13 @@ use Prim.Native.Nat.{ℕ, _/_}
 use native.Mathlib.Omega.{arith}
 use mathlib.Core.Path.{_≡_, refl, sym, ap, _∙_, subst}
 use mathlib.Core.Logic.{_≢_}
-use mathlib.Core.Bool.{true, false, _||_, false≢true}
+use mathlib.Core.Bool.{true, false, _||_}
 use mathlib.Core.List.{List, [], _∷_}
 use mathlib.Core.Option.{Option, none, some}
 use lib.Dec.{eqb, ltb}
 use lib.ListN.{getD}
 use Rattle.words.specs.Lists.{Words}
-use Rattle.words.proofs.Tests.{and-l, eqb-ne, false-of}
+use Rattle.words.proofs.Tests.{eqb-ne, false-of}
 use Rattle.ledger.specs.declared.Row.{Row}
 use Rattle.ledger.specs.Records.{Ledger, recordOf, full, Plan, vacate, Member, member, planFor, settle}
 use Rattle.ledger.specs.Units.{free}
@@ -18,10 +18,10 @@ use Rattle.ledger.proofs.RecordLaws.{record-kept}
 use Rattle.ledger.proofs.UnitLaws.{free-enter, free-settle, valid-settle}
 use Rattle.ledger.proofs.RunLaws.{runs-are}
 use Rattle.calls.specs.Pool.{store, Pool, ledger, wordCount, Engine, Laws, nextAfter, ruleOf}
-use Rattle.calls.specs.Pool.{lengths, sound}
+use Rattle.calls.specs.Pool.{sound}
 use Rattle.calls.specs.Step.{Call, format, success, zeroAnswer, refusal, accepted, Act, ask, give, query}
 use Rattle.calls.specs.Step.{Outcome, fitOf, numberOf, newRow, grant, carry, answerDone, answerTo}
-use Rattle.calls.specs.Step.{poolAfter, poolAfterAll, actsOf, fills, blank, formatDone, actsDone, perform}
+use Rattle.calls.specs.Step.{poolAfter, poolAfterAll, actsOf, fills, blank, actsDone}
 use Rattle.calls.specs.Step.{step}
 use Rattle.calls.specs.Demand1.{BadSize, NoRecord, NoTicket, NoRoom}
 use Rattle.calls.specs.Demand2.{LowestFit, Granted, Released, Names, Spares, Untouched, Throughout, Demand2}
@@ -30,7 +30,7 @@ use Rattle.calls.proofs.StoreLaws.{blank-sound}
 use Rattle.calls.proofs.RowLaws.{size-test, record-test, ticket-test, fit-found, found-fit, room-test}
 use Rattle.calls.proofs.ActLaws.{named-right, named-zero, Asked, act-done, act-refused, ask-done, plan-done}
 use Rattle.calls.proofs.ActLaws.{planned, act-accepted, act-by}
-use Rattle.calls.proofs.GateLaws.{Way, stops, runs, way, gate-number, perform-acts}
+use Rattle.calls.proofs.GateLaws.{Way, stops, runs, way, perform-acts, format-done}
 use Rattle.calls.proofs.CallLaws.{reads-kept, refused-pool}
 use Rattle.calls.proofs.GrantLaws.{entered, over, zeroed, length-zeroed, grant-store, grant-valid, grant-sound}
 use Rattle.calls.proofs.GrantLaws.{grant-zeros, zeroed-keeps, grant-holds}
@@ -134,22 +134,10 @@ module _ (E : Engine) (laws : Laws E) where
   act-shape = act-by E (λ p a q. q .shape ≡ p .shape) (λ p a. refl) (λ p n k asked. refl)
       (λ p x r e. refl)
 
-  -- a format that is accepted had the right lengths
-  pub format-done : (p : Pool) (first : ℕ) → accepted (step E (format first) p .answer) ≡ true
-      → (lengths E p ≡ true) × (step E (format first) p ≡ formatDone E first p)
-  unfolding perform
-  format-done p first h = by (step E (format first) p) (way E (format first) p) h
-    where
-      by : (o : Outcome) → Way E (format first) p o → accepted (o .answer) ≡ true
-          → (lengths E p ≡ true) × (o ≡ formatDone E first p)
-      by o (stops n g z e) h =
-          absurd (false≢true (sym (eqb-ne n 0 z) ∙ ap (λ (q : Outcome). accepted (q .answer)) (sym e) ∙ h))
-      by o (runs g e) h = (and-l (lengths E p) true (gate-number E (format first) p .zero .0 g .0), e)
-
   format-sound : (p : Pool) (first : ℕ) → accepted (step E (format first) p .answer) ≡ true
       → sound E (step E (format first) p .pool) ≡ true
   format-sound p first h =
-      let (right, made) = format-done p first h in
+      let (right, made) = format-done E p first h in
       ap (λ (o : Outcome). sound E (o .pool)) made ∙ blank-sound E laws p first right
 
   -- ---- a held block
@@ -224,7 +212,7 @@ module _ (E : Engine) (laws : Laws E) where
       → (ledger (step E (format first) p .pool) ≡ blank E p) × (step E (format first) p .pool .head .next ≡ first)
       × (step E (format first) p .answer ≡ zeroAnswer)
   format-blank p first h =
-      let made = format-done E laws p first h .1 in (
+      let made = format-done E p first h .1 in (
         ap (λ (o : Outcome). ledger (o .pool)) made ∙ ledger-store E (blank E p) first p,
         ap (λ (o : Outcome). o .pool .head .next) made ∙ next-store E (blank E p) first p,
         ap (λ (o : Outcome). o .answer) made,

@@ -1,5 +1,5 @@
--- The laws of both engines, what row 8 says of each one's lengths, and the three demands for each. 01, "The pool and
--- its two engines": "Both engines are held to the ledger." Assumes nothing.
+-- The laws of both engines, what row 8 says of each one's lengths, and the three demands and the claim on restarts for
+-- each. 01, "The pool and its two engines": "Both engines are held to the ledger." Assumes nothing.
 use Prim.Native.Nat.{ℕ, _+_, _*_, _%_, _^_, _≤_, _<_}
 use native.Mathlib.Nat.{div-one}
 use native.Mathlib.Omega.{arith}
@@ -28,11 +28,13 @@ use Rattle.calls.specs.Demand1.{Demand1}
 use Rattle.calls.specs.Demand2.{Demand2}
 use Rattle.calls.specs.Monotone.{Monotone}
 use Rattle.calls.specs.Demand3.{Demand3}
+use Rattle.calls.specs.Restart.{Restart}
 use Rattle.calls.proofs.StoreLaws.{arena-store, sound-valid, is-store}
 use Rattle.calls.proofs.Demand1.{demand1}
 use Rattle.calls.proofs.Demand2.{demand2}
 use Rattle.calls.proofs.Monotone.{monotone}
 use Rattle.calls.proofs.Demand3.{demand3}
+use Rattle.calls.proofs.Restart.{restart}
 
 -- a block of the tree pool has no word before its address
 pub tree-laws : Laws treeEngine
@@ -181,3 +183,9 @@ tree-demand3 = demand3 treeEngine tree-laws
 
 pub segment-demand3 : Demand3 segmentEngine
 segment-demand3 = demand3 segmentEngine segment-laws
+
+pub tree-restart : Restart treeEngine
+tree-restart = restart treeEngine
+
+pub segment-restart : Restart segmentEngine
+segment-restart = restart segmentEngine

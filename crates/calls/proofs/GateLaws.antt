@@ -2,15 +2,15 @@
 use Prim.Native.Nat.{ℕ}
 use native.Mathlib.Omega.{arith}
 use native.Mathlib.Decide.{ℕ-discrete}
-use mathlib.Core.Path.{_≡_, refl, sym, _∙_}
+use mathlib.Core.Path.{_≡_, refl, sym, ap, _∙_}
 use mathlib.Core.Logic.{_≢_, _↔_}
 use mathlib.Core.Bool.{Bool, true, false, cond, _&&_, true≢false, false≢true}
 use lib.Dec.{eqb}
 use Rattle.words.specs.Lists.{Words}
 use Rattle.words.proofs.Tests.{and-l, and-r, and-i, eqb-ne}
 use Rattle.calls.specs.Pool.{Pool, Engine, lengths, stored, sound}
-use Rattle.calls.specs.Step.{Call, format, single, look, list, bad, Outcome, suits, fills, behind, gate, GateIs}
-use Rattle.calls.specs.Step.{refusedBy, actsDone, perform, step}
+use Rattle.calls.specs.Step.{Call, format, single, look, list, accepted, bad, Outcome, suits, fills, behind}
+use Rattle.calls.specs.Step.{gate, GateIs, refusedBy, formatDone, actsDone, perform, step}
 
 -- refused by the gate's number, or performed
 pub data Way (E : Engine) (c : Call Words) (p : Pool) (o : Outcome) : Type 0 where
@@ -130,6 +130,19 @@ module _ (E : Engine) (c : Call Words) (p : Pool) where
   pub step-sound : fills c ≡ false → suits c ≡ true → sound E p ≡ true → step E c p ≡ actsDone E c p
   unfolding step
   step-sound f s ok = rw (gate-sound f s ok) (perform-acts E c p f)
+
+module _ (E : Engine) where
+  -- a format that is accepted had the right lengths
+  pub format-done : (p : Pool) (first : ℕ) → accepted (step E (format first) p .answer) ≡ true
+      → (lengths E p ≡ true) × (step E (format first) p ≡ formatDone E first p)
+  unfolding perform
+  format-done p first h = by (step E (format first) p) (way E (format first) p) h
+    where
+      by : (o : Outcome) → Way E (format first) p o → accepted (o .answer) ≡ true
+          → (lengths E p ≡ true) × (o ≡ formatDone E first p)
+      by o (stops n g z e) h =
+          absurd (false≢true (sym (eqb-ne n 0 z) ∙ ap (λ (q : Outcome). accepted (q .answer)) (sym e) ∙ h))
+      by o (runs g e) h = (and-l (lengths E p) true (gate-number E (format first) p .zero .0 g .0), e)
 
 -- ---- one gate for all calls that fill nothing and suit their buffers
 

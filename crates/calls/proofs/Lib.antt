@@ -1,4 +1,4 @@
--- The laws over any engine, the three demands, and their instances.
+-- The laws over any engine, the three demands, the claim on restarts, and their instances.
 pub mod StoreLaws
 pub mod ActLaws
 pub mod GateLaws
@@ -14,5 +14,6 @@ pub mod ProgressLaws
 pub mod Strays
 pub mod WholeCalls
 pub mod Demand3
+pub mod Restart
 pub mod AnyOrder
 pub mod Engines

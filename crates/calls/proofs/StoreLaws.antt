@@ -90,6 +90,15 @@ module _ (E : Engine) where
   unfolding store
   store-keeps L n p i h = stamp-keeps (owned (ruleOf E p) L) (E .word (p .shape) (wordCount p) L) (p .arena) i 0 h
 
+  -- right lengths: the table is whole records; one with no record is as long
+  pub whole-records : (p : Pool) → lengths E p ≡ true → length (p .table) % recordWords ≡ 0
+  unfolding lengths
+  whole-records p h = eqb-eq (length (p .table) % recordWords) 0 (search (and-l, and-r))
+
+  pub blank-long : (p : Pool) → length (p .table) % recordWords ≡ 0
+      → length (tableOf (blank E p)) ≡ length (p .table)
+  blank-long p z = length-tableOf (blank E p) ∙ rw (length-replicate (slots (p .table)) emptyRow) (omega arith)
+
   module _ (laws : Laws E) where
     -- a valid ledger, stored over memory of the right lengths, is a sound pool
     module _ (p : Pool) (L : Ledger) (n : ℕ) (right : lengths E p ≡ true)
@@ -165,12 +174,8 @@ module _ (E : Engine) where
 
     -- format: a pool with no record
     pub blank-sound : (p : Pool) (first : ℕ) → lengths E p ≡ true → sound E (store E (blank E p) first p) ≡ true
-    unfolding lengths
     blank-sound p first h =
-        let z : length (p .table) % recordWords ≡ 0 = eqb-eq (length (p .table) % recordWords) 0
-        (search (and-l, and-r)) in
-        store-sound p (blank E p) first h
-        (length-tableOf (blank E p) ∙ rw (length-replicate (slots (p .table)) emptyRow) (omega arith))
+        store-sound p (blank E p) first h (blank-long p (whole-records p h))
         (valid-blank (ruleOf E p) (wordCount p) first (slots (p .table)))
 
   -- one more plan carried out

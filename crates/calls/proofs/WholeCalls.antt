@@ -14,12 +14,12 @@ use Rattle.ledger.specs.Records.{Ledger, recordOf, Plan, vacate, Member, member
 use Rattle.ledger.proofs.RecordLaws.{record-gone, record-kept}
 use Rattle.calls.specs.declared.Answer.{Answer}
 use Rattle.calls.specs.Pool.{Pool, ledger, Engine, Laws, sound}
-use Rattle.calls.specs.Step.{Call, format, single, look, list, success, refusal, accepted, Act, query, Kind, plans}
-use Rattle.calls.specs.Step.{reads, others, kindOf, Counted, Outcome, named, carry, answerTo, poolAfter, countedOf}
-use Rattle.calls.specs.Step.{poolAfterAll, actsOf, buffersOf, fills, ownAnswer, asOne, gate, refusedBy}
-use Rattle.calls.specs.Step.{actsDone, perform, step}
-use Rattle.calls.specs.Demand3.{Brings, Progress, remove, isPlan, live, isDue, isReplay, standsAs, stands, RightAs}
-use Rattle.calls.specs.Demand3.{Right, afterAs, afterAct, standAll, RightAll, afterActs}
+use Rattle.calls.specs.Step.{Call, format, single, look, list, success, refusal, accepted, Act, query, Kind}
+use Rattle.calls.specs.Step.{plans, reads, others, kindOf, Counted, Outcome, named, carry, answerTo, poolAfter}
+use Rattle.calls.specs.Step.{countedOf, poolAfterAll, actsOf, buffersOf, fills, ownAnswer, asOne, gate}
+use Rattle.calls.specs.Step.{refusedBy, actsDone, perform, step}
+use Rattle.calls.specs.Demand3.{Brings, Progress, remove, isPlan, live, isDue, isReplay, standsAs, stands}
+use Rattle.calls.specs.Demand3.{RightAs, Right, afterAs, afterAct, standAll, RightAll, afterActs}
 use Rattle.calls.proofs.StoreLaws.{ledger-store, settled-sound, settled, settled-more}
 use Rattle.calls.proofs.ActLaws.{named-none, named-zero, plan-done, kind-plans}
 use Rattle.calls.proofs.GateLaws.{Way, stops, runs, way, perform-acts}

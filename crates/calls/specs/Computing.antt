@@ -12,6 +12,7 @@ use Rattle.calls.specs.Step.{gate, actsDone, perform, step}
 use Rattle.calls.specs.Engines.{treeEngineOf, treeEngine, segmentEngine}
 use Rattle.calls.specs.Lent.{isWhole, ownTable, headReturns, outcome, after}
 use Rattle.calls.specs.Demand3.{live, isDue, isReplay, stands, afterAct}
+use Rattle.calls.specs.Restart.{asLeft}
 
 unfoldable pub ledgerOpened : Unit {0}
 unfolding wiped recordsOf span addressAt first past fits apart valid covers free owns owned lowestFit freeRuns
@@ -23,7 +24,7 @@ unfolding store samePool lengths stored sound named fitOf numberOf grant answerD
 stepOpened = tt
 
 unfoldable pub sequenceOpened : Unit {0}
-unfolding isWhole ownTable headReturns outcome after live isDue isReplay stands afterAct
+unfolding isWhole ownTable headReturns outcome after live isDue isReplay stands afterAct asLeft
 sequenceOpened = tt
 
 unfoldable pub treeMachine : Unit {0}

@@ -15,9 +15,10 @@ use Rattle.ledger.specs.declared.Row.{Row}
 use Rattle.ledger.specs.Records.{row, slots, recordAt, isEmpty}
 use Rattle.ledger.specs.Units.{span, free}
 use Rattle.calls.specs.Pool.{Pool, ledger, wordCount, Engine, ruleOf, lengths, sound, StoredForm}
-use Rattle.calls.specs.Step.{Call, format, find, look, refusal, accepted, arenaPart, placeholder, Act, ask, give}
-use Rattle.calls.specs.Step.{query, bad, Outcome, request, listSuits, countedOf, poolAfterAll, answerTo, poolAfter}
-use Rattle.calls.specs.Step.{actsOf, buffersOf, suits, fills, ownAnswer, shownBy, buffersAfter, refusedHead, step}
+use Rattle.calls.specs.Step.{Call, format, find, look, refusal, accepted, arenaPart, placeholder, Act, ask}
+use Rattle.calls.specs.Step.{give, query, bad, Outcome, request, listSuits, countedOf, poolAfterAll, answerTo}
+use Rattle.calls.specs.Step.{poolAfter, actsOf, buffersOf, suits, fills, ownAnswer, shownBy, buffersAfter}
+use Rattle.calls.specs.Step.{refusedHead, step}
 
 -- ---- the rows of the table, each said of the records, units and words themselves
 

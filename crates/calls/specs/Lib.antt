@@ -1,4 +1,4 @@
--- The pool as a machine, and the three demands stated over it.
+-- The pool as a machine, and the three demands and the claim on restarts stated over it.
 pub mod Pool
 pub mod Step
 pub mod Engines
@@ -7,4 +7,5 @@ pub mod Demand1
 pub mod Demand2
 pub mod Monotone
 pub mod Demand3
+pub mod Restart
 pub mod Computing

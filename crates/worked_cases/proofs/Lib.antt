@@ -2,3 +2,4 @@
 pub mod BenchSheet
 pub mod FreerPools
 pub mod Sequences
+pub mod Restarts

@@ -1,17 +1,22 @@
--- A format call, for any engine: refused by the lengths, or the stored form of the ledger with no record, whose table
--- is all zeros. Assumes nothing.
+-- A format call, for any engine: refused by the lengths or by its first ticket, or the stored form of the ledger with no
+-- record, whose table is all zeros. Assumes nothing.
 use Prim.Native.Nat.{ℕ, zero, suc, _*_, _%_}
 use native.Mathlib.Omega.{arith}
-use mathlib.Core.Path.{_≡_, refl, ap, _∙_}
-use mathlib.Core.Bool.{true, false}
+use mathlib.Core.Path.{_≡_, refl, sym, ap, _∙_}
+use mathlib.Core.Logic.{_≢_}
+use mathlib.Core.Bool.{Bool, true, false, cond, _&&_}
 use mathlib.Core.List.{[], _∷_}
+use lib.Dec.{eqb}
 use lib.ListN.{length, replicate}
 use Rattle.words.specs.Lists.{Words}
 use Rattle.ledger.specs.Records.{emptyRow, tableOf, recordWords, slots}
 use Rattle.calls.specs.declared.Answer.{Answer}
-use Rattle.calls.specs.Pool.{Pool, Engine, withHead, firstTicket, lengths, store}
+use Rattle.calls.specs.Pool.{Pool, Engine, withHead, lengths, store}
 use Rattle.calls.specs.Step.{refusal, zeroAnswer, zeroHead, blank, format, behind, gate, perform, step}
-use Rattle.call_parts.specs.Results.{Result, result, resultOf}
+use Rattle.calls.proofs.GateLaws.{step-stops}
+use Rattle.calls.proofs.Demand1.{format-number}
+use Rattle.call_parts.specs.Parts.{formatNumber}
+use Rattle.call_parts.specs.Results.{result, resultOf}
 
 blank-table : (k : ℕ) → replicate (recordWords * k) 0 ≡ tableOf (replicate k emptyRow)
 blank-table zero = refl
@@ -25,14 +30,32 @@ zero-table t threes =
     let e : length t ≡ recordWords * slots t = omega arith in
     ap (λ (n : ℕ). replicate n 0) e ∙ blank-table (slots t)
 
-module _ (E : Engine) (p : Pool) where
-  -- the head of zeros
-  pub format-refused : false ≡ lengths E p
-      → result (refusal 8) (withHead (zeroHead E) p) [] ≡ resultOf (step E format p)
-  unfolding step gate behind
-  format-refused e = rw (← e)
+-- what stops a format: its lengths, then its first ticket
+module _ (E : Engine) (p : Pool) (first : ℕ) (r : Bool) (right : r ≡ lengths E p) (n : ℕ)
+    (is : n ≡ formatNumber r first) where
+  gate-is : gate E (format first) p ≡ n
+  unfolding gate behind
+  gate-is = go (lengths E p) ∙ ap (λ (b : Bool). formatNumber b first) (sym right) ∙ sym is
+    where
+      go : (b : Bool) → cond (b && true) (cond (eqb first 0) 6 0) 8 ≡ formatNumber b first
+      go true = refl
+      go false = refl
 
-  pub format-result : true ≡ lengths E p → (x : Answer) (q : Pool) → x ≡ zeroAnswer
-      → q ≡ store E (blank E p) firstTicket p → result x q [] ≡ resultOf (step E format p)
-  unfolding step gate behind perform
-  format-result e x q answer pool = rw (← e) (λ i. result (answer i) (pool i) [])
+  pub format-answers : step E (format first) p .answer .number ≡ n
+  format-answers = format-number E p first ∙ gate-is
+
+  -- the head of zeros
+  pub format-refused : n ≢ 0 → result (refusal n) (withHead (zeroHead E) p) [] ≡ resultOf (step E (format first) p)
+  format-refused z = ap resultOf (sym (step-stops E (format first) p n gate-is z))
+
+  pub format-right : n ≡ 0 → lengths E p ≡ true
+  format-right z = sym right ∙ go r (sym is ∙ z)
+    where
+      go : (b : Bool) → formatNumber b first ≡ 0 → b ≡ true
+      go true e = refl
+      go false e = absurd (omega arith)
+
+  pub format-result : n ≡ 0 → (x : Answer) (q : Pool) → x ≡ zeroAnswer → q ≡ store E (blank E p) first p
+      → result x q [] ≡ resultOf (step E (format first) p)
+  unfolding step perform
+  format-result z x q answer pool = rw (gate-is ∙ z) (λ i. result (answer i) (pool i) [])

@@ -1,6 +1,7 @@
 -- The enums of the code by 01's numbers and acts, and the words of requests and answers by place. Assumes nothing.
 use Prim.Native.Nat.{ℕ, _+_, _*_}
-use mathlib.Core.Bool.{cond}
+use mathlib.Core.Bool.{Bool, cond}
+use lib.Dec.{eqb}
 use lib.ListN.{getD, set}
 use Rattle.words.specs.Lists.{Words}
 use Rattle.ledger.specs.declared.Row.{Row}
@@ -14,6 +15,10 @@ use Rattle.call_parts.specs.declared.Named.{Named}
 use Rattle.call_parts.specs.declared.Named.the-variants.{Slot, Refused}
 use Rattle.call_parts.specs.declared.Request.{Request}
 use Rattle.call_parts.specs.declared.Request.the-variants.{Ask, Give, Bad}
+
+-- the number that stops a format, by whether its lent lengths are right and by its first ticket (02, ticket 2)
+abbrev pub formatNumber : Bool → ℕ → ℕ
+formatNumber right first = cond right (cond (eqb first 0) 6 0) 8
 
 -- the slot of the record that is named, or 6 or 7
 abbrev pub namedAt : Words → Row → Found → Named

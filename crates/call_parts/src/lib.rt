@@ -8,7 +8,7 @@ ghost use lib.ListN.{length, getD, set};
 ghost use Rattle.ledger.specs.Records.{recordsOf};
 ghost use Rattle.calls.specs.Pool.{nextAfter};
 ghost use Rattle.calls.specs.Step.{success, refusal, listSuits};
-ghost use Rattle.call_parts.specs.Parts.{namedIn, actOf, requestAt, withAnswer};
+ghost use Rattle.call_parts.specs.Parts.{formatNumber, namedIn, actOf, requestAt, withAnswer};
 
 // An empty slot of the table; and what a call that makes or names no record succeeds with.
 pub const EMPTY_ROW: Row = Row {
@@ -49,6 +49,19 @@ pub fn next_after(ticket: u32) -> u32
         return 0;
     }
     ticket + 1
+}
+
+// The number that stops a format: 8 where the lent lengths are not right, then 6 for first ticket 0; 0 lets it pass.
+pub fn format_number(right: bool, first: u32) -> u32
+    ensures { λ r. ⌜ r ≡ formatNumber right first ⌝ }
+{
+    if !right {
+        return 8;
+    }
+    if first == 0 {
+        return 6;
+    }
+    0
 }
 
 // The slot of the record that a call names, or the number of the refusal: 6 or 7.

@@ -267,7 +267,7 @@ module _ (E : Engine) where
       then-iff (gate-gives c p 8 (λ z. omega arith) (run-number c p .1)) (gate-number E c p .eight)
 
   -- a format's number is the gate's
-  format-number : (p : Pool) (first : ℕ) → step E (format first) p .answer .number ≡ gate E (format first) p
+  pub format-number : (p : Pool) (first : ℕ) → step E (format first) p .answer .number ≡ gate E (format first) p
   unfolding perform
   format-number p first = by (step E (format first) p) (way E (format first) p)
     where

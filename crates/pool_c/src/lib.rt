@@ -103,11 +103,11 @@ fn c_segment_outcome(done: segment_requests::Outcome) -> SegmentOutcome
 // ---- the tree pool
 
 #[no_mangle]
-pub extern "C" fn lf_tree_format(arena: &mut [u32], table: &mut [u32]) -> TreeOutcome
+pub extern "C" fn lf_tree_format(arena: &mut [u32], table: &mut [u32], first: u32) -> TreeOutcome
     ensures { λ r. ⌜ tree.handed (treeOutcome r) (now (arena .exit)) (now (table .exit)) []
-        ≡ resultOf (step treeEngine format (treePool noHead (now (arena .entry)) (now (table .entry)))) ⌝ }
+        ≡ resultOf (step treeEngine (format first) (treePool noHead (now (arena .entry)) (now (table .entry)))) ⌝ }
 {
-    let done = tree_pool::format(arena, table);
+    let done = tree_pool::format(arena, table, first);
     c_tree_outcome(done)
 }
 
@@ -210,13 +210,14 @@ pub extern "C" fn lf_segment_format(
     table: &mut [u32],
     segments: u32,
     index: &mut [u32],
+    first: u32,
 ) -> SegmentOutcome
     ensures { λ r. ⌜
         segment.handed segments (segmentOutcome r) (now (arena .exit)) (now (table .exit)) (now (index .exit)) []
-        ≡ resultOf (step segmentEngine format
+        ≡ resultOf (step segmentEngine (format first)
         (segmentPool segments 0 (now (arena .entry)) (now (table .entry)) (now (index .entry)))) ⌝ }
 {
-    let done = segment_pool::format(segments, arena, table, index);
+    let done = segment_pool::format(segments, arena, table, index, first);
     c_segment_outcome(done)
 }
 

@@ -60,17 +60,19 @@ pub fn look<'a>(
 
 // ---- format
 
-// A pool with no record: one free block, next ticket 1. It takes no head and any contents; refused, it writes nothing
-// and hands back a head of zeros.
-pub fn format(s: u32, arena: &mut [i32], table: &mut [u32], index: &mut [u32]) -> Outcome
+// A pool with no record: one free block, and the first ticket as the next. It takes no head and any contents; refused,
+// it writes nothing and hands back a head of zeros.
+pub fn format(s: u32, arena: &mut [i32], table: &mut [u32], index: &mut [u32], first: u32) -> Outcome
     ensures { λ r. ⌜ handed s r (now (arena .exit)) (now (table .exit)) (now (index .exit)) []
-        ≡ resultOf (step segmentEngine format
+        ≡ resultOf (step segmentEngine (format first)
         (segmentPool s 0 (now (arena .entry)) (now (table .entry)) (now (index .entry)))) ⌝ }
 {
-    if !segment_check::right_lengths(s, &*arena, &*table, &*index) {
+    let right = segment_check::right_lengths(s, &*arena, &*table, &*index);
+    let number = call_parts::format_number(right, first);
+    if number != 0 {
         return Outcome {
             head: Head { next: 0 },
-            answer: call_parts::refused(8),
+            answer: call_parts::refused(number),
         };
     }
     let segments = segment_index::segments_of(s, arena.len());
@@ -82,7 +84,7 @@ pub fn format(s: u32, arena: &mut [i32], table: &mut [u32], index: &mut [u32]) -
         words: 0,
     };
     Outcome {
-        head: Head { next: 1 },
+        head: Head { next: first },
         answer: call_parts::succeeded(none),
     }
 }

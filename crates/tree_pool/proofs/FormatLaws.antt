@@ -3,7 +3,8 @@ use Prim.Native.Nat.{ℕ, zero, suc, _+_, _-_, _*_, _/_, _%_, _≤_, _<_}
 use native.Mathlib.Nat.{sub-zero}
 use native.Mathlib.Omega.{arith}
 use mathlib.Core.Path.{_≡_, refl, sym, ap, _∙_, subst}
-use mathlib.Core.Bool.{true, false, false≢true}
+use mathlib.Core.Logic.{_≢_}
+use mathlib.Core.Bool.{Bool, true, false, false≢true}
 use mathlib.Core.List.{[], _∷_}
 use lib.ListN.{length, replicate, length-replicate, getD-replicate}
 use Rattle.words.specs.Lists.{Words}
@@ -16,11 +17,12 @@ use Rattle.stored_forms.specs.Tree.{formOne, formRule, freeTree, treeOf, node, 
 use Rattle.stored_forms.proofs.TreeLaws.{freeTree-one}
 use Rattle.stored_forms.specs.Blocks.{Holds, Zeros}
 use Rattle.tree_nodes.specs.Nodes.{NodePut}
-use Rattle.calls.specs.Pool.{Pool, firstTicket, lengths, store}
+use Rattle.calls.specs.Pool.{Pool, lengths, store}
 use Rattle.calls.specs.Step.{blank, format, step}
 use Rattle.calls.specs.Engines.{treeEngineOf, treeEngine}
+use Rattle.call_parts.specs.Parts.{formatNumber}
 use Rattle.call_parts.specs.Results.{resultOf}
-use Rattle.call_parts.proofs.FormatLaws.{zero-table, format-refused}
+use Rattle.call_parts.proofs.FormatLaws.{zero-table, format-refused, format-right}
 use Rattle.tree_check.specs.Gate.{treePool, noHead}
 use Rattle.tree_check.proofs.GateLaws.{InRange, in-range}
 use Rattle.tree_cores.specs.declared.Outcome.{Outcome}
@@ -72,21 +74,24 @@ blank-shows a b k h even put =
 abbrev pub blankPool : Words → Words → Pool
 blankPool a t = treePool noHead a t
 
-pub head-refused : (a t : Words) (x : Outcome) → false ≡ lengths treeEngine (blankPool a t)
-    → x ≡ refusedWith noHead 8
-    → handed x a t [] ≡ resultOf (step treeEngine format (blankPool a t))
-unfolding treeEngine treeEngineOf
-head-refused a t x e h = ap (λ (o : Outcome). handed o a t []) h ∙ format-refused treeEngine (blankPool a t) e
+module _ (a t : Words) (first : ℕ) (r : Bool) (right : r ≡ lengths treeEngine (blankPool a t)) (n : ℕ)
+    (is : n ≡ formatNumber r first) where
+  pub head-refused : (x : Outcome) → n ≢ 0 → x ≡ refusedWith noHead n
+      → handed x a t [] ≡ resultOf (step treeEngine (format first) (blankPool a t))
+  unfolding treeEngine treeEngineOf
+  head-refused x z h =
+      ap (λ (o : Outcome). handed o a t []) h ∙ format-refused treeEngine (blankPool a t) first r right n is z
 
-module _ (a t : Words) (right : true ≡ lengths treeEngine (blankPool a t)) where
-  pub fit : InRange a t
-  fit = in-range noHead a t (sym right)
+  module _ (z : n ≡ 0) where
+    pub fit : InRange a t
+    fit = in-range noHead a t (format-right treeEngine (blankPool a t) first r right n is z)
 
-  pub blank-pool : (b z : Words) → NodePut formOne (replicate (length a) 0) b 0 (length a / 2) 0 0
-      → z ≡ replicate (length t) 0
-      → treePool (record { root = 1; next = 1 }) b z ≡ store treeEngine (blank treeEngine (blankPool a t)) firstTicket (blankPool a t)
-  blank-pool b z put e =
-      stored-pool (blankPool a t) (replicate (slots t) emptyRow) firstTicket firstTicket 1 b z refl (fit .even)
-      (valid-blank (formRule formOne) (length a) firstTicket (slots t))
-      (blank-shows a b (slots t) (fit .some) (fit .even) put)
-      (e ∙ zero-table t (fit .threes))
+    pub blank-pool : (b y : Words) → NodePut formOne (replicate (length a) 0) b 0 (length a / 2) 0 0
+        → y ≡ replicate (length t) 0
+        → treePool (record { root = 1; next = first }) b y
+        ≡ store treeEngine (blank treeEngine (blankPool a t)) first (blankPool a t)
+    blank-pool b y put e =
+        stored-pool (blankPool a t) (replicate (slots t) emptyRow) first first 1 b y refl (fit .even)
+        (valid-blank (formRule formOne) (length a) first (slots t))
+        (blank-shows a b (slots t) (fit .some) (fit .even) put)
+        (e ∙ zero-table t (fit .threes))

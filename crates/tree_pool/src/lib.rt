@@ -54,21 +54,26 @@ pub fn look<'a>(
 
 // ---- format
 
-// A pool with no record: one free block, next ticket 1. It takes no head and any contents; refused, it writes nothing
-// and hands back a head of zeros.
-pub fn format(arena: &mut [u32], table: &mut [u32]) -> Outcome
+// A pool with no record: one free block, and the first ticket as the next. It takes no head and any contents; refused,
+// it writes nothing and hands back a head of zeros.
+pub fn format(arena: &mut [u32], table: &mut [u32], first: u32) -> Outcome
     ensures { λ r. ⌜ handed r (now (arena .exit)) (now (table .exit)) []
-        ≡ resultOf (step treeEngine format (treePool noHead (now (arena .entry)) (now (table .entry)))) ⌝ }
+        ≡ resultOf (step treeEngine (format first) (treePool noHead (now (arena .entry)) (now (table .entry)))) ⌝ }
 {
-    if !tree_check::right_lengths(arena, table) {
-        return tree_cores::refused_with(Head { root: 0, next: 0 }, 8);
+    let right = tree_check::right_lengths(arena, table);
+    let number = call_parts::format_number(right, first);
+    if number != 0 {
+        return tree_cores::refused_with(Head { root: 0, next: 0 }, number);
     }
     let cells = (arena.len() / 2) as u32;
     words::wipe(arena);
     words::wipe(table);
     tree_nodes::put_node(arena, 0, cells, 0, 0);
     Outcome {
-        head: Head { root: 1, next: 1 },
+        head: Head {
+            root: 1,
+            next: first,
+        },
         answer: call_parts::succeeded(call_parts::EMPTY_ROW),
     }
 }

@@ -1,12 +1,9 @@
 -- `segment_pool::format` meets its contract: one free block, its index and a wiped table hold nothing. Assumes nothing.
 use Prim.Native.Nat.{ℕ}
-use mathlib.Core.Path.{_≡_, _∙_, sym, subst}
-use mathlib.Core.Bool.{true}
+use mathlib.Core.Path.{subst}
 use borrow.Author.Needs.{needs}
 use denote.Ref.{now}
-use Rattle.words.proofs.Tests.{not-true, not-false}
 use Rattle.segment_cores.specs.Stores.{Becomes}
-use Rattle.calls.specs.Pool.{lengths}
 use Rattle.calls.specs.Engines.{segmentEngine}
 use Rattle.segment_check.specs.Gate.{segmentPool}
 use Rattle.segment_check.proofs.GateLaws.{InRange, measured}
@@ -17,20 +14,22 @@ use Rattle.segment_pool.proofs.format.Tie as tie
 
 -- past the test the lengths are right
 abbrev entry : tie.Else1 → tie.Start
-entry c = c .before .before .before .before .before .before .before
-
-right : (c : tie.Else1) → let s = entry c in true ≡ lengths segmentEngine
-    (segmentPool (s .args .s) 0 (now (s .args .arena)) (now (s .args .table)) (now (s .args .index)))
-right c = sym (not-false _ (c .if1 .left)) ∙ c .before .right-lengths .ensures 0
+entry c = c .before .before .before .before .before .before .before .before
 
 fits : (c : tie.Else1) → let s = entry c in
     InRange (s .args .s) (now (s .args .arena)) (now (s .args .table)) (now (s .args .index))
 fits c =
+    let n = c .before in
     let s = entry c in
-    fit (s .args .s) (now (s .args .arena)) (now (s .args .table)) (now (s .args .index)) (right c)
+    fit (s .args .s) (now (s .args .arena)) (now (s .args .table)) (now (s .args .index)) (s .args .first)
+    (n .before .right-lengths .result) (n .before .right-lengths .ensures 0)
+    (n .format-number .result) (n .format-number .ensures) (c .if1 .left)
 
 right-lengths-requires : tie.Need-right-lengths-requires
 right-lengths-requires c κs = search needs
+
+format-number-requires : tie.Need-format-number-requires
+format-number-requires c κs = search needs
 
 refused-requires : tie.Need-refused-requires
 refused-requires c κs = search needs
@@ -46,10 +45,12 @@ same-length-3 c = search needs
 
 returns : tie.Need-returns
 returns c =
-    let r = c .before .before in
-    let s = r .before .before .before .before .before .before in
-    head-refused (s .args .s) (now (s .args .arena)) (now (s .args .table)) (now (s .args .index))
-    (c .refused .result) (sym (not-true _ (c .before .if1 .taken)) ∙ r .right-lengths .ensures 0) (c .refused .ensures)
+    let n = c .before .before in
+    let s = n .before .before .before .before .before .before .before in
+    head-refused (s .args .s) (now (s .args .arena)) (now (s .args .table)) (now (s .args .index)) (s .args .first)
+    (n .before .right-lengths .result) (n .before .right-lengths .ensures 0)
+    (n .format-number .result) (n .format-number .ensures)
+    (c .refused .result) (c .before .if1 .taken) (c .refused .ensures)
 
 segments-of-requires : tie.Need-segments-of-requires
 segments-of-requires c κs = (fits c .power, fits c .most)
@@ -81,13 +82,18 @@ returns-2 c =
     let l = w .before .before .before .before .before in
     let d = l .before .before .before in
     let i = d .before in
+    let f = i .before in
+    let right = f .before .right-lengths in
+    let number = f .format-number in
     let s = entry i in
+    let first = s .args .first in
     format-result segmentEngine
-    (segmentPool (s .args .s) 0 (now (s .args .arena)) (now (s .args .table)) (now (s .args .index))) (right i)
-    (c .succeeded .result)
-    (segmentPool (s .args .s) 1 (l .lay-out .last .0) (w .wipe .last .0) (l .lay-out .last .1 .0))
+    (segmentPool (s .args .s) 0 (now (s .args .arena)) (now (s .args .table)) (now (s .args .index))) first
+    (right .result) (right .ensures 0) (number .result) (number .ensures) (i .if1 .left) (c .succeeded .result)
+    (segmentPool (s .args .s) first (l .lay-out .last .0) (w .wipe .last .0) (l .lay-out .last .1 .0))
     (c .succeeded .ensures)
-    (blank-pool (s .args .s) (now (s .args .arena)) (now (s .args .table)) (now (s .args .index)) (right i)
+    (blank-pool (s .args .s) (now (s .args .arena)) (now (s .args .table)) (now (s .args .index)) first
+    (right .result) (right .ensures 0) (number .result) (number .ensures) (i .if1 .left)
     (l .lay-out .last .0) (w .wipe .last .0) (l .lay-out .last .1 .0)
     (λ L none. subst (λ (n : ℕ). Becomes L (now (s .args .arena)) n (l .lay-out .last .0) (l .lay-out .last .1 .0))
     (d .segments-of .ensures .count) (l .lay-out .ensures L none))
@@ -98,6 +104,7 @@ format-spec =
     tie.close
     (tie.spec
     right-lengths-requires
+    format-number-requires
     refused-requires
     same-length
     same-length-2

@@ -1,17 +1,14 @@
 -- `tree_pool::format` meets its contract: a wiped arena with one node, and a wiped table, are the stored form of the
 -- ledger with no record. Assumes nothing.
 use native.Mathlib.Omega.{arith}
-use mathlib.Core.Path.{_≡_, _∙_, sym, ap, subst}
+use mathlib.Core.Path.{ap, subst}
 use Prim.Native.Nat.{_/_}
 use borrow.Author.Needs.{needs}
-use borrow.Author.Tests.{not-true, not-false}
 use denote.Ref.{now}
-use mathlib.Core.Bool.{true}
 use lib.ListN.{length, length-replicate}
 use Rattle.words.specs.Lists.{Words}
 use Rattle.stored_forms.specs.Tree.{formOne}
 use Rattle.tree_nodes.specs.Nodes.{NodePut}
-use Rattle.calls.specs.Pool.{lengths}
 use Rattle.calls.specs.Engines.{treeEngine}
 use Rattle.tree_check.specs.Gate.{treePool, noHead}
 use Rattle.tree_check.proofs.GateLaws.{InRange}
@@ -22,17 +19,20 @@ use Rattle.tree_pool.proofs.format.Tie as tie
 
 -- past the test the lengths are right
 abbrev entry : tie.Else1 → tie.Start
-entry c = c .before .before .before .before .before .before
-
-right : (c : tie.Else1) → true ≡ lengths treeEngine
-    (treePool noHead (now (entry c .args .arena)) (now (entry c .args .table)))
-right c = sym (not-false _ (c .if1 .left)) ∙ c .before .right-lengths .ensures noHead
+entry c = c .before .before .before .before .before .before .before
 
 fits : (c : tie.Else1) → InRange (now (entry c .args .arena)) (now (entry c .args .table))
-fits c = fit (now (entry c .args .arena)) (now (entry c .args .table)) (right c)
+fits c =
+    let n = c .before in
+    let s = entry c in
+    fit (now (s .args .arena)) (now (s .args .table)) (s .args .first) (n .before .right-lengths .result)
+    (n .before .right-lengths .ensures noHead) (n .format-number .result) (n .format-number .ensures) (c .if1 .left)
 
 right-lengths-requires : tie.Need-right-lengths-requires
 right-lengths-requires c κs = search needs
+
+format-number-requires : tie.Need-format-number-requires
+format-number-requires c κs = search needs
 
 refused-with-requires : tie.Need-refused-with-requires
 refused-with-requires c κs = search needs
@@ -45,10 +45,11 @@ same-length-2 c = search needs
 
 returns : tie.Need-returns
 returns c =
-    let r = c .before .before in
-    let s = r .before .before .before .before .before in
-    head-refused (now (s .args .arena)) (now (s .args .table)) (c .refused-with .result)
-    (sym (not-true _ (c .before .if1 .taken)) ∙ r .right-lengths .ensures noHead) (c .refused-with .ensures)
+    let n = c .before .before in
+    let s = n .before .before .before .before .before .before in
+    head-refused (now (s .args .arena)) (now (s .args .table)) (s .args .first) (n .before .right-lengths .result)
+    (n .before .right-lengths .ensures noHead) (n .format-number .result) (n .format-number .ensures)
+    (c .refused-with .result) (c .before .if1 .taken) (c .refused-with .ensures)
 
 cast-cells : tie.Need-cast-cells
 cast-cells c = omega (arith, fits c .most)
@@ -81,10 +82,16 @@ returns-2 c =
     let z = n .before .before .before .before in
     let w = z .before .before .before .before in
     let i = w .before .before in
-    let s = i .before .before .before .before .before .before in
-    format-result treeEngine (treePool noHead (now (s .args .arena)) (now (s .args .table))) (right i)
-    (c .succeeded .result) (treePool (record { root = 1; next = 1 }) (n .put-node .last .0) (z .wipe2 .last .0)) (c .succeeded .ensures)
-    (blank-pool (now (s .args .arena)) (now (s .args .table)) (right i) (n .put-node .last .0) (z .wipe2 .last .0)
+    let f = i .before in
+    let right = f .before .right-lengths in
+    let number = f .format-number in
+    let s = entry i in
+    let first = s .args .first in
+    format-result treeEngine (treePool noHead (now (s .args .arena)) (now (s .args .table))) first (right .result)
+    (right .ensures noHead) (number .result) (number .ensures) (i .if1 .left) (c .succeeded .result)
+    (treePool (record { root = 1; next = first }) (n .put-node .last .0) (z .wipe2 .last .0)) (c .succeeded .ensures)
+    (blank-pool (now (s .args .arena)) (now (s .args .table)) first (right .result) (right .ensures noHead)
+    (number .result) (number .ensures) (i .if1 .left) (n .put-node .last .0) (z .wipe2 .last .0)
     (subst (λ (m : Words). NodePut formOne m (n .put-node .last .0) 0 (length (now (s .args .arena)) / 2) 0 0)
     (w .wipe .ensures) (n .put-node .ensures))
     (z .wipe2 .ensures))
@@ -94,6 +101,7 @@ format-spec =
     tie.close
     (tie.spec
     right-lengths-requires
+    format-number-requires
     refused-with-requires
     same-length
     same-length-2

@@ -2,8 +2,8 @@
 use Prim.Native.Nat.{ℕ, suc, _+_, _≤_, _<_}
 use mathlib.Core.Path.{_≡_, refl, sym, ap, _∙_}
 use mathlib.Core.Logic.{_≢_}
-use mathlib.Core.Bool.{Bool, true, false, cond, _&&_}
-use mathlib.Core.List.{[], _∷_, _++_}
+use mathlib.Core.Bool.{Bool, true, false, cond}
+use mathlib.Core.List.{List, [], _∷_, _++_}
 use native.Mathlib.Numerals.{add-one}
 use native.Mathlib.Nat.{add-zero}
 use native.Mathlib.Omega.{arith}
@@ -17,38 +17,55 @@ use Rattle.calls.specs.Engines.{treeEngine}
 use Rattle.call_parts.specs.Parts.{actOf}
 use Rattle.text.specs.declared.Pair.{Pair}
 use Rattle.text.specs.declared.Pair.the-variants as pair
+use Rattle.text.specs.declared.Triple.{Triple}
+use Rattle.text.specs.declared.Triple.the-variants as triple
 use Rattle.text.specs.Numbers.{Bytes}
 use Rattle.text.specs.Fields.{lineOf, Wrote}
-use Rattle.text.specs.Lines.{Fed, also, feed, finish, keep, Run, run}
+use Rattle.text.specs.Lines.{Served, Fed, also, feed, finish, keep, Run, run}
 use Rattle.text.proofs.WriteLaws.{sets-after}
 use Rattle.text.proofs.CutLaw.{feed-run}
-use Rattle.pool_text.specs.Meaning.{Standing, before, serving, stopped, served, serve, fresh, opened, firstLine}
-use Rattle.pool_text.specs.Meaning.{sizesOf, requestOf, answerLine, refusalLine, mostWords}
+use Rattle.pool_text.specs.Meaning.{Standing, before, serving, stopped, served, serve, fresh, opening, opened}
+use Rattle.pool_text.specs.Meaning.{longLine, firstLine, sizesOf, sizesAndFirstOf, requestOf, answerLine}
+use Rattle.pool_text.specs.Meaning.{refusalLine, mostWords}
 use Rattle.pool_text.specs.Session.{landed}
 use Rattle.pool_text.proofs.RoomLaws.{choice-long, line-room}
 
 -- ---- an answer is at most 35 bytes long
 
+refusal-long : (n : ℕ) → length (refusalLine n) ≤ 35
+refusal-long n = line-room 78 (n ∷ []) (omega arith)
+
 answer-long : (x : Answer) → length (answerLine x) ≤ 35
 unfolding answerLine
 answer-long x =
     choice-long (accepted x) _ _ 35 (line-room 75 (x .ticket ∷ x .address ∷ x .words ∷ []) (omega arith))
-    (line-room 78 (x .number ∷ []) (omega arith))
+    (refusal-long (x .number))
 
-opened-long : (b : Bool) (s : Standing) (w k : ℕ)
-    → length (cond b (served s (lineOf 80 (w ∷ k ∷ []))) (served stopped (refusalLine 8)) .said) ≤ 35
-opened-long true s w k = line-room 80 (w ∷ k ∷ []) (omega arith)
-opened-long false s w k = line-room 78 (8 ∷ []) (omega arith)
+either-long : (b : Bool) (x y : Served Standing) → length (x .said) ≤ 35 → length (y .said) ≤ 35
+    → length (cond b x y .said) ≤ 35
+either-long true x y h k = h
+either-long false x y h k = k
 
-first-long : (p : Pair) → length (firstLine p .said) ≤ 35
+opened-long : (w k first : ℕ) (ns : List ℕ) → length ns ≤ 3 → length (opened w k first ns .said) ≤ 35
 unfolding opened
-first-long (pair.Two w k) =
-    opened-long (leb w mostWords && accepted (fresh w k .answer)) (serving (fresh w k .pool)) w k
-first-long pair.Bad = line-room 78 (9 ∷ []) (omega arith)
+opened-long w k first ns few =
+    let o = fresh w k first in
+    either-long (leb w mostWords) (opening o ns) (served stopped (refusalLine 8))
+    (either-long (accepted (o .answer)) (served (serving (o .pool)) (lineOf 80 ns))
+    (served stopped (refusalLine (o .answer .number))) (line-room 80 ns few) (refusal-long (o .answer .number)))
+    (refusal-long 8)
+
+long-long : (t : Triple) → length (longLine t .said) ≤ 35
+long-long (triple.Three w k first) = opened-long w k first (w ∷ k ∷ first ∷ []) (omega arith)
+long-long triple.Bad = refusal-long 9
+
+first-long : (p : Pair) (t : Triple) → length (firstLine p t .said) ≤ 35
+first-long (pair.Two w k) t = opened-long w k 1 (w ∷ k ∷ []) (omega arith)
+first-long pair.Bad t = long-long t
 
 pub said-long : (s : Standing) (line : Bytes) → length (serve s line .said) ≤ 35
 unfolding serve
-said-long before line = first-long (sizesOf line)
+said-long before line = first-long (sizesOf line) (sizesAndFirstOf line)
 said-long (serving p) line = answer-long (answerTo treeEngine p (actOf (requestOf line)))
 said-long stopped line = omega arith
 

@@ -2,22 +2,25 @@
 use Prim.Native.Nat.{ℕ, suc, _*_, _≤_, _<_}
 use mathlib.Core.Path.{_≡_, refl, sym, ap, _∙_}
 use mathlib.Core.Logic.{_≢_}
-use mathlib.Core.Bool.{Bool, true, false, cond, _&&_, _||_}
+use mathlib.Core.Bool.{Bool, true, false, cond, _||_}
 use mathlib.Core.List.{List, [], _∷_}
 use native.Mathlib.Omega.{arith}
 use lib.Dec.{eqb, leb, ltb}
 use lib.ListN.{length, replicate, length-replicate}
 use Rattle.words.specs.Lists.{Words}
 use Rattle.words.specs.Places.{stampFrom}
-use Rattle.words.proofs.Tests.{false-of, lt-of, of-le, of-gt}
+use Rattle.words.proofs.Tests.{eqb-ne, false-of, lt-of, of-le, of-gt}
 use Rattle.ledger.specs.Records.{emptyRow, tableOf, recordWords, slots}
 use Rattle.ledger.specs.Units.{owned}
 use Rattle.stored_forms.specs.Tree.{formOne, formRule}
-use Rattle.calls.specs.Pool.{Pool, firstTicket, lengths, store, sound}
+use Rattle.calls.specs.Pool.{Pool, lengths, store, sound}
 use Rattle.calls.specs.Step as machine
-use Rattle.calls.specs.Step.{format, behind, gate, perform, formatDone, step, blank, accepted}
+use Rattle.calls.specs.Step.{format, step, blank, accepted}
 use Rattle.calls.specs.Engines.{treeEngine, treeEngineOf}
+use Rattle.calls.proofs.GateLaws.{format-done}
 use Rattle.calls.proofs.Engines.{tree-demand2}
+use Rattle.call_parts.specs.Parts.{formatNumber}
+use Rattle.call_parts.proofs.FormatLaws.{format-answers}
 use Rattle.tree_check.specs.Gate.{treePool, noHead}
 use Rattle.tree_check.proofs.GateLaws.{in-range}
 use Rattle.tree_cores.specs.declared.Outcome.{Outcome}
@@ -25,7 +28,7 @@ use Rattle.call_parts.specs.Results.{Result, resultOf}
 use Rattle.tree_cores.specs.Outcomes.{handed}
 use Rattle.tree_pool.proofs.FormatLaws.{blank-owned}
 use Rattle.text.specs.Fields.{lineOf}
-use Rattle.pool_text.specs.Meaning.{serving, stopped, served, fresh, opened, refusalLine, mostWords}
+use Rattle.pool_text.specs.Meaning.{serving, stopped, served, fresh, opening, opened, refusalLine, mostWords}
 
 abbrev zeroWords : ℕ → Words
 zeroWords n = replicate n 0
@@ -47,16 +50,16 @@ module _ (a b t u : Words) (ea : length a ≡ length b) (et : length t ≡ lengt
   unfolding lengths treeEngine treeEngineOf
   same-lengths = rw (ea, et)
 
-  same-store : store treeEngine (blank treeEngine (at a t)) firstTicket (at a t)
-      ≡ store treeEngine (blank treeEngine (at b u)) firstTicket (at b u)
+  same-store : (first : ℕ) → store treeEngine (blank treeEngine (at a t)) first (at a t)
+      ≡ store treeEngine (blank treeEngine (at b u)) first (at b u)
   unfolding store treeEngine treeEngineOf
-  same-store =
+  same-store first =
       let W = length b in
       let L = replicate (slots u) emptyRow in
       rw (ea, et)
       (ap
       (λ (x : Words). record {
-        head = record { root = treeEngine .root 0 W L; next = firstTicket };
+        head = record { root = treeEngine .root 0 W L; next = first };
         shape = 0;
         arena = x;
         table = tableOf L;
@@ -64,63 +67,49 @@ module _ (a b t u : Words) (ea : length a ≡ length b) (et : length t ≡ lengt
       })
       (stamp-none (owned (formRule formOne) L) (treeEngine .word 0 W L) (blank-owned (slots u)) 0 a b ea))
 
--- format succeeds exactly where the lengths are right
-module _ (p : Pool) where
-  right-done : lengths treeEngine p ≡ true → step treeEngine format p ≡ formatDone treeEngine p
-  unfolding step gate behind perform
-  right-done e = rw e
-
-  wrong-eight : lengths treeEngine p ≡ false → step treeEngine format p .answer .number ≡ 8
-  unfolding step gate behind perform
-  wrong-eight e = rw e
-
-  by-lengths : (b : Bool) → lengths treeEngine p ≡ b → step treeEngine format p .answer .number ≡ 0 → b ≡ true
-  by-lengths true e z = refl
-  by-lengths false e z = let n = wrong-eight e in absurd (omega arith)
-
-  not-right : (b : Bool) → lengths treeEngine p ≡ b → step treeEngine format p .answer .number ≢ 0 → b ≡ false
-  not-right true e n = absurd (n (ap (λ (o : machine.Outcome). o .answer .number) (right-done e)))
-  not-right false e n = refl
+-- a format's number goes by the lengths and the first ticket
+number-of : (p : Pool) (first : ℕ)
+    → step treeEngine (format first) p .answer .number ≡ formatNumber (lengths treeEngine p) first
+number-of p first =
+    format-answers treeEngine p first (lengths treeEngine p) refl (formatNumber (lengths treeEngine p) first) refl
 
 -- the meaning's fresh pool
 abbrev zeros : ℕ → ℕ → Pool
 zeros w s = at (replicate w 0) (replicate (recordWords * s) 0)
 
-wrong-sizes : (w s : ℕ) → lengths treeEngine (zeros w s) ≡ false → opened w s ≡ served stopped (refusalLine 8)
-unfolding opened fresh
-wrong-sizes w s e =
-    let n : accepted (step treeEngine format (zeros w s) .answer) ≡ false =
-    ap (λ (k : ℕ). eqb k 0) (wrong-eight (zeros w s) e) in
-    refuse (leb w mostWords) _ n
-  where
-    refuse : (b c : Bool) → c ≡ false
-        → cond (b && c) (served (serving (step treeEngine format (zeros w s) .pool)) (lineOf 80 (w ∷ s ∷ [])))
-        (served stopped (refusalLine 8))
-        ≡ served stopped (refusalLine 8)
-    refuse true c e = rw e
-    refuse false c e = refl
-
-many-slots : (w s : ℕ) → 256 < s → lengths treeEngine (zeros w s) ≡ false
-many-slots w s l = false-of (lengths treeEngine (zeros w s)) (λ t.
-    let few = in-range noHead (zeroWords w) (zeroWords (recordWords * s)) t .few in
-    let long = length-replicate {A = ℕ} (recordWords * s) 0 in
-    absurd (omega (arith, few, long, l)))
-
 -- P with more than 8,192 words or more than 256 slots
-pub too-large : (w s : ℕ) → (ltb 8192 w || ltb 256 s) ≡ true → opened w s ≡ served stopped (refusalLine 8)
-unfolding opened
-too-large w s h = by-words (ltb 8192 w) refl h
-  where
-    by-words : (b : Bool) → ltb 8192 w ≡ b → (b || ltb 256 s) ≡ true → opened w s ≡ served stopped (refusalLine 8)
-    by-words true e t = rw (of-gt w 8192 (lt-of 8192 w e))
-    by-words false e t = wrong-sizes w s (many-slots w s (lt-of 256 s t))
+module _ (w s first : ℕ) (ns : List ℕ) where
+  refused-opening : (n : ℕ) → fresh w s first .answer .number ≡ n → n ≢ 0
+      → opening (fresh w s first) ns ≡ served stopped (refusalLine n)
+  refused-opening n e z = rw (e, eqb-ne n 0 z)
+
+  many-slots : 256 < s → opening (fresh w s first) ns ≡ served stopped (refusalLine 8)
+  unfolding fresh
+  many-slots l =
+      let wrong : lengths treeEngine (zeros w s) ≡ false = false-of (lengths treeEngine (zeros w s)) (λ t.
+      let few = in-range noHead (zeroWords w) (zeroWords (recordWords * s)) t .few in
+      let long = length-replicate {A = ℕ} (recordWords * s) 0 in
+      absurd (omega (arith, few, long, l))) in
+      refused-opening 8 (number-of (zeros w s) first ∙ ap (λ (b : Bool). formatNumber b first) wrong)
+      (λ z. omega arith)
+
+  pub too-large : (ltb 8192 w || ltb 256 s) ≡ true → opened w s first ns ≡ served stopped (refusalLine 8)
+  unfolding opened
+  too-large h = by-words (ltb 8192 w) refl h
+    where
+      either : (b : Bool) → opening (fresh w s first) ns ≡ served stopped (refusalLine 8)
+          → cond b (opening (fresh w s first) ns) (served stopped (refusalLine 8)) ≡ served stopped (refusalLine 8)
+      either true e = e
+      either false e = refl
+
+      by-words : (b : Bool) → ltb 8192 w ≡ b → (b || ltb 256 s) ≡ true
+          → opened w s first ns ≡ served stopped (refusalLine 8)
+      by-words true e t = rw (of-gt w 8192 (lt-of 8192 w e))
+      by-words false e t = either (leb w mostWords) (many-slots (lt-of 256 s t))
 
 -- the code's format of words that lay anywhere
-module _ (a t : Words) (w s : ℕ) (ea : length a ≡ w) (et : length t ≡ recordWords * s) (d : Outcome) (b u : Words)
-    (e : handed d b u [] ≡ resultOf (step treeEngine format (at a t))) where
-  number-is : d .answer .number ≡ step treeEngine format (at a t) .answer .number
-  number-is = ap (λ (x : Result). x .answer .number) e
-
+module _ (a t : Words) (w s first : ℕ) (ns : List ℕ) (ea : length a ≡ w) (et : length t ≡ recordWords * s) (d : Outcome)
+    (b u : Words) (e : handed d b u [] ≡ resultOf (step treeEngine (format first) (at a t))) (h : w ≤ 8192) where
   arena-length : length a ≡ length (zeroWords w)
   arena-length = ea ∙ sym (length-replicate {A = ℕ} w 0)
 
@@ -130,40 +119,40 @@ module _ (a t : Words) (w s : ℕ) (ea : length a ≡ w) (et : length t ≡ reco
   same-as-zeros : lengths treeEngine (at a t) ≡ lengths treeEngine (zeros w s)
   same-as-zeros = same-lengths a (zeroWords w) t (zeroWords (recordWords * s)) arena-length table-length
 
-  pub opens-not : d .answer .number ≢ 0 → opened w s ≡ served stopped (refusalLine 8)
-  opens-not n =
-      wrong-sizes w s
-      (sym same-as-zeros ∙ not-right (at a t) (lengths treeEngine (at a t)) refl (λ z. n (number-is ∙ z)))
+  number-is : fresh w s first .answer .number ≡ d .answer .number
+  unfolding fresh
+  number-is =
+      number-of (zeros w s) first ∙ ap (λ (b : Bool). formatNumber b first) (sym same-as-zeros)
+      ∙ sym (number-of (at a t) first) ∙ sym (ap (λ (x : Result). x .answer .number) e)
+
+  pub opens-not : d .answer .number ≢ 0 → opened w s first ns ≡ served stopped (refusalLine (d .answer .number))
+  unfolding opened
+  opens-not n = rw (of-le w 8192 h) (refused-opening w s first ns (d .answer .number) number-is n)
 
   module _ (z : d .answer .number ≡ 0) where
-    right-lengths : lengths treeEngine (at a t) ≡ true
-    right-lengths = by-lengths (at a t) (lengths treeEngine (at a t)) refl (sym number-is ∙ z)
+    accepts : accepted (fresh w s first .answer) ≡ true
+    accepts = ap (λ (k : ℕ). eqb k 0) (number-is ∙ z)
 
-    zeros-formatted : step treeEngine format (zeros w s) ≡ formatDone treeEngine (zeros w s)
-    zeros-formatted = right-done (zeros w s) (sym same-as-zeros ∙ right-lengths)
+    there : accepted (step treeEngine (format first) (at a t) .answer) ≡ true
+    there = ap (λ (x : Result). accepted (x .answer)) (sym e) ∙ ap (λ (k : ℕ). eqb k 0) z
 
-    stored-there : treePool (d .head) b u
-        ≡ store treeEngine (blank treeEngine (at a t)) firstTicket (at a t)
-    stored-there = ap (λ (x : Result). x .pool) (e ∙ ap resultOf (right-done (at a t) right-lengths))
+    stored-there : treePool (d .head) b u ≡ store treeEngine (blank treeEngine (at a t)) first (at a t)
+    stored-there =
+        ap (λ (x : Result). x .pool) (e ∙ ap resultOf (format-done treeEngine (at a t) first there .1))
 
-    pool-is : treePool (d .head) b u ≡ fresh w s .pool
+    pool-is : treePool (d .head) b u ≡ fresh w s first .pool
     unfolding fresh
     pool-is =
         stored-there
-        ∙ same-store a (zeroWords w) t (zeroWords (recordWords * s)) arena-length table-length
-        ∙ sym (ap (λ (o : machine.Outcome). o .pool) zeros-formatted)
+        ∙ same-store a (zeroWords w) t (zeroWords (recordWords * s)) arena-length table-length first
+        ∙ sym (ap (λ (o : machine.Outcome). o .pool) (format-done treeEngine (zeros w s) first accepts .1))
 
-    accepts : accepted (step treeEngine format (zeros w s) .answer) ≡ true
-    accepts = ap (λ (o : machine.Outcome). accepted (o .answer)) zeros-formatted
-
-    pub opens : w ≤ 8192
-        → opened w s ≡ served (serving (treePool (d .head) b u)) (lineOf 80 (w ∷ s ∷ []))
-    unfolding opened fresh
-    opens h =
-        rw (of-le w 8192 h, accepts)
-        (ap (λ (q : Pool). served (serving q) (lineOf 80 (w ∷ s ∷ []))) (sym pool-is))
+    pub opens : opened w s first ns ≡ served (serving (treePool (d .head) b u)) (lineOf 80 ns)
+    unfolding opened
+    opens =
+        rw (of-le w 8192 h, accepts) (ap (λ (q : Pool). served (serving q) (lineOf 80 ns)) (sym pool-is))
 
     pub opens-sound : sound treeEngine (treePool (d .head) b u) ≡ true
     unfolding fresh
     opens-sound =
-        ap (sound treeEngine) pool-is ∙ tree-demand2 .formats (zeros w s) accepts .0
+        ap (sound treeEngine) pool-is ∙ tree-demand2 .formats (zeros w s) first accepts .0

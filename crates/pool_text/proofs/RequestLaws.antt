@@ -10,10 +10,11 @@ use Rattle.text.specs.declared.Number.{Number}
 use Rattle.text.specs.declared.Pair.{Pair}
 use Rattle.text.specs.declared.Pair.the-variants as pair
 use Rattle.text.specs.declared.Triple.{Triple}
+use Rattle.text.specs.declared.Triple.the-variants as triple
 use Rattle.text.specs.Numbers.{Bytes, valueOf}
 use Rattle.text.specs.Fields.{pairOf, tripleOf}
 use Rattle.text.proofs.FieldLaws.{part-rest}
-use Rattle.pool_text.specs.Meaning.{begins, sizesOf, requestOf, askOf, giveOf}
+use Rattle.pool_text.specs.Meaning.{begins, sizesOf, sizesAndFirstOf, requestOf, askOf, giveOf}
 
 -- there is something after the tab to slice
 pub begins-long : (s : Bytes) (letter : ℕ) → begins s letter ≡ true → 2 ≤ length s
@@ -27,6 +28,14 @@ module _ (s : Bytes) where
   pub sizes-in : (r : Pair) → begins s 80 ≡ true → r ≡ pairOf rest → r ≡ sizesOf s
   unfolding sizesOf
   sizes-in r b e = rw b (e ∙ ap pairOf (part-rest 2 s))
+
+  pub three-in : (r : Triple) → begins s 80 ≡ true → r ≡ tripleOf rest → r ≡ sizesAndFirstOf s
+  unfolding sizesAndFirstOf
+  three-in r b e = rw b (e ∙ ap tripleOf (part-rest 2 s))
+
+  pub no-three : begins s 80 ≡ false → triple.Bad ≡ sizesAndFirstOf s
+  unfolding sizesAndFirstOf
+  no-three b = rw b
 
   pub no-sizes : begins s 80 ≡ false → pair.Bad ≡ sizesOf s
   unfolding sizesOf

@@ -32,9 +32,12 @@ unfoldable pub begins : Bytes → ℕ → Bool
 begins s letter =
     leb 2 (length s) && leb (length s) mostBytes && eqb (getD s 0 0) letter && eqb (getD s 1 0) 9
 
--- "First line P, words, slots"
+-- "First line P, words, slots"; 02, ticket 2: "The text P line takes the first ticket as an optional third number"
 unfoldable pub sizesOf : Bytes → Pair
 sizesOf s = cond (begins s 80) (pairOf (drop 2 s)) pair.Bad
+
+unfoldable pub sizesAndFirstOf : Bytes → Triple
+sizesAndFirstOf s = cond (begins s 80) (tripleOf (drop 2 s)) triple.Bad
 
 -- "Then A, words or R, ticket, address, words."
 abbrev pub askOf : Number → Request
@@ -66,24 +69,34 @@ served s said = record { state = s; said = said }
 abbrev pub mostWords : ℕ
 mostWords = 8192
 
--- a new pool of w words and s records
-unfoldable pub fresh : ℕ → ℕ → Outcome
-fresh w s = step treeEngine format (treePool noHead (replicate w 0) (replicate (recordWords * s) 0))
+-- a new pool of w words and s records, with this first ticket
+unfoldable pub fresh : ℕ → ℕ → ℕ → Outcome
+fresh w s first = step treeEngine (format first) (treePool noHead (replicate w 0) (replicate (recordWords * s) 0))
 
 -- "N, number"
 abbrev pub refusalLine : ℕ → Bytes
 refusalLine n = lineOf 78 (n ∷ [])
 
--- "echoed", or "if its sizes are wrong N 8, and the program stops"
-unfoldable pub opened : ℕ → ℕ → Served Standing
-opened w s =
-    cond (leb w mostWords && accepted (fresh w s .answer)) (served (serving (fresh w s .pool)) (lineOf 80 (w ∷ s ∷ [])))
-    (served stopped (refusalLine 8))
+-- "echoed", or "if its sizes are wrong N 8, and the program stops"; 02: "With 0 the answer is N 6 and the program
+-- stops." These are format's own numbers, in its order.
+abbrev pub opening : Outcome → List ℕ → Served Standing
+opening o numbers =
+    cond (accepted (o .answer)) (served (serving (o .pool)) (lineOf 80 numbers))
+    (served stopped (refusalLine (o .answer .number)))
+
+unfoldable pub opened : ℕ → ℕ → ℕ → List ℕ → Served Standing
+opened w s first numbers =
+    cond (leb w mostWords) (opening (fresh w s first) numbers) (served stopped (refusalLine 8))
 
 -- "If it is not a readable P line the answer is N 9"
-abbrev pub firstLine : Pair → Served Standing
-firstLine (pair.Two w s) = opened w s
-firstLine pair.Bad = served stopped (refusalLine 9)
+abbrev pub longLine : Triple → Served Standing
+longLine (triple.Three w s first) = opened w s first (w ∷ s ∷ first ∷ [])
+longLine triple.Bad = served stopped (refusalLine 9)
+
+-- the first ticket is "echoed if given; without it, 1"
+abbrev pub firstLine : Pair → Triple → Served Standing
+firstLine (pair.Two w s) t = opened w s 1 (w ∷ s ∷ [])
+firstLine pair.Bad t = longLine t
 
 -- "Answers: K, ticket, address, words or N, number."
 unfoldable pub answerLine : Answer → Bytes
@@ -95,7 +108,7 @@ actLine p a = served (serving (poolAfter treeEngine p a)) (answerLine (answerTo 
 
 -- a line, by where the program stands
 unfoldable pub serve : Standing → Bytes → Served Standing
-serve before line = firstLine (sizesOf line)
+serve before line = firstLine (sizesOf line) (sizesAndFirstOf line)
 serve (serving p) line = actLine p (actOf (requestOf line))
 serve stopped line = served stopped []
 

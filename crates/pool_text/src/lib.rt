@@ -22,8 +22,8 @@ ghost use Rattle.tree_check.specs.Gate.{treePool, noHead};
 ghost use Rattle.tree_cores.specs.Outcomes.{handed};
 ghost use Rattle.text.specs.Fields.{Wrote};
 ghost use Rattle.text.specs.Lines.{feed, finish};
-ghost use Rattle.pool_text.specs.Meaning.{begins, sizesOf, askOf, giveOf, requestOf, opened, firstLine};
-ghost use Rattle.pool_text.specs.Meaning.{refusalLine, answerLine, serve};
+ghost use Rattle.pool_text.specs.Meaning.{begins, sizesOf, sizesAndFirstOf, askOf, giveOf, requestOf};
+ghost use Rattle.pool_text.specs.Meaning.{opened, longLine, firstLine, refusalLine, answerLine, serve};
 ghost use Rattle.pool_text.specs.Session.{begun, standingOf, Lent, Became, Going, ahead, landed, mostAnswer};
 
 // ---- what a line asks
@@ -48,6 +48,17 @@ fn sizes_of(s: &[u8]) -> Pair
         return text::read_pair(&s[two..]);
     }
     Pair::Bad
+}
+
+// The three numbers of a P line that names the first ticket too.
+fn sizes_and_first_of(s: &[u8]) -> Triple
+    ensures { λ r. ⌜ r ≡ sizesAndFirstOf (now (s .entry)) ⌝ }
+{
+    if begins(s, 80) {
+        let two = 2;
+        return text::read_triple(&s[two..]);
+    }
+    Triple::Bad
 }
 
 fn ask_of(n: Number) -> Request
@@ -145,17 +156,18 @@ fn stop(out: &mut [u8], at: usize, number: u32) -> Line
 }
 
 // Formats the first n words of the arena and the first t words of the table.
-fn format_front(arena: &mut [u32], n: usize, table: &mut [u32], t: usize) -> Outcome
+fn format_front(arena: &mut [u32], n: usize, table: &mut [u32], t: usize, first: u32) -> Outcome
     requires { ⌜ (n ≤ length (now arena)) × (t ≤ length (now table)) ⌝ }
     ensures { λ r. ⌜ handed r (take n (now (arena .exit))) (take t (now (table .exit))) []
-        ≡ resultOf (step treeEngine format (treePool noHead (take n (now (arena .entry)))
+        ≡ resultOf (step treeEngine (format first) (treePool noHead (take n (now (arena .entry)))
         (take t (now (table .entry))))) ⌝ }
 {
     let start = 0;
-    tree_pool::format(&mut arena[start..n], &mut table[start..t])
+    tree_pool::format(&mut arena[start..n], &mut table[start..t], first)
 }
 
-// A P line that names these sizes: a pool in the first words of arena and table.
+// A P line that names these sizes and this first ticket by these numbers, which are echoed: a pool in the first words of
+// arena and table.
 fn open_pool(
     arena: &mut [u32],
     table: &mut [u32],
@@ -163,30 +175,48 @@ fn open_pool(
     at: usize,
     words: u32,
     slots: u32,
+    first: u32,
+    numbers: &[u32],
 ) -> Line
     requires { ⌜ (length (now arena) ≡ 8192) × (length (now table) ≡ 768)
-        × (at + mostAnswer ≤ length (now out)) ⌝ }
+        × (at + mostAnswer ≤ length (now out)) × (length (now numbers) ≤ 3) ⌝ }
     ensures { λ r. ⌜ Became (r .stage) (now (arena .exit)) (now (table .exit))
-        (opened words slots)
+        (opened words slots first (now (numbers .entry)))
         (now (out .entry)) (now (out .exit)) at (r .at) ⌝ }
 {
     if (8192 < words) | (256 < slots) {
         return stop(out, at, 8);
     }
-    let done = format_front(arena, words as usize, table, 3 * slots as usize);
+    let done = format_front(arena, words as usize, table, 3 * slots as usize, first);
     let number = done.answer.number;
     if number != 0 {
-        return stop(out, at, 8);
+        return stop(out, at, number);
     }
     let head = done.head;
-    let numbers = [words, slots];
     Line {
         stage: Stage::Serving(Own {
             head,
             words: words as usize,
             slots: slots as usize,
         }),
-        at: text::put_line(out, at, 80, &numbers),
+        at: text::put_line(out, at, 80, numbers),
+    }
+}
+
+// The first line, if it does not name two numbers.
+fn serve_long(line: &[u8], arena: &mut [u32], table: &mut [u32], out: &mut [u8], at: usize) -> Line
+    requires { ⌜ (length (now arena) ≡ 8192) × (length (now table) ≡ 768)
+        × (at + mostAnswer ≤ length (now out)) ⌝ }
+    ensures { λ r. ⌜ Became (r .stage) (now (arena .exit)) (now (table .exit))
+        (longLine (sizesAndFirstOf (now (line .entry))))
+        (now (out .entry)) (now (out .exit)) at (r .at) ⌝ }
+{
+    match sizes_and_first_of(line) {
+        Triple::Three(words, slots, first) => {
+            let numbers = [words, slots, first];
+            open_pool(arena, table, out, at, words, slots, first, &numbers)
+        }
+        Triple::Bad => stop(out, at, 9),
     }
 }
 
@@ -195,12 +225,15 @@ fn serve_first(line: &[u8], arena: &mut [u32], table: &mut [u32], out: &mut [u8]
     requires { ⌜ (length (now arena) ≡ 8192) × (length (now table) ≡ 768)
         × (at + mostAnswer ≤ length (now out)) ⌝ }
     ensures { λ r. ⌜ Became (r .stage) (now (arena .exit)) (now (table .exit))
-        (firstLine (sizesOf (now (line .entry))))
+        (firstLine (sizesOf (now (line .entry))) (sizesAndFirstOf (now (line .entry))))
         (now (out .entry)) (now (out .exit)) at (r .at) ⌝ }
 {
     match sizes_of(line) {
-        Pair::Two(words, slots) => open_pool(arena, table, out, at, words, slots),
-        Pair::Bad => stop(out, at, 9),
+        Pair::Two(words, slots) => {
+            let numbers = [words, slots];
+            open_pool(arena, table, out, at, words, slots, 1, &numbers)
+        }
+        Pair::Bad => serve_long(line, arena, table, out, at),
     }
 }
 

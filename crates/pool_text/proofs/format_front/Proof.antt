@@ -50,8 +50,8 @@ returns c =
     let s = f .before .before .before .before .before in
     let r = f .format in
     fronts (λ (a t : Words). handed (r .result) a t [])
-    (λ (a t : Words). resultOf (step treeEngine format (treePool noHead a t))) (s .args .n) (s .args .t) (s .args .arena .now)
-    (s .args .table .now) (r .last .0) (r .last .1 .0) _ _ (s .pre .0) (s .pre .1) (r .kept .0) (r .kept .1 .0)
+    (λ (a t : Words). resultOf (step treeEngine (format (s .args .first)) (treePool noHead a t))) (s .args .n)
+    (s .args .t) (s .args .arena .now) (s .args .table .now) (r .last .0) (r .last .1 .0) _ _ (s .pre .0) (s .pre .1) (r .kept .0) (r .kept .1 .0)
     (r .ensures)
 
 pub format-front-spec : {M : Type 1} → statement M

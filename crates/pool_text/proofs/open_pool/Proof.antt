@@ -2,7 +2,7 @@
 use native.Mathlib.Omega.{arith}
 use mathlib.Core.Path.{_≡_, _∙_, sym, refl}
 use borrow.Author.Needs.{needs}
-use mathlib.Core.List.{[], _∷_}
+use mathlib.Core.List.{[]}
 use Prim.Native.Nat.{ℕ, _*_, _≤_}
 use lib.Dec.{ltb}
 use lib.ListN.{take}
@@ -30,10 +30,10 @@ returns : tie.Need-returns
 returns c =
     let p = c .before .before in
     let i = p .before .before in
-    let s = i .before .before .before .before in
+    let s = i .before .before .before .before .before in
     let a = s .args .arena .now in
     let t = s .args .table .now in
-    let e = too-large (s .args .words) (s .args .slots) (i .if1 .taken) in
+    let e = too-large (s .args .words) (s .args .slots) (s .args .first) (s .args .numbers .now) (i .if1 .taken) in
     let r = p .stop in
     became-as (sym e) (r .result .stage) a t (s .args .out .now) (r .last .0) (s .args .at) (r .result .at)
     (became-stopped _ a t _ _ _ _ 8 (r .ensures .0) (s .pre .0) (s .pre .1) (r .ensures .1))
@@ -44,7 +44,7 @@ mul-format-front c = search needs
 format-front-requires : tie.Need-format-front-requires
 format-front-requires c κs =
     let i = c .before .before in
-    let s = i .before .before .before .before in
+    let s = i .before .before .before .before .before in
     let few = small (s .args .words) (s .args .slots) (i .if1 .left) in
     (omega (arith, few .0, s .pre .0), omega (arith, few .1, s .pre .1))
 
@@ -66,31 +66,29 @@ returns-2 c =
     let i = p .before .before in
     let f = i .before .before .before .before .before in
     let j = f .before .before .before in
-    let s = j .before .before .before .before in
+    let s = j .before .before .before .before .before in
     let w = s .args .words in
     let k = s .args .slots in
     let a = s .args .arena .now in
     let t = s .args .table .now in
     let few = small w k (j .if1 .left) in
     let d = f .format-front in
-    let e = opens-not (take w a) (take (3 * k) t) w k (length-take-le w a (omega (arith, few .0, s .pre .0)))
-    (length-take-le (3 * k) t (omega (arith, few .1, s .pre .1))) (d .result) _ _ (d .ensures) (i .if2 .taken) in
+    let e = opens-not (take w a) (take (3 * k) t) w k (s .args .first) (s .args .numbers .now)
+    (length-take-le w a (omega (arith, few .0, s .pre .0)))
+    (length-take-le (3 * k) t (omega (arith, few .1, s .pre .1))) (d .result) _ _ (d .ensures) (few .0)
+    (i .if2 .taken) in
     let r = p .stop2 in
     let b = d .last .0 in
     let u = d .last .1 .1 .0 in
     became-as (sym e) (r .result .stage) b u (s .args .out .now) (r .last .0) (s .args .at) (r .result .at)
-    (became-stopped _ b u _ _ _ _ 8 (r .ensures .0) (d .kept .0 ∙ s .pre .0) (d .kept .1 .1 .0 ∙ s .pre .1)
+    (became-stopped _ b u _ _ _ _ (d .result .answer .number) (r .ensures .0) (d .kept .0 ∙ s .pre .0) (d .kept .1 .1 .0 ∙ s .pre .1)
     (r .ensures .1))
-
-slice-aggregate-put-line : tie.Need-slice-aggregate-put-line
-slice-aggregate-put-line c = search needs
 
 put-line-requires : tie.Need-put-line-requires
 put-line-requires c κs =
-    let f = c .before .before .before .before .before .before .before .before in
-    let s = f .before .before .before .before .before .before .before in
-    let room = line-room 80 (s .args .words ∷ s .args .slots ∷ []) (omega arith) in
-    omega (arith, s .pre .2, room)
+    let f = c .before .before .before .before .before .before .before in
+    let s = f .before .before .before .before .before .before .before .before in
+    omega (arith, s .pre .2, line-room 80 (s .args .numbers .now) (s .pre .3))
 
 same-length-5 : tie.Need-same-length-5
 same-length-5 c = search needs
@@ -104,10 +102,10 @@ same-length-7 c = search needs
 returns-3 : tie.Need-returns-3
 returns-3 c =
     let p = c .before .before in
-    let i = p .before .before .before .before in
+    let i = p .before .before .before in
     let f = i .before .before .before .before .before in
     let j = f .before .before .before in
-    let s = j .before .before .before .before in
+    let s = j .before .before .before .before .before in
     let w = s .args .words in
     let k = s .args .slots in
     let a = s .args .arena .now in
@@ -119,8 +117,11 @@ returns-3 c =
     let b = d .last .0 in
     let u = d .last .1 .1 .0 in
     let o : Own = record { head = d .result .head; words = w; slots = k } in
-    let e = opens (take w a) (take (3 * k) t) w k la lt (d .result) _ _ (d .ensures) (i .if2 .left) (few .0) in
-    let ok = opens-sound (take w a) (take (3 * k) t) w k la lt (d .result) _ _ (d .ensures) (i .if2 .left) in
+    let n = s .args .first in
+    let ns = s .args .numbers .now in
+    let e = opens (take w a) (take (3 * k) t) w k n ns la lt (d .result) _ _ (d .ensures) (few .0) (i .if2 .left) in
+    let ok = opens-sound (take w a) (take (3 * k) t) w k n ns la lt (d .result) _ _ (d .ensures) (few .0)
+    (i .if2 .left) in
     let lb = d .kept .0 ∙ s .pre .0 in
     let lu = d .kept .1 .1 .0 ∙ s .pre .1 in
     became-as (sym e) (Serving o) b u (s .args .out .now) (p .put-line .last .0) (s .args .at) (p .put-line .result) (
@@ -143,7 +144,6 @@ open-pool-spec =
     same-length-3
     same-length-4
     returns-2
-    slice-aggregate-put-line
     put-line-requires
     same-length-5
     same-length-6

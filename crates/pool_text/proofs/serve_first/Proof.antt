@@ -1,8 +1,10 @@
--- `pool_text::serve_first` meets its contract: a P line opens a pool, any other stops. Assumes nothing.
+-- `pool_text::serve_first` meets its contract: a P line of two numbers opens a pool with first ticket 1. Assumes
+-- nothing.
 use mathlib.Core.Path.{_∙_, sym, ap}
 use borrow.Author.Needs.{needs}
-use Rattle.pool_text.specs.Meaning.{firstLine}
-use Rattle.pool_text.proofs.StandLaws.{became-as, became-stopped}
+use Rattle.text.specs.declared.Pair.{Pair}
+use Rattle.pool_text.specs.Meaning.{sizesAndFirstOf, firstLine}
+use Rattle.pool_text.proofs.StandLaws.{became-as}
 use Rattle.pool_text.proofs.serve_first.Statement.{statement}
 use Rattle.pool_text.proofs.serve_first.Tie as tie
 
@@ -12,14 +14,17 @@ sizes-of-requires c κs = search needs
 enum-known-words : tie.Need-enum-known-words
 enum-known-words c = search needs
 
+slice-aggregate-open-pool : tie.Need-slice-aggregate-open-pool
+slice-aggregate-open-pool c = search needs
+
 open-pool-requires : tie.Need-open-pool-requires
 open-pool-requires c κs = search needs
 
 enum-told : tie.Need-enum-told
 enum-told c = search needs
 
-stop-requires : tie.Need-stop-requires
-stop-requires c κs = search needs
+serve-long-requires : tie.Need-serve-long-requires
+serve-long-requires c κs = search needs
 
 same-length : tie.Need-same-length
 same-length c = search needs
@@ -33,10 +38,11 @@ same-length-3 c = search needs
 returns : tie.Need-returns
 returns c =
     let p = c .before .before .before .before .before .before in
-    let g = p .before .before .before .before .before in
+    let g = p .before .before .before .before .before .before in
     let z = g .before .before in
     let s = z .before .before .before .before .before in
-    let e = ap firstLine (sym (z .sizes-of .ensures) ∙ g .words .given .1) in
+    let e = ap (λ (q : Pair). firstLine q (sizesAndFirstOf (s .args .line .now)))
+    (sym (z .sizes-of .ensures) ∙ g .words .given .1) in
     let r = p .open-pool in
     became-as (sym e) (r .result .stage) (r .last .0) (r .last .1 .0) (s .args .out .now) (r .last .1 .1 .0)
     (s .args .at) (r .result .at) (r .ensures)
@@ -44,18 +50,23 @@ returns c =
 same-length-4 : tie.Need-same-length-4
 same-length-4 c = search needs
 
+same-length-5 : tie.Need-same-length-5
+same-length-5 c = search needs
+
+same-length-6 : tie.Need-same-length-6
+same-length-6 c = search needs
+
 returns-2 : tie.Need-returns-2
 returns-2 c =
-    let p = c .before .before in
-    let g = p .before .before in
+    let p = c .before .before .before .before .before .before in
+    let g = p .before .before .before .before in
     let z = g .before .before in
     let s = z .before .before .before .before .before in
-    let a = s .args .arena .now in
-    let t = s .args .table .now in
-    let e = ap firstLine (sym (z .sizes-of .ensures) ∙ g .enum-told .given .1) in
-    let r = p .stop in
-    became-as (sym e) (r .result .stage) a t (s .args .out .now) (r .last .0) (s .args .at) (r .result .at)
-    (became-stopped _ a t _ _ _ _ 9 (r .ensures .0) (s .pre .0) (s .pre .1) (r .ensures .1))
+    let e = ap (λ (q : Pair). firstLine q (sizesAndFirstOf (s .args .line .now)))
+    (sym (z .sizes-of .ensures) ∙ g .enum-told .given .1) in
+    let r = p .serve-long in
+    became-as (sym e) (r .result .stage) (r .last .1 .0) (r .last .1 .1 .0) (s .args .out .now) (r .last .1 .1 .1 .0)
+    (s .args .at) (r .result .at) (r .ensures)
 
 pub serve-first-spec : {M : Type 1} → statement M
 serve-first-spec =
@@ -63,12 +74,15 @@ serve-first-spec =
     (tie.spec
     sizes-of-requires
     enum-known-words
+    slice-aggregate-open-pool
     open-pool-requires
     enum-told
-    stop-requires
+    serve-long-requires
     same-length
     same-length-2
     same-length-3
     returns
     same-length-4
+    same-length-5
+    same-length-6
     returns-2)

@@ -62,7 +62,13 @@ pub fn look<'a>(
 
 // A pool with no record: one free block, and the first ticket as the next. It takes no head and any contents; refused,
 // it writes nothing and hands back a head of zeros.
-pub fn format(s: u32, arena: &mut [i32], table: &mut [u32], index: &mut [u32], first: u32) -> Outcome
+pub fn format(
+    s: u32,
+    arena: &mut [i32],
+    table: &mut [u32],
+    index: &mut [u32],
+    first: u32,
+) -> Outcome
     ensures { λ r. ⌜ handed s r (now (arena .exit)) (now (table .exit)) (now (index .exit)) []
         ≡ resultOf (step segmentEngine (format first)
         (segmentPool s 0 (now (arena .entry)) (now (table .entry)) (now (index .entry)))) ⌝ }

@@ -36,7 +36,7 @@ use Rattle.calls.proofs.ActLaws.{Asked, ask-done}
 use Rattle.calls.proofs.GrantLaws.{over, zeroed, grant-store, next-above}
 use Rattle.record_table.proofs.SlotLaws.{empty-found}
 use Rattle.segment_requests.specs.declared.Head.{Head}
-use Rattle.segment_requests.specs.Granting.{Found}
+use Rattle.segment_requests.specs.Granting.{Grantable}
 use Rattle.segment_check.specs.Gate.{asWords, segmentPool}
 use Rattle.segment_check.proofs.GateLaws.{InRange}
 use Rattle.segment_requests.proofs.StoredLaws.{sound-range, sound-form, stored-pool}
@@ -70,7 +70,7 @@ some-words n size = let z = eqb-false n 0 (or-l (eqb n 0) (ltb 16384 n) size) in
 
 -- ---- the grant
 
-module _ (h : Head) (S : ℕ) (v : List ℤ) (t x : Words) (n slot at : ℕ) (f : Found h S v t x n slot at) where
+module _ (h : Head) (S : ℕ) (v : List ℤ) (t x : Words) (n slot at : ℕ) (f : Grantable h S v t x n slot at) where
   abbrev lent : Pool
   lent = segmentPool S (h .next) v t x
 

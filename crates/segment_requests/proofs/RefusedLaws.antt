@@ -16,7 +16,7 @@ use Rattle.call_parts.proofs.ResultLaws.{acted-refused}
 use Rattle.segment_check.specs.Gate.{segmentPool}
 use Rattle.segment_requests.specs.declared.Head.{Head}
 use Rattle.segment_requests.specs.declared.Outcome.{Outcome}
-use Rattle.segment_requests.specs.Outcomes.{handed, refusedWith, granted, vacated}
+use Rattle.segment_requests.specs.Outcomes.{handed, refusedWith, grantOutcome, releaseOutcome}
 
 module _ (h : Head) (S : ℕ) (v : List ℤ) (t x : Words) where
   abbrev p : Pool
@@ -28,11 +28,11 @@ module _ (h : Head) (S : ℕ) (v : List ℤ) (t x : Words) where
       ap (λ (y : Outcome). handed S y v t x []) e ∙ acted-refused segmentEngine act p n r
 
   pub granted-refused : (e n : ℕ) → e / 65536 ≡ n → eqb n 0 ≡ false → (k : ℕ) → RefusedBy segmentEngine p (ask k) n
-      → handed S (granted h k e) v t x [] ≡ acted segmentEngine (ask k) p
+      → handed S (grantOutcome h k e) v t x [] ≡ acted segmentEngine (ask k) p
   granted-refused e n is some k =
       let refuses : eqb (e / 65536) 0 ≡ false = ap (λ (m : ℕ). eqb m 0) is ∙ some in
-      refused-acted (ask k) (granted h k e) n (rw refuses (ap (refusedWith h) is))
+      refused-acted (ask k) (grantOutcome h k e) n (rw refuses (ap (refusedWith h) is))
 
   pub vacated-refused : (n : ℕ) → eqb n 0 ≡ false → (r : Row) → RefusedBy segmentEngine p (give r) n
-      → handed S (vacated h r n) v t x [] ≡ acted segmentEngine (give r) p
-  vacated-refused n some r = refused-acted (give r) (vacated h r n) n (rw some)
+      → handed S (releaseOutcome h r n) v t x [] ≡ acted segmentEngine (give r) p
+  vacated-refused n some r = refused-acted (give r) (releaseOutcome h r n) n (rw some)

@@ -21,7 +21,7 @@ use Rattle.segment_check.specs.Gate.{segmentPool, Ranged}
 
 -- The pool is sound, n is a good size, slot `slot` is the lowest empty one, a ticket is left, and the lowest fit for n
 -- words is at unit `at`.
-pub record Found (h : Head) (s : ℕ) (v : List ℤ) (t x : Words) (n slot at : ℕ) : Type 0 where
+pub record Grantable (h : Head) (s : ℕ) (v : List ℤ) (t x : Words) (n slot at : ℕ) : Type 0 where
   pub ok : sound segmentEngine (segmentPool s (h .next) v t x) ≡ true
   pub ranged : Ranged v
   pub size : (eqb n 0 || ltb 16384 n) ≡ false

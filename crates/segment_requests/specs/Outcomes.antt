@@ -24,8 +24,8 @@ refusedWith h n = record { head = h; answer = refusal n }
 
 -- what an allocation of n words comes to by its effect: a refusal with the number in the upper half, or, if that is 0,
 -- the next ticket at the address in the lower half
-abbrev pub granted : Head → ℕ → ℕ → Outcome
-granted h n e =
+abbrev pub grantOutcome : Head → ℕ → ℕ → Outcome
+grantOutcome h n e =
     cond (eqb (e / 65536) 0)
     (record {
       head = record { next = nextAfter (h .next) };
@@ -34,5 +34,5 @@ granted h n e =
     (refusedWith h (e / 65536))
 
 -- what a release comes to by its number: a refusal, or the named record once more; no ticket is used up
-abbrev pub vacated : Head → Row → ℕ → Outcome
-vacated h r n = cond (eqb n 0) (record { head = h; answer = success r }) (refusedWith h n)
+abbrev pub releaseOutcome : Head → Row → ℕ → Outcome
+releaseOutcome h r n = cond (eqb n 0) (record { head = h; answer = success r }) (refusedWith h n)

@@ -17,8 +17,8 @@ ghost use Rattle.calls.specs.Engines.{segmentEngine};
 ghost use Rattle.call_parts.specs.Parts.{namedIn, actOf, requestAt, withAnswer};
 ghost use Rattle.call_parts.specs.Results.{acted, ran};
 ghost use Rattle.segment_check.specs.Gate.{segmentPool};
-ghost use Rattle.segment_requests.specs.Granting.{Found};
-ghost use Rattle.segment_requests.specs.Outcomes.{handed, refusedWith, granted, vacated};
+ghost use Rattle.segment_requests.specs.Granting.{Grantable};
+ghost use Rattle.segment_requests.specs.Outcomes.{handed, refusedWith, grantOutcome, releaseOutcome};
 
 // What a call is passed and hands back: the next ticket, 0 when none is left.
 pub struct Head {
@@ -64,8 +64,9 @@ fn place(
     slot: usize,
     at: usize,
 ) -> u32
-    requires { ⌜ Found head s (now arena) (now table) (now index) words slot at ⌝ }
-    ensures { λ r. ⌜ handed s (granted head words r) (now (arena .exit)) (now (table .exit)) (now (index .exit)) []
+    requires { ⌜ Grantable head s (now arena) (now table) (now index) words slot at ⌝ }
+    ensures { λ r. ⌜
+        handed s (grantOutcome head words r) (now (arena .exit)) (now (table .exit)) (now (index .exit)) []
         ≡ acted segmentEngine (ask words)
         (segmentPool s (head .next) (now (arena .entry)) (now (table .entry)) (now (index .entry))) ⌝ }
 {
@@ -92,7 +93,8 @@ pub fn grant(
     words: u32,
 ) -> u32
     requires { ⌜ sound segmentEngine (segmentPool s (head .next) (now arena) (now table) (now index)) ≡ true ⌝ }
-    ensures { λ r. ⌜ handed s (granted head words r) (now (arena .exit)) (now (table .exit)) (now (index .exit)) []
+    ensures { λ r. ⌜
+        handed s (grantOutcome head words r) (now (arena .exit)) (now (table .exit)) (now (index .exit)) []
         ≡ acted segmentEngine (ask words)
         (segmentPool s (head .next) (now (arena .entry)) (now (table .entry)) (now (index .entry))) ⌝ }
 {
@@ -117,7 +119,7 @@ pub fn grant(
 
 // The outcome of an allocation with this effect.
 pub fn outcome_of_grant(head: Head, words: u32, done: u32) -> Outcome
-    ensures { λ r. ⌜ r ≡ granted head words done ⌝ }
+    ensures { λ r. ⌜ r ≡ grantOutcome head words done ⌝ }
 {
     let number = done / 65536;
     if number != 0 {
@@ -150,7 +152,8 @@ fn give_back(
 ) -> u32
     requires { ⌜ (sound segmentEngine (segmentPool s (head .next) (now arena) (now table) (now index))
         ≡ true) × (namedIn (now table) named ≡ Named.Slot slot) ⌝ }
-    ensures { λ r. ⌜ handed s (vacated head named r) (now (arena .exit)) (now (table .exit)) (now (index .exit)) []
+    ensures { λ r. ⌜
+        handed s (releaseOutcome head named r) (now (arena .exit)) (now (table .exit)) (now (index .exit)) []
         ≡ acted segmentEngine (give named)
         (segmentPool s (head .next) (now (arena .entry)) (now (table .entry)) (now (index .entry))) ⌝ }
 {
@@ -178,7 +181,8 @@ pub fn vacate(
     named: Row,
 ) -> u32
     requires { ⌜ sound segmentEngine (segmentPool s (head .next) (now arena) (now table) (now index)) ≡ true ⌝ }
-    ensures { λ r. ⌜ handed s (vacated head named r) (now (arena .exit)) (now (table .exit)) (now (index .exit)) []
+    ensures { λ r. ⌜
+        handed s (releaseOutcome head named r) (now (arena .exit)) (now (table .exit)) (now (index .exit)) []
         ≡ acted segmentEngine (give named)
         (segmentPool s (head .next) (now (arena .entry)) (now (table .entry)) (now (index .entry))) ⌝ }
 {
@@ -190,7 +194,7 @@ pub fn vacate(
 
 // The outcome of a release with this number.
 pub fn outcome_of_release(head: Head, named: Row, number: u32) -> Outcome
-    ensures { λ r. ⌜ r ≡ vacated head named number ⌝ }
+    ensures { λ r. ⌜ r ≡ releaseOutcome head named number ⌝ }
 {
     if number != 0 {
         return refused_with(head, number);

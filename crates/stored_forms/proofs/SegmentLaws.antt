@@ -2,7 +2,7 @@
 -- Assumes nothing; the laws of control words are of valid ledgers.
 use Prim.Native.Nat.{ℕ, zero, suc, _+_, _-_, _*_, _/_, _^_, _≤_, _<_, max}
 use native.Mathlib.Nat.{mul-one, mul-comm, mul-assoc, add-mul, pow-suc, pow-le-pow-right, add-sub-cancel-left}
-use native.Mathlib.Nat.{zero-add, add-zero, sub-zero, div-one}
+use native.Mathlib.Nat.{add-zero, sub-zero, div-one}
 use native.Mathlib.Nat.{suc-mul, lt-div-mul-add, div-lt-iff-lt-mul}
 use native.Mathlib.Omega.{arith}
 use native.Mathlib.Decide.{ℕ-discrete, decLe}
@@ -16,13 +16,12 @@ use lib.IntN.{ℤ, pos, negsuc, negℤ}
 use lib.ListN.{length, getD}
 use lib.Signed.{mag}
 use mir.Syntax.{w32}
-use mir.Val.{Fits, SFits, toZ}
-use mir.Facts.{fits-ofZ, toZ-ofZ}
+use mir.Val.{SFits}
 use Rattle.words.specs.Flags.{Says}
 use Rattle.words.specs.Lists.{firstThat}
 use Rattle.words.proofs.Tests.{and-l, and-r, and-i, not-true, eqb-eq, eqb-same, eqb-ne, of-le, of-lt, of-gt, of-ge}
 use Rattle.words.proofs.CountedLaws.{lowest-nothing, lowest-is}
-use Rattle.words.proofs.ListLaws.{all-getD, any-at, firstThat-some, firstThat-none, length-listFrom, getD-listFrom}
+use Rattle.words.proofs.ListLaws.{all-getD, any-at, firstThat-some, firstThat-none}
 use Rattle.ledger.specs.declared.Row.{Row}
 use Rattle.ledger.specs.Records.{Ledger, emptyRow, isLive, recordOf}
 use Rattle.ledger.specs.Units.{span, addressAt, first, past, valid, covers, free}
@@ -34,7 +33,7 @@ use Rattle.ledger.proofs.RunLaws.{runs-next}
 use Rattle.stored_forms.specs.Segments.{segmentRule, mostWords, startsAt, freeFrom, opens}
 use Rattle.stored_forms.specs.Segments.{controlWord, segmentWord}
 use Rattle.stored_forms.specs.Segments.{weight, largest, firstBlock, treeWord, segmentSize, depth, indexWord}
-use Rattle.stored_forms.specs.Segments.{segmentIndex, isPower}
+use Rattle.stored_forms.specs.Segments.{isPower}
 
 -- ---- the number of segments
 
@@ -77,15 +76,6 @@ segment-size W S h = (
 )
 
 -- ---- the index by its words
-
-pub length-index : (S W : ℕ) (L : Ledger) → length (segmentIndex S W L) ≡ 3 * S
-unfolding segmentIndex
-length-index S W L = length-listFrom (indexWord (controlWord W L) W S) 0 (3 * S)
-
-pub index-at : (S W : ℕ) (L : Ledger) (i : ℕ) → i < 3 * S
-    → getD (segmentIndex S W L) i 0 ≡ indexWord (controlWord W L) W S i
-unfolding segmentIndex
-index-at S W L i h = getD-listFrom (indexWord (controlWord W L) W S) 0 (3 * S) i 0 h ∙ rw zero-add
 
 -- what `treeWord` gives by the test of its place
 abbrev leafOr : ℕ → ℕ → Bool → ℕ
@@ -165,10 +155,6 @@ pub weight-zero : (z : ℤ) → (weight z ≡ 0) ↔ (z ≡ pos 0)
 weight-zero (pos n) = (λ e. ap pos e, λ e. ap weight e)
 weight-zero (negsuc n) = (λ e. absurd (omega arith), λ e. ap weight e)
 
-weight-free : (z : ℤ) → 2 ≤ weight z → z ≡ pos (weight z)
-weight-free (pos n) h = refl
-weight-free (negsuc n) h = absurd (omega arith)
-
 module _ (c : ℕ → ℤ) where
   pub largest-above : (u n k : ℕ) → u ≤ k → k < u + n → weight (c k) ≤ largest c u n
   largest-above u zero k a b = absurd (omega arith)
@@ -206,15 +192,6 @@ module _ (c : ℕ → ℤ) where
       go : Dec (1 ≤ largest c u n) → 1 ≤ largest c u n
       go (yes l) = l
       go (no l) = absurd (h (largest-zero u n .0 (omega arith) k a b))
-
-  -- no free block that begins there is larger, and a leaf above 1 is one of them
-  pub largest-free : (u n k z : ℕ) → u ≤ k → k < u + n → c k ≡ pos z → z ≤ largest c u n
-  largest-free u n k z a b e = omega (arith, largest-above u n k a b, ap weight e)
-
-  pub largest-attained : (u n : ℕ) → 2 ≤ largest c u n → (k : ℕ) × (u ≤ k) × (k < u + n) × (c k ≡ pos (largest c u n))
-  largest-attained u n h =
-      let (k, a, b, e) = largest-at u n (omega arith) in
-      (k, a, b, weight-free (c k) (omega arith) ∙ ap pos e)
 
   -- ---- first blocks
 
@@ -478,12 +455,3 @@ module _ (W next : ℕ) (L : Ledger) (good : valid segmentRule W next L ≡ true
 
   pub control-fits : W ≤ mostWords → SFits w32 (controlWord W L u)
   control-fits h = record { sfits = let l = control-le in omega arith }
-
-  pub segment-fits : W ≤ mostWords → Fits w32 (segmentWord W L u)
-  unfolding segmentWord
-  segment-fits h = fits-ofZ (control-fits h)
-
-  -- what is stored reads back as the control word
-  pub segment-reads : W ≤ mostWords → toZ w32 (segmentWord W L u) ≡ controlWord W L u
-  unfolding segmentWord
-  segment-reads h = toZ-ofZ (control-fits h)

@@ -1,9 +1,8 @@
 -- `pool_c::lf_segment_list` meets its contract: the pool's promise, through the struct for C. Assumes nothing.
-use mathlib.Core.Path.{ap, _∙_}
+use mathlib.Core.Path.{_∙_}
 use mathlib.Core.List.{[], _∷_}
 use borrow.Author.Needs.{needs}
-use Rattle.segment_requests.specs.declared.Outcome.{Outcome}
-use Rattle.segment_requests.specs.Outcomes.{handed}
+use Rattle.pool_c.proofs.OutcomeLaws.{same-handed}
 use Rattle.pool_c.proofs.lf_segment_list.Statement.{statement}
 use Rattle.pool_c.proofs.lf_segment_list.Tie as tie
 
@@ -29,7 +28,7 @@ returns : tie.Need-returns
 returns c =
     let q = c .before .before .before .before .before .before .before .before in
     let m = q .list .last in
-    ap (λ (x : Outcome). handed _ x (m .1 .1 .0) (m .1 .1 .1 .0) (m .1 .1 .1 .1 .0) (m .1 .1 .1 .1 .1 .1 .0 ∷ []))
+    same-handed _ (m .1 .1 .0) (m .1 .1 .1 .0) (m .1 .1 .1 .1 .0) (m .1 .1 .1 .1 .1 .1 .0 ∷ [])
     (c .c-segment-outcome .ensures)
     ∙ q .list .ensures
 

@@ -1,4 +1,4 @@
--- `segment_requests::outcome_of_grant` meets its contract: its test is the one in `granted`. Assumes nothing.
+-- `segment_requests::outcome_of_grant` meets its contract: its test is the one in `grantOutcome`. Assumes nothing.
 use borrow.Author.Needs.{needs}
 use borrow.Author.Tests.{eq-eqb, ne-eqb}
 use Rattle.segment_requests.proofs.outcome_of_grant.Statement.{statement}

@@ -1,4 +1,4 @@
--- `segment_requests::outcome_of_release` meets its contract: its test is the one in `vacated`. Assumes nothing.
+-- `segment_requests::outcome_of_release` meets its contract: its test is the one in `releaseOutcome`. Assumes nothing.
 use mathlib.Core.Path.{ap}
 use borrow.Author.Needs.{needs}
 use borrow.Author.Tests.{eq-eqb, ne-eqb}

@@ -17,7 +17,7 @@ use Rattle.calls.specs.Pool.{Pool, nextAfter}
 use Rattle.calls.specs.Step.{ask}
 use Rattle.calls.specs.Step as machine
 use Rattle.segment_check.specs.Gate.{segmentPool}
-use Rattle.segment_requests.specs.Outcomes.{handed, granted}
+use Rattle.segment_requests.specs.Outcomes.{handed, grantOutcome}
 use Rattle.segment_check.proofs.GateLaws.{InRange}
 use Rattle.calls.specs.Engines.{segmentEngine}
 use Rattle.call_parts.proofs.ResultLaws.{acted-by}
@@ -124,7 +124,7 @@ returns c =
     (now (s .args .index)) (s .args .words) (s .args .slot) (s .args .at) (s .pre)
     (l .allot .last .0) (w .write-row .last .0) (l .allot .last .1 .0) (becomes l) (w .write-row .ensures) in
     let small : s .args .at + 1 < 65536 = omega (arith, inside s, range s .most) in
-    let named : granted (s .args .head) (s .args .words) (s .args .at + 1)
+    let named : grantOutcome (s .args .head) (s .args .words) (s .args .at + 1)
     ≡ record {
       head = record { next = nextAfter (s .args .head .next) };
       answer = machine.success (row (s .args .head .next) (s .args .at + 1) (s .args .words));

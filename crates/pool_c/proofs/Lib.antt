@@ -1,0 +1,2 @@
+-- The laws of the calls for C.
+pub mod OutcomeLaws

@@ -1,0 +1,12 @@
+-- Equal outcomes of the segment pool leave the same. Assumes nothing.
+use Prim.Native.Nat.{ℕ}
+use mathlib.Core.Path.{_≡_, ap}
+use mathlib.Core.List.{List}
+use lib.IntN.{ℤ}
+use Rattle.words.specs.Lists.{Words}
+use Rattle.segment_requests.specs.declared.Outcome.{Outcome}
+use Rattle.segment_requests.specs.Outcomes.{handed}
+
+pub same-handed : (S : ℕ) {o x : Outcome} (v : List ℤ) (t i : Words) (bs : List Words) → o ≡ x
+    → handed S o v t i bs ≡ handed S x v t i bs
+same-handed S v t i bs e = ap (λ (y : Outcome). handed S y v t i bs) e

@@ -13,13 +13,13 @@ use Rattle.ledger.specs.Runs.{Run, Gapped}
 use Rattle.ledger.proofs.RunLaws.{gapped-weaken}
 use Rattle.tree_check.specs.Maps.{Leads}
 use Rattle.words.specs.Flags.{Says}
-use Rattle.tree_check.specs.Walk.{earliest, Placed}
+use Rattle.tree_check.specs.Walk.{earliest, NodeFollows}
 
 -- ---- one node
 
 module _ {m map : Words} {k c z : ℕ} where
   pub placed : (x y : Bool) → earliest k ≤ c → Says x (Leads map k c)
-      → y ≡ every (zeroAt m) (2 * c + 2) (2 * (c + z) - (2 * c + 2)) → Says (x && y) (Placed m map k c z)
+      → y ≡ every (zeroAt m) (2 * c + 2) (2 * (c + z) - (2 * c + 2)) → Says (x && y) (NodeFollows m map k c z)
   placed x y apart led clear = (
     (λ e. record {
       apart = apart;

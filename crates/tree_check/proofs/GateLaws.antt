@@ -72,9 +72,9 @@ module _ (h : Head) {m t : Words} (k : Valid (h .next) m t) where
   abbrev p : Pool
   p = treePool h m t
 
-  whole : length m % formOne .unit ≡ 0
+  even-words : length m % formOne .unit ≡ 0
   unfolding formOne
-  whole = k .fit .even
+  even-words = k .fit .even
 
   -- the tree of the ledger's free runs in the arena is what the stored form says of it, both ways
   holds-store : (link T ≡ h .root) × Holds formOne m T → p ≡ store treeEngine L (h .next) p
@@ -82,7 +82,7 @@ module _ (h : Head) {m t : Words} (k : Valid (h .next) m t) where
   holds-store lies =
       let keeps : (i : ℕ) → i < length m → owned (formRule formOne) L i ≡ true → getD m i 0 ≡ getD m i 0 =
       λ i l o. refl in
-      let arena = stamped formOne 65536 readable-one (length m) whole L (h .next) (k .good) m m refl refl keeps (lies .1) in
+      let arena = stamped formOne 65536 readable-one (length m) even-words L (h .next) (k .good) m m refl refl keeps (lies .1) in
       let table = table-records t (k .fit .threes) in
       λ i. record {
         head = record { root = sym (lies .0) i ∷ []; next = h .next };
@@ -97,7 +97,7 @@ module _ (h : Head) {m t : Words} (k : Valid (h .next) m t) where
   store-holds e =
       let arena = ap (λ (q : Pool). q .arena) e in (
         sym (ap (λ (q : Pool). getD (q .head .root) 0 0) e),
-        of-stamped formOne 65536 readable-one (length m) whole L (h .next) (k .good) m m refl arena .2,
+        of-stamped formOne 65536 readable-one (length m) even-words L (h .next) (k .good) m m refl arena .2,
       )
 
   stored-same : stored treeEngine p ≡ samePool p (store treeEngine L (h .next) p)

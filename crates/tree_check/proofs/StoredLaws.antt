@@ -23,14 +23,14 @@ use Rattle.record_table.proofs.PartitionLaws.{partition-valid, valid-exact}
 use Rattle.tree_check.specs.declared.Head.{Head}
 use Rattle.tree_check.specs.Maps.{cellRule, Leads, CoversAll, Mapped, Shown}
 use Rattle.words.specs.Flags.{Says}
-use Rattle.tree_check.specs.Walk.{Found, Apart, ends, LiesAt, Passes}
+use Rattle.tree_check.specs.Walk.{Walked, Apart, ends, LiesAt, Passes}
 use Rattle.record_table.proofs.LeadLaws.{leads-up}
 use Rattle.tree_check.proofs.LeadLaws.{leads-cover}
 use Rattle.tree_check.proofs.GapLaws.{gapped-wider}
 use Rattle.tree_check.proofs.ApartLaws.{gapped-short, apart-all}
 
 module _ {h : Head} {limit : ℕ} {m t map : Words} {held end sum : ℕ} (mapped : Mapped (length m) (h .next) t held map)
-    (x : Found m map (length m / 2) (h .root) limit 0 0 end sum) (behind : CoversAll map end (length m / 2)) where
+    (x : Walked m map (length m / 2) (h .root) limit 0 0 end sum) (behind : CoversAll map end (length m / 2)) where
   -- the tree's runs are free tiles, and records lie in the rest
   partitioned : Partitioned cellRule (recordsOf t) (length m / 2) (inorder (x .tree))
   partitioned = record {
@@ -113,7 +113,7 @@ module _ (h : Head) (m t map : Words) (held : ℕ) (mapped : Mapped (length m) (
 
 -- what the last two tests say, together
 pub both-say : (h : Head) {m t map : Words} {held end sum : ℕ} (b : Bool)
-    → Mapped (length m) (h .next) t held map → Found m map (length m / 2) (h .root) (length m / 2 + 1) 0 0 end sum
+    → Mapped (length m) (h .next) t held map → Walked m map (length m / 2) (h .root) (length m / 2 + 1) 0 0 end sum
     → Passes m map (length m / 2) (h .root) (length m / 2 + 1) 0 (slots t + 1) 0 end sum → Says b (Leads map end (length m / 2))
     → Says (b && eqb (sum + held) (length m / 2)) (Shown h m t)
 both-say h {m} {t} {map} {held} {end} {sum} b mapped x pass behind =

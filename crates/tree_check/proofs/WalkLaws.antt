@@ -20,7 +20,7 @@ use Rattle.stored_forms.proofs.NodeLaws.{readable-one, holds-reads}
 use Rattle.record_table.specs.Partition.{total}
 use Rattle.record_table.proofs.PartitionLaws.{total-append}
 use Rattle.tree_check.specs.Maps.{Covers}
-use Rattle.tree_check.specs.Walk.{earliest, under, Ready, Between, Placed, Found, Apart, ends, LiesAt, Passes}
+use Rattle.tree_check.specs.Walk.{earliest, under, Ready, Between, NodeFollows, Walked, Apart, ends, LiesAt, Passes}
 use Rattle.tree_check.proofs.LeadLaws.{leads-cover}
 use Rattle.tree_check.proofs.GapLaws.{gapped-join}
 use Rattle.tree_check.proofs.LimitLaws.{node-heaped, node-short}
@@ -31,7 +31,7 @@ use Rattle.tree_check.proofs.ReadLaws.{cell-reads}
 module _ {m map : Words} {N : ℕ} where
   -- no tree at the link 0
   pub none-found : {l limit k before : ℕ} → l ≡ 0 → k ≤ N → before ≤ k
-      → Found m map N l limit k before k before
+      → Walked m map N l limit k before k before
   none-found e h f = record {
     tree = leaf;
     linked = sym e;
@@ -48,8 +48,8 @@ module _ {m map : Words} {N : ℕ} where
 
   module _ {c z lf rt limit k before next sum last free : ℕ} (ready : Ready m map N) (ez : z ≡ lengthAt formOne m c)
       (el : lf ≡ leftAt formOne m c) (er : rt ≡ rightAt formOne m c) (fit : Between k N limit c z)
-      (x : Found m map N lf z k before next sum) (inner : next ≤ c) (p : Placed m map next c z)
-      (y : Found m map N rt (z + 1) (c + z) (sum + z) last free) where
+      (x : Walked m map N lf z k before next sum) (inner : next ≤ c) (p : NodeFollows m map next c z)
+      (y : Walked m map N rt (z + 1) (c + z) (sum + z) last free) where
     abbrev q : Run
     q = run c z
 
@@ -77,7 +77,7 @@ module _ {m map : Words} {N : ℕ} where
         go left own right (yes s) (yes d) (yes f) = y .known u f hi right
 
     -- the sons' trees and the node make the tree
-    pub joined : {l : ℕ} → l ≡ suc c → Found m map N l limit k before last free
+    pub joined : {l : ℕ} → l ≡ suc c → Walked m map N l limit k before last free
     unfolding formOne
     joined at-cell =
         let apart = p .apart in
@@ -114,8 +114,8 @@ module _ {m map : Words} {N : ℕ} where
 
 -- what a walk says, said of equal numbers
 pub walked-as : {m map : Words} {N l limit k allowed before next free n s : ℕ} → n ≡ next → s ≡ free
-    → Found m map N l limit k before next free → Passes m map N l limit k allowed before next free
-    → Found m map N l limit k before n s × Passes m map N l limit k allowed before n s
+    → Walked m map N l limit k before next free → Passes m map N l limit k allowed before next free
+    → Walked m map N l limit k before n s × Passes m map N l limit k allowed before n s
 walked-as en es x p = rw (en, es) (x, p)
 
 -- a part of the arena
@@ -258,9 +258,9 @@ module _ {m map : Words} {N : ℕ} (ready : Ready m map N) where
             inside = omega (arith, end-is x);
           }
 
-      node-placed : {j : ℕ} → j ≡ ends k (inorder a) → Placed m map j c z
+      node-follows : {j : ℕ} → j ≡ ends k (inorder a) → NodeFollows m map j c z
       unfolding formOne
-      node-placed e = rw e (record {
+      node-follows e = rw e (record {
         apart = behind x .0;
         led = behind x .1;
         clear = λ i lo hi. x .holds .1 i (omega arith) hi;
@@ -291,11 +291,11 @@ module _ {m map : Words} {N : ℕ} (ready : Ready m map N) where
             absurd (omega arith);
       }
 
-      pub not-placed : {r free : ℕ} → (Placed m map next c z → ⊥) → Passes m map N l limit k allowed before r free
-      not-placed bad = record {
+      pub not-following : {r free : ℕ} → (NodeFollows m map next c z → ⊥) → Passes m map N l limit k allowed before r free
+      not-following bad = record {
         meets = λ t x few.
             let h = here-is t x in
-            absurd (bad (node-placed (h .lies) (left .meets (h .a) (left-lies (h .lies)) (few-sons h may few .0) .0)));
+            absurd (bad (node-follows (h .lies) (left .meets (h .a) (left-lies (h .lies)) (few-sons h may few .0) .0)));
       }
 
       pub passes-both : {last free : ℕ} → Passes m map N rt (z + 1) (c + z) rest (sum + z) last free

@@ -35,14 +35,14 @@ pub record Between (k hi limit c z : ℕ) : Type 0 where
   pub short : z < limit
 
 -- The node of z cells at cell c follows records that begin at cell k, and its block's other words are zero.
-pub record Placed (m map : Words) (k c z : ℕ) : Type 0 where
+pub record NodeFollows (m map : Words) (k c z : ℕ) : Type 0 where
   pub apart : earliest k ≤ c
   pub led : Leads map k c
   pub clear : Zeros m (2 * c + 2) (2 * (c + z))
 
 -- A tree lies at the link l: its runs are shorter than the limit and lie apart from cell k up to cell `next`, where
 -- every other cell is held. `free` counts their cells besides the `before` that were counted already.
-pub record Found (m map : Words) (N l limit k before next free : ℕ) : Type 0 where
+pub record Walked (m map : Words) (N l limit k before next free : ℕ) : Type 0 where
   pub tree : Tree
   pub linked : link tree ≡ l
   pub holds : Holds formOne m tree

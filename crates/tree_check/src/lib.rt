@@ -61,8 +61,8 @@ fn is_shown_over(
     if cells < end {
         return false;
     }
-    let whole = sum + held;
-    leads_to(map, end, cells) & (whole == cells)
+    let known = sum + held;
+    leads_to(map, end, cells) & (known == cells)
 }
 
 // Map and residues are wiped whole on every call, so that a small pool gets small ones. At most 64 cells:

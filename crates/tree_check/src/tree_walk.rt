@@ -6,7 +6,7 @@ use tree_nodes::right_of;
 ghost use Prim.Native.Nat.{_+_, _/_, _<_, _≤_};
 ghost use lib.ListN.{length};
 ghost use Rattle.words.specs.Flags.{Says};
-ghost use Rattle.tree_check.specs.Walk.{Ready, Between, Placed, Found, Passes};
+ghost use Rattle.tree_check.specs.Walk.{Ready, Between, NodeFollows, Walked, Passes};
 
 // Whether a block of z cells at cell c lies between cells k and hi, and is shorter than the limit.
 fn is_between(k: usize, hi: usize, limit: usize, c: usize, z: usize) -> bool
@@ -29,7 +29,7 @@ fn is_between(k: usize, hi: usize, limit: usize, c: usize, z: usize) -> bool
 // blocks that touch are none, but nothing lies before cell 0.
 fn node_ok(arena: &[u32], map: &[u8], k: usize, c: usize, z: usize) -> bool
     requires { ⌜ (k ≤ c) × (1 ≤ z) × Ready (now arena) (now map) (c + z) ⌝ }
-    ensures { λ r. ⌜ Says r (Placed (now (arena .entry)) (now (map .entry)) k c z) ⌝ }
+    ensures { λ r. ⌜ Says r (NodeFollows (now (arena .entry)) (now (map .entry)) k c z) ⌝ }
 {
     if c == k {
         if k != 0 {
@@ -58,7 +58,7 @@ fn walk(
     requires { ⌜ Ready (now (now arena)) (now (now map)) (length (now (now arena)) / 2) ⌝ }
     requires { ⌜ (k ≤ length (now (now arena)) / 2) × (now free ≤ k) ⌝ }
     ensures { λ r. ⌜ (r ≤ length (now (now (arena .entry))) / 2
-        → Found (now (now (arena .entry))) (now (now (map .entry))) (length (now (now (arena .entry))) / 2) link limit k
+        → Walked (now (now (arena .entry))) (now (now (map .entry))) (length (now (now (arena .entry))) / 2) link limit k
         (now (free .entry)) r (now (free .exit))) ⌝ }
     ensures { λ r. ⌜ Passes (now (now (arena .entry))) (now (now (map .entry)))
         (length (now (now (arena .entry))) / 2) link limit k allowed (now (free .entry)) r (now (free .exit)) ⌝ }
@@ -107,7 +107,7 @@ pub fn walk_all(
     allowed: usize,
 ) -> usize
     requires { ⌜ Ready (now arena) (now map) (length (now arena) / 2) × (now free ≤ 0) ⌝ }
-    ensures { λ r. ⌜ (r ≤ length (now (arena .entry)) / 2 → Found (now (arena .entry)) (now (map .entry))
+    ensures { λ r. ⌜ (r ≤ length (now (arena .entry)) / 2 → Walked (now (arena .entry)) (now (map .entry))
         (length (now (arena .entry)) / 2) root limit 0 (now (free .entry)) r (now (free .exit))) ⌝ }
     ensures { λ r. ⌜ Passes (now (arena .entry)) (now (map .entry)) (length (now (arena .entry)) / 2) root limit 0
         allowed (now (free .entry)) r (now (free .exit)) ⌝ }

@@ -66,8 +66,8 @@ returns-2 c =
           absurd (omega arith),
     )
 
-add-whole : tie.Need-add-whole
-add-whole c =
+add-known : tie.Need-add-known
+add-known c =
     let w = c .before in
     let r = w .before .before .before .before .before .before .before .before .before in
     let s = r .before .before .before .before .before .before .before in
@@ -113,7 +113,7 @@ is-shown-over-spec =
     same-length-3
     same-length-4
     returns-2
-    add-whole
+    add-known
     leads-to-requires
     same-length-5
     same-length-6

@@ -1,4 +1,5 @@
 -- `tree_cores::serve_at` meets its contract: one act, and its four answer words. Assumes nothing.
+use native.Mathlib.Omega.{arith}
 use mathlib.Core.Path.{_∙_, ap}
 use borrow.Author.Needs.{needs}
 use denote.Ref.{now}
@@ -12,13 +13,16 @@ use Rattle.tree_cores.proofs.serve_at.Statement.{statement}
 use Rattle.tree_cores.proofs.serve_at.Tie as tie
 
 request-at-requires : tie.Need-request-at-requires
-request-at-requires c κs = c .before .before .before .before .pre .1 .0
+request-at-requires c κs = let fits = c .before .before .before .before .pre .1 .0 in omega (arith, fits)
 
 serve-requires : tie.Need-serve-requires
 serve-requires c κs = c .before .before .before .before .before .before .before .pre .0
 
 put-answer-requires : tie.Need-put-answer-requires
-put-answer-requires c κs = c .before .before .before .before .before .before .before .before .before .before .before .before .before .pre .1 .1
+put-answer-requires c κs =
+    let s = c .before .before .before .before .before .before .before .before .before .before .before .before .before in
+    let fits = s .pre .1 .1 in
+    omega (arith, fits)
 
 same-length : tie.Need-same-length
 same-length c = search needs

@@ -12,9 +12,9 @@ use denote.Ref.{now}
 use lib.ListN.{length}
 use Rattle.words.proofs.Tests.{not-true, not-false}
 use Rattle.stored_forms.specs.Tree.{formOne}
-use Rattle.tree_check.specs.Walk.{Between, Placed, Found, Passes}
+use Rattle.tree_check.specs.Walk.{Between, NodeFollows, Walked, Passes}
 use Rattle.tree_check.proofs.WalkLaws.{none-found, joined, ready-part, walked-as, passes-none, passes-both}
-use Rattle.tree_check.proofs.WalkLaws.{not-inside, not-allowed, not-between, not-left, not-placed}
+use Rattle.tree_check.proofs.WalkLaws.{not-inside, not-allowed, not-between, not-left, not-following}
 use Rattle.tree_check.proofs.tree_walk.walk.Reads as walk
 use Rattle.tree_check.proofs.tree_walk.walk.Kinds as walk-kinds
 use Rattle.tree_check.proofs.tree_walk.+walk.Lts-walk as walk-lts
@@ -76,7 +76,7 @@ left-done : (t : ℕ) (c : walk-lts.Joined5 (walk-claims t) (walk-at t) walk.Pos
     let e = f .before .before in
     let a = start t e .args in
     let z = e .before .before .length-of .result in
-    Found (now (now (a .arena))) (now (now (a .map))) (length (now (now (a .arena))) / 2) (f .left-of .result) z (a .k) (now (a .free))
+    Walked (now (now (a .arena))) (now (now (a .map))) (length (now (now (a .arena))) / 2) (f .left-of .result) z (a .k) (now (a .free))
     (c .if5 .next) (c .if5 .free)
     × (c .if5 .next ≤ a .link - 1)
     × Passes (now (now (a .arena))) (now (now (a .map))) (length (now (now (a .arena))) / 2) (f .left-of .result) z (a .k)
@@ -96,12 +96,12 @@ left-done t c =
     (c .if5 .came)
 
 -- the node is found right
-node-placed : (t : ℕ) (c : walk-lts.Else7 (walk-claims t) (walk-at t) walk.Post)
+node-follows : (t : ℕ) (c : walk-lts.Else7 (walk-claims t) (walk-at t) walk.Post)
     → (let d = c .before .before .before .before in
     let e = d .before .before .before in
     let a = start t e .args in
-    Placed (now (now (a .arena))) (now (now (a .map))) (d .if5 .next) (a .link - 1) (e .before .before .length-of .result))
-node-placed t c = c .before .node-ok .ensures .0 (not-false _ (c .if7 .left))
+    NodeFollows (now (now (a .arena))) (now (now (a .map))) (d .if5 .next) (a .link - 1) (e .before .before .length-of .result))
+node-follows t c = c .before .node-ok .ensures .0 (not-false _ (c .if7 .left))
 
 walk-returns : (t : ℕ) → walk-lts.Need-returns (walk-claims t) (walk-at t) walk.Post
 walk-returns t c = let p = c .before .pre .1 in
@@ -182,7 +182,7 @@ walk-returns-6 t c =
     let f = d .before in
     let e = f .before .before in (
       (λ h. absurd (omega (arith, start t e .pre .1 .0 .small))),
-      not-placed (start t e .pre .1 .0) (at-cell t e) (e .before .before .length-of .ensures) (f .left-of .ensures) refl
+      not-following (start t e .pre .1 .0) (at-cell t e) (e .before .before .length-of .ensures) (f .left-of .ensures) refl
           (may t e) (left-done t d .2) (λ p. true≢false (sym (n .node-ok .ensures .1 p) ∙ not-true _ (c .if7 .taken))),
     )
 
@@ -217,7 +217,7 @@ walk-returns-7 t c =
     let size = e .before .before .length-of .ensures in
     let few = x .few in
     let none = c .if8 .taken in (
-      (λ h. joined (s .pre .1 .0) size (f .left-of .ensures) (r .right-of .ensures) b x inner (node-placed t n)
+      (λ h. joined (s .pre .1 .0) size (f .left-of .ensures) (r .right-of .ensures) b x inner (node-follows t n)
           (none-found none (b .high) (omega arith)) (at-cell t e)),
       passes-both (s .pre .1 .0) (at-cell t e) size (f .left-of .ensures) (r .right-of .ensures) (may t e) p
           (passes-none (s .pre .1 .0) none),
@@ -256,7 +256,7 @@ walk-returns-8 t c =
     let b = fit t e in
     let (x, inner, p) = left-done t d in
     let size = e .before .before .length-of .ensures in (
-      (λ h. joined (s .pre .1 .0) size (f .left-of .ensures) (r .right-of .ensures) b x inner (node-placed t n)
+      (λ h. joined (s .pre .1 .0) size (f .left-of .ensures) (r .right-of .ensures) b x inner (node-follows t n)
           (c .walk2 .ensures .0 h) (at-cell t e)),
       passes-both (s .pre .1 .0) (at-cell t e) size (f .left-of .ensures) (r .right-of .ensures) (may t e) p
           (c .walk2 .ensures .1),

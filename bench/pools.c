@@ -69,12 +69,12 @@ lf_answer run_list(const contestant *c, pool *p, const uint32_t *requests, size_
 lf_answer format_pool(const contestant *c, pool *p)
 {
     if (p->engine == TREE) {
-        lf_tree_outcome o = c->tree_format(p->arena, p->words, p->table, 3 * p->records);
+        lf_tree_outcome o = c->tree_format(p->arena, p->words, p->table, 3 * p->records, 1);
         p->head = o.head;
         return o.answer;
     }
     lf_segment_outcome o = c->segment_format((int32_t *)p->arena, p->words, p->table, 3 * p->records, p->segments,
-                                             p->index, 3 * p->segments);
+                                             p->index, 3 * p->segments, 1);
     p->head.next = o.next;
     return o.answer;
 }

@@ -24,18 +24,24 @@ static int broken(int kind)
 #define LISTED const uint32_t *requests, size_t requests_len, uint32_t *answers, size_t answers_len
 #define LISTED_PASSED requests, requests_len, answers, answers_len
 
-lf_tree_outcome __real_lf_tree_format(TREE);
+lf_tree_outcome __real_lf_tree_format(TREE, uint32_t first);
 lf_tree_outcome __real_lf_tree_allocate(lf_tree_head head, TREE, uint32_t words);
 lf_tree_outcome __real_lf_tree_release(lf_tree_head head, TREE, NAMED);
 lf_answer __real_lf_tree_find(lf_tree_head head, const uint32_t *arena, size_t arena_len, const uint32_t *table,
                               size_t table_len, NAMED);
 lf_tree_outcome __real_lf_tree_list(lf_tree_head head, TREE, LISTED);
+lf_segment_outcome __real_lf_segment_format(SEGMENT, uint32_t first);
 lf_segment_outcome __real_lf_segment_allocate(uint32_t next, SEGMENT, uint32_t words);
 lf_segment_outcome __real_lf_segment_release(uint32_t next, SEGMENT, NAMED);
 
-lf_tree_outcome __wrap_lf_tree_format(TREE)
+lf_tree_outcome __wrap_lf_tree_format(TREE, uint32_t first)
 {
-    lf_tree_outcome done = __real_lf_tree_format(TREE_PASSED);
+    int none = broken(16) && first == 0;
+    if (broken(15) && first != 0) /* tickets begin at 1, whatever was given */
+        first = 1;
+    lf_tree_outcome done = __real_lf_tree_format(TREE_PASSED, none ? 1 : first);
+    if (none) /* 0 accepted, as a pool that has no ticket left */
+        done.head.next = 0;
     if (broken(1) && (uintptr_t)(table + table_len) % 4096) /* writes one word behind the table, where it can */
         table[table_len] = 0;
     return done;
@@ -112,6 +118,20 @@ lf_tree_outcome __wrap_lf_tree_list(lf_tree_head head, TREE, LISTED)
     lf_tree_outcome done = __real_lf_tree_list(head, TREE_PASSED, requests, served, answers, answers_len);
     for (size_t at = 4; served == 4 && done.answer.number == 0 && at < requests_len && at < answers_len; at++)
         answers[at] = at % 4 ? requests[at] : 0; /* performs the first request and echoes the rest */
+    return done;
+}
+
+lf_segment_outcome __wrap_lf_segment_format(SEGMENT, uint32_t first)
+{
+    if (broken(17) && first == 0) { /* 6 before 8 */
+        lf_segment_outcome refused = { 0, { LF_UNKNOWN_TICKET, 0, 0, 0 } };
+        return refused;
+    }
+    if (broken(18) && first == 0) /* refuses when all is written */
+        __real_lf_segment_format(SEGMENT_PASSED, 1);
+    lf_segment_outcome done = __real_lf_segment_format(SEGMENT_PASSED, first);
+    if (broken(19) && done.answer.number == LF_BAD_LENGTHS) /* a refused format's head is not zeros */
+        done.next = first;
     return done;
 }
 

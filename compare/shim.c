@@ -14,12 +14,12 @@ _Static_assert(WORDS(sizeof(lf_segment_outcome)) == 5, "segment outcome");
 #define READ_SEGMENT const int32_t *, size_t, const uint32_t *, size_t, uint32_t, const uint32_t *, size_t
 #define LISTED const uint32_t *, size_t, uint32_t *, size_t
 
-lf_tree_outcome lf_tree_format(TREE);
+lf_tree_outcome lf_tree_format(TREE, uint32_t);
 lf_tree_outcome lf_tree_allocate(lf_tree_head, TREE, uint32_t);
 lf_tree_outcome lf_tree_release(lf_tree_head, TREE, uint32_t, uint32_t, uint32_t);
 lf_answer lf_tree_find(lf_tree_head, READ_TREE, uint32_t, uint32_t, uint32_t);
 lf_tree_outcome lf_tree_list(lf_tree_head, TREE, LISTED);
-lf_segment_outcome lf_segment_format(SEGMENT);
+lf_segment_outcome lf_segment_format(SEGMENT, uint32_t);
 lf_segment_outcome lf_segment_allocate(uint32_t, SEGMENT, uint32_t);
 lf_segment_outcome lf_segment_release(uint32_t, SEGMENT, uint32_t, uint32_t, uint32_t);
 lf_answer lf_segment_find(uint32_t, READ_SEGMENT, uint32_t, uint32_t, uint32_t);

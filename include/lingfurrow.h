@@ -25,15 +25,25 @@
  * refused format hands back zeros, which belong to no pool: one that lay there before goes on with the head it had.
  *   tree pool: lf_tree_head, the link to the tree of free blocks and the next ticket
  *   segment pool: a uint32_t, the next ticket
- * TICKET: 1, 2, 3 and so on in each pool, never 0. After 4,294,967,295 none is left.
+ * TICKET: counted up from the number that format is given, each once, never 0. After 4,294,967,295 none is left.
  * ADDRESS: where a run begins, as an index: arena[address] to arena[address + words - 1] are yours.
+ *
+ * RESTART: a box that lost power formats again, and releases from before it can still come in. None of them fits a run
+ * of the new pool if format is given a number above every ticket that was given out before. Two ways to have one:
+ *   - Store the head's next ticket where a power loss does not reach it, after each grant and before anyone is told the
+ *     new ticket; format with the stored number. Once that is 0 no ticket is left, and format refuses it.
+ *   - Count boots there, from 1 on, and format with 65,536 times the count: the boot in the upper 16 bits, its tickets
+ *     in the lower. This serves 65,535 boots, as long as none gives out more than 65,536 tickets.
  *
  * WHAT IS PROVED (crates/pool_c, by the Rattle prover): for all numbers and all contents of the buffers, each function
  * of the archive returns, touches nothing outside the buffers, and both its outcome and every word that it leaves are
- * those that crates/calls/specs/Step.antt defines.
+ * those that crates/calls/specs/Step.antt defines. Of restarts (crates/calls/specs/Restart.antt): no ticket below the
+ * number given to format is ever live in the new pool, as long as each call that is not refused gets head and table as
+ * the one before left them, and no other format is accepted there.
  *
  * WHAT IS NOT PROVED, and is yours to see to:
  *   - Pointers are not null, not even with length 0, aligned to 4 bytes, and good for their length.
+ *   - After a restart, format is given a number above every earlier ticket.
  *   - A buffer that a call writes overlaps no other buffer of that call. While a call runs, no interrupt, other core or
  *     transfer unit writes to its buffers, or reads those that the call writes.
  *   - The archive links on x86-64 Linux. It needs memset, from a C library or your own, and nothing else.
@@ -62,14 +72,14 @@ extern "C" {
 /* ---- numbers that a call answers
  *
  * Where several would fit, the first of this order is given: 8, 1, 9; then 2, 3, 4, 5 to an allocation, 6, 7 to a
- * release or find. Any call can answer 8, and any but format 1. */
+ * release or find, 6 to a format. Any call can answer 8, and any but format 1. */
 #define LF_OK 0u             /* done */
 #define LF_DAMAGED 1u        /* lengths are right, but head and buffers are not a pool in order */
 #define LF_BAD_SIZE 2u       /* words asked are 0 or above 16,384 */
 #define LF_NO_RECORD 3u      /* the table is full */
 #define LF_NO_TICKET 4u      /* no ticket is left */
 #define LF_NO_ROOM 5u        /* no free run is long enough */
-#define LF_UNKNOWN_TICKET 6u /* nothing is held under this ticket: released already, or never given out */
+#define LF_UNKNOWN_TICKET 6u /* nothing is held under this ticket: released already, never given out, or 0 */
 #define LF_MISMATCH 7u       /* the ticket is live, but address or words are not its own */
 #define LF_BAD_LENGTHS 8u    /* a length or the number of segments is out of range, or a list's lengths don't suit */
 #define LF_BAD_REQUEST 9u    /* in a list: a request of unknown kind, or with spare words that are not zero */
@@ -116,10 +126,9 @@ typedef struct {
 
 /* ---- the tree pool */
 
-/* Makes a pool in which all is free and the next ticket is 1, whatever the buffers held. Refused: LF_BAD_LENGTHS only,
- * with a head of zeros.
- * Tickets begin at 1 again, so a release that was meant for a pool formatted here earlier can fit a run of this one. */
-lf_tree_outcome lf_tree_format(uint32_t *arena, size_t arena_len, uint32_t *table, size_t table_len);
+/* Makes a pool in which all is free and the next ticket is `first`, whatever the buffers held; RESTART above says which
+ * number to give. Refused, with a head of zeros: LF_BAD_LENGTHS, LF_UNKNOWN_TICKET if `first` is 0. */
+lf_tree_outcome lf_tree_format(uint32_t *arena, size_t arena_len, uint32_t *table, size_t table_len, uint32_t first);
 
 /* Takes a run of `words` words, at the lowest address where there is room. All its words read zero. Refused:
  * LF_BAD_SIZE, LF_NO_RECORD, LF_NO_TICKET, LF_NO_ROOM. */
@@ -169,7 +178,7 @@ static inline lf_tree_slice lf_tree_look(lf_tree_head head, const uint32_t *aren
  * alone. */
 
 lf_segment_outcome lf_segment_format(int32_t *arena, size_t arena_len, uint32_t *table, size_t table_len,
-                                     uint32_t segments, uint32_t *index, size_t index_len);
+                                     uint32_t segments, uint32_t *index, size_t index_len, uint32_t first);
 
 lf_segment_outcome lf_segment_allocate(uint32_t next, int32_t *arena, size_t arena_len, uint32_t *table,
                                        size_t table_len, uint32_t segments, uint32_t *index, size_t index_len,

@@ -123,10 +123,12 @@ static ALWAYS_INLINE lf_segment_outcome segment_serve(uint32_t next, const segme
 
 lf_segment_outcome TWIN(segment_format)(int32_t *restrict arena, size_t arena_len, uint32_t *restrict table,
                                         size_t table_len, uint32_t segments, uint32_t *restrict index,
-                                        size_t index_len)
+                                        size_t index_len, uint32_t first)
 {
     if (!segment_lengths_suit(arena_len, table_len, segments, index_len))
         return segment_refused(0, BAD_LENGTHS);
+    if (first == 0)
+        return segment_refused(0, UNKNOWN_TICKET);
     memset(arena, 0, arena_len * sizeof arena[0]);
     memset(table, 0, table_len * sizeof table[0]);
     memset(index, 0, 2 * segments * sizeof index[0]);
@@ -136,7 +138,7 @@ lf_segment_outcome TWIN(segment_format)(int32_t *restrict arena, size_t arena_le
     for (size_t k = 1; k < segments; k++)
         index[2 * segments + k] = (uint32_t)arena_len;
     index[2 * segments] = 0;
-    return (lf_segment_outcome){1, {DONE, 0, 0, 0}};
+    return (lf_segment_outcome){first, {DONE, 0, 0, 0}};
 }
 
 lf_segment_outcome TWIN(segment_allocate)(uint32_t next, int32_t *restrict arena, size_t arena_len,

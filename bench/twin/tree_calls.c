@@ -52,14 +52,16 @@ static lf_tree_outcome tree_serve(lf_tree_head head, uint32_t *restrict arena, u
 }
 
 lf_tree_outcome TWIN(tree_format)(uint32_t *restrict arena, size_t arena_len, uint32_t *restrict table,
-                                  size_t table_len)
+                                  size_t table_len, uint32_t first)
 {
     if (!tree_lengths_suit(arena_len, table_len))
         return tree_refused((lf_tree_head){0, 0}, BAD_LENGTHS);
+    if (first == 0)
+        return tree_refused((lf_tree_head){0, 0}, UNKNOWN_TICKET);
     memset(arena, 0, arena_len * sizeof arena[0]);
     memset(table, 0, table_len * sizeof table[0]);
     arena[0] = (uint32_t)(arena_len / 2);
-    return (lf_tree_outcome){{1, 1}, {DONE, 0, 0, 0}};
+    return (lf_tree_outcome){{1, first}, {DONE, 0, 0, 0}};
 }
 
 lf_tree_outcome TWIN(tree_allocate)(lf_tree_head head, uint32_t *restrict arena, size_t arena_len,

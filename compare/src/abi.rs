@@ -50,7 +50,9 @@ pub fn word(value: u32) -> Word {
 
 #[rustfmt::skip]
 unsafe extern "C" {
-    pub fn lf_tree_format(arena: *mut u32, arena_len: usize, table: *mut u32, table_len: usize) -> TreeOutcome;
+    pub fn lf_tree_format(
+        arena: *mut u32, arena_len: usize, table: *mut u32, table_len: usize, first: Word,
+    ) -> TreeOutcome;
     pub fn lf_tree_allocate(
         head: TreeHead, arena: *mut u32, arena_len: usize, table: *mut u32, table_len: usize, words: Word,
     ) -> TreeOutcome;
@@ -73,7 +75,7 @@ unsafe extern "C" {
 
     pub fn lf_segment_format(
         arena: *mut i32, arena_len: usize, table: *mut u32, table_len: usize,
-        segments: Word, index: *mut u32, index_len: usize,
+        segments: Word, index: *mut u32, index_len: usize, first: Word,
     ) -> SegmentOutcome;
     pub fn lf_segment_allocate(
         next: Word, arena: *mut i32, arena_len: usize, table: *mut u32, table_len: usize,

@@ -28,7 +28,7 @@ impl Sheet<'_> {
     }
 
     fn format(&mut self, line: &str) {
-        let outcome = self.bench.step(&mut self.pool, &Call::Format);
+        let outcome = self.bench.step(&mut self.pool, &Call::Format(1));
         self.due(line, outcome.answer, Answer::default());
     }
 

@@ -6,12 +6,25 @@ use crate::random::Random;
 
 pub fn any(ledger: &Ledger, arena_words: usize, random: &mut Random) -> Call {
     match random.below(32) {
-        0 => Call::Format,
+        0 => Call::Format(first(ledger, random)),
         1..12 => Call::Allocate(words(ledger, random)),
         12..19 => Call::Release(named(ledger, random)),
         19..23 => Call::Find(named(ledger, random)),
         23..27 => look(ledger, arena_words, random),
         _ => list(ledger, random),
+    }
+}
+
+/// A first ticket number: 0, 1, a small one, the next in turn, the last ones, any.
+pub fn first(ledger: &Ledger, random: &mut Random) -> u32 {
+    match random.below(8) {
+        0 | 1 => 0,
+        2 => 1,
+        3 => random.between(2, 40) as u32,
+        4 => ledger.next,
+        5 => u32::MAX,
+        6 => u32::MAX - random.between(1, 4) as u32,
+        _ => random.word(),
     }
 }
 

@@ -78,8 +78,8 @@ impl UnitRule {
 }
 
 impl Ledger {
-    pub fn empty(rule: UnitRule, arena_words: usize, slots: usize) -> Ledger {
-        Ledger { rule, units: rule.units_in(arena_words), slots: vec![None; slots], next: 1 }
+    pub fn empty(rule: UnitRule, arena_words: usize, slots: usize, next: u32) -> Ledger {
+        Ledger { rule, units: rule.units_in(arena_words), slots: vec![None; slots], next }
     }
 
     /// The one ledger that this table, next ticket and arena length name, if they name one.

@@ -1,4 +1,4 @@
-//! Runs the library and an independent model of document 01 side by side and counts mismatches.
+//! Runs the library and an independent model of documents 01 and 02 side by side and counts mismatches.
 
 mod abi;
 mod bench;
@@ -14,6 +14,7 @@ mod model;
 mod order;
 mod pools;
 mod random;
+mod restart;
 mod segment_form;
 mod single_calls;
 mod situations;
@@ -65,8 +66,9 @@ fn run(bench: &mut Bench, engine: Engine, wanted: &Wanted) {
         tiny::run(bench, engine);
     }
     single_calls::run(bench, engine, wanted.cases / 2, &mut random);
-    long_runs::run(bench, engine, wanted.cases * 3 / 10, &mut random);
+    long_runs::run(bench, engine, wanted.cases / 5, &mut random);
     order::run(bench, engine, wanted.cases / 5, &mut random);
+    restart::run(bench, engine, wanted.cases / 10, &mut random);
 }
 
 pub fn compare() -> ExitCode {

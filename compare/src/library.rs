@@ -100,12 +100,13 @@ pub fn play(pool: &Pool, view: &View, call: &Call) -> Played {
     }
 }
 
-/// Ticket, address and words, where the call has them.
+/// Ticket, address and words, where the call has them; format's one ticket is the first.
 fn numbers_of(call: &Call) -> [Word; 3] {
     let numbers = match call {
+        Call::Format(first) => [*first, 0, 0],
         Call::Allocate(words) => [0, 0, *words],
         Call::Release(named) | Call::Find(named) | Call::Look(named, _) => [named.ticket, named.address, named.words],
-        Call::Format | Call::List { .. } => [0; 3],
+        Call::List { .. } => [0; 3],
     };
     numbers.map(word)
 }
@@ -117,7 +118,7 @@ fn play_tree(pool: &Pool, view: &View, call: &Call) -> Played {
     // SAFETY: the words are lent as far as said, and none that a call writes overlap.
     let done = unsafe {
         match call {
-            Call::Format => abi::lf_tree_format(a.at, a.len, t.at, t.len),
+            Call::Format(_) => abi::lf_tree_format(a.at, a.len, t.at, t.len, ticket),
             Call::Allocate(_) => abi::lf_tree_allocate(head, a.at, a.len, t.at, t.len, words),
             Call::Release(_) => abi::lf_tree_release(head, a.at, a.len, t.at, t.len, ticket, address, words),
             Call::List { .. } => abi::lf_tree_list(head, a.at, a.len, t.at, t.len, r.at, r.len, w.at, w.len),
@@ -142,7 +143,7 @@ fn play_segment(pool: &Pool, view: &View, call: &Call) -> Played {
     // SAFETY: the words are lent as far as said, and none that a call writes overlap.
     let done = unsafe {
         match call {
-            Call::Format => abi::lf_segment_format(v, a.len, t.at, t.len, s, i.at, i.len),
+            Call::Format(_) => abi::lf_segment_format(v, a.len, t.at, t.len, s, i.at, i.len, ticket),
             Call::Allocate(_) => abi::lf_segment_allocate(next, v, a.len, t.at, t.len, s, i.at, i.len, words),
             Call::Release(_) => {
                 abi::lf_segment_release(next, v, a.len, t.at, t.len, s, i.at, i.len, ticket, address, words)

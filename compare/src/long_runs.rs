@@ -22,7 +22,8 @@ pub fn run(bench: &mut Bench, engine: Engine, cases: u64, random: &mut Random) {
         let mut pool = pools::sound(engine, shape, random);
         bench.lend(&pool);
         if random.one_in(2) {
-            bench.step(&mut pool, &Call::Format);
+            let first = calls::first(&pool.ledger().expect("a stored form is sound"), random);
+            bench.step(&mut pool, &Call::Format(first));
         }
         let most = random.between(1, (3 * shape.words / shape.slots).max(2));
         let mut course = Course { spent: Vec::new(), filling: true, most };
@@ -92,7 +93,7 @@ fn strike_and_mend(bench: &mut Bench, pool: &mut Pool, ledger: &Ledger, random: 
         bench.lend(&struck);
         for _ in 0..random.between(1, 3) {
             let call = calls::any(ledger, struck.arena.len(), random);
-            if call != Call::Format {
+            if !matches!(call, Call::Format(_)) {
                 bench.step(&mut struck, &call);
             }
         }

@@ -1,4 +1,5 @@
-//! The calls of document 01 on any memory, in its order of numbers: 8, 1, 9, then 2 to 5 or 6, 7.
+//! The calls of document 01 on any memory, in its order of numbers: 8, 1, 9, then 2 to 5 or 6, 7; and
+//! format as request 2 of document 02 has it, with the first ticket number: 8, 6.
 //! Soundness as 01 says it: read the ledger off the table, compute its stored form over the
 //! callers' words, compare.
 
@@ -37,12 +38,16 @@ pub enum Placeholder {
 
 #[derive(Clone, PartialEq, Eq, Debug)]
 pub enum Call {
-    Format,
+    /// With the first ticket number.
+    Format(u32),
     Allocate(u32),
     Release(Record),
     Find(Record),
     Look(Record, Placeholder),
-    List { requests: Vec<u32>, answers: Vec<u32> },
+    List {
+        requests: Vec<u32>,
+        answers: Vec<u32>,
+    },
 }
 
 #[derive(Clone, Copy, PartialEq, Eq, Debug, Default)]
@@ -148,7 +153,7 @@ pub fn make(pool: &mut Pool, call: &Call) -> Outcome {
     let mut slice = None;
     let mut answers = Vec::new();
     let answer = match call {
-        Call::Format => return format(pool),
+        Call::Format(first) => return format(pool, *first),
         Call::Allocate(words) => allocate(pool, *words),
         Call::Release(named) => release(pool, *named),
         Call::Find(named) => find(pool, *named),
@@ -165,12 +170,15 @@ pub fn make(pool: &mut Pool, call: &Call) -> Outcome {
     Outcome { head: pool.head, answer, slice, answers }
 }
 
-fn format(pool: &mut Pool) -> Outcome {
+fn format(pool: &mut Pool, first: u32) -> Outcome {
     let nothing = Outcome { head: Head { root: 0, next: 0 }, answer: Answer::default(), slice: None, answers: vec![] };
     if !pool.lengths_suit() {
         return Outcome { answer: Answer::refusal(8), ..nothing };
     }
-    let empty = Ledger::empty(pool.engine.rule(), pool.arena.len(), pool.table.len() / 3);
+    if first == 0 {
+        return Outcome { answer: Answer::refusal(6), ..nothing };
+    }
+    let empty = Ledger::empty(pool.engine.rule(), pool.arena.len(), pool.table.len() / 3, first);
     pool.take_form_of(&empty);
     Outcome { head: pool.head, ..nothing }
 }

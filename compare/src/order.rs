@@ -156,7 +156,7 @@ fn mix_in(bench: &mut Bench, sequence: &mut Sequence, random: &mut Random) {
         }
         1 => {
             let call = Call::Release(replay(sequence, random));
-            let stray = stray(sequence, true, random);
+            let stray = stray(&sequence.pool, &sequence.ledger, true, random);
             let outcome = bench.stray(&sequence.pool, &stray, &call);
             let refused = matches!(outcome.answer.number, 8 | 1 | 6);
             check(bench, &sequence.pool, refused, "a replay that brings the pool's table was not refused");
@@ -175,9 +175,10 @@ fn mix_in(bench: &mut Bench, sequence: &mut Sequence, random: &mut Random) {
 
 /// A call on the pool itself that is refused as it stands.
 fn refused_whole(bench: &mut Bench, sequence: &mut Sequence, random: &mut Random) {
-    let call = match random.below(4) {
+    let call = match random.below(5) {
         0 | 1 => Call::Allocate(calls::words(&sequence.ledger, random)),
         2 => Call::Release(calls::named(&sequence.ledger, random)),
+        3 => Call::Format(0),
         _ => calls::list(&sequence.ledger, random),
     };
     if is_refused(&mut sequence.pool.clone(), &call) {
@@ -187,7 +188,7 @@ fn refused_whole(bench: &mut Bench, sequence: &mut Sequence, random: &mut Random
 
 /// Any call that brings a wrong head, S, length or buffer and is refused.
 fn refused_stray(bench: &mut Bench, sequence: &mut Sequence, random: &mut Random) {
-    let stray = stray(sequence, false, random);
+    let stray = stray(&sequence.pool, &sequence.ledger, false, random);
     let mut brought = stray.over(&sequence.pool);
     let call = calls::any(&sequence.ledger, brought.arena.len(), random);
     if is_refused(&mut brought, &call) {
@@ -207,8 +208,7 @@ fn is_refused(pool: &mut Pool, call: &Call) -> bool {
 }
 
 /// Head, S and buffers, each the pool's own, a part of it, or another.
-fn stray(sequence: &Sequence, own_table: bool, random: &mut Random) -> Stray {
-    let pool = &sequence.pool;
+pub fn stray(pool: &Pool, ledger: &Ledger, own_table: bool, random: &mut Random) -> Stray {
     let mut other = if random.one_in(3) {
         let Pool { arena, table, segments, .. } = pool;
         let shape = pools::Shape { words: arena.len(), slots: table.len() / 3, segments: *segments };
@@ -219,7 +219,7 @@ fn stray(sequence: &Sequence, own_table: bool, random: &mut Random) -> Stray {
     match random.below(3) {
         0 => lengths::misfit(&mut other, random),
         1 => {
-            damage::any(&mut other, &sequence.ledger, random);
+            damage::any(&mut other, ledger, random);
         }
         _ => {}
     }

@@ -52,7 +52,7 @@ fn big(random: &mut Random) -> (usize, usize, u32) {
 }
 
 pub fn ledger(engine: Engine, shape: Shape, random: &mut Random) -> Ledger {
-    let mut ledger = Ledger::empty(engine.rule(), shape.words, shape.slots);
+    let mut ledger = Ledger::empty(engine.rule(), shape.words, shape.slots, 1);
     let mut blocks = blocks(&ledger, random);
     let tickets = tickets(&mut ledger, blocks.len(), random);
     let mut slots: Vec<usize> = (0..shape.slots).collect();

@@ -10,7 +10,10 @@ pub fn note(tally: &mut Tally, before: &Pool, call: &Call, outcome: &Outcome) {
     if let Call::Look(_, Placeholder::PartOfArena { .. }) = call {
         tally.situation(engine, "placeholder inside the arena", true);
     }
-    if matches!(outcome.answer.number, 8 | 1) || matches!(call, Call::Format) {
+    if let Call::Format(first) = call {
+        return note_format(tally, engine, *first, outcome.answer.number);
+    }
+    if matches!(outcome.answer.number, 8 | 1) {
         return;
     }
     let Some(ledger) = Ledger::read(engine.rule(), before.arena.len(), &before.table, before.head.next) else {
@@ -26,6 +29,12 @@ pub fn note(tally: &mut Tally, before: &Pool, call: &Call, outcome: &Outcome) {
         }
         _ => {}
     }
+}
+
+fn note_format(tally: &mut Tally, engine: Engine, first: u32, number: u32) {
+    tally.situation(engine, "first ticket 1", first == 1 && number == 0);
+    tally.situation(engine, "first ticket 4,294,967,295", first == u32::MAX && number == 0);
+    tally.situation(engine, "first ticket 0 and wrong lengths", first == 0 && number == 8);
 }
 
 fn note_list(tally: &mut Tally, engine: Engine, call: &Call) {

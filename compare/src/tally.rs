@@ -8,7 +8,7 @@ pub const NUMBERS: [u32; 10] = [0, 8, 1, 9, 2, 3, 4, 5, 6, 7];
 
 /// Each row of the table and the numbers that can occur in it.
 pub const ROWS: [(&str, &[u32]); 9] = [
-    ("format", &[0, 8]),
+    ("format", &[0, 8, 6]),
     ("allocate", &[0, 8, 1, 2, 3, 4, 5]),
     ("release", &[0, 8, 1, 6, 7]),
     ("find", &[0, 8, 1, 6, 7]),
@@ -20,7 +20,7 @@ pub const ROWS: [(&str, &[u32]); 9] = [
 ];
 
 /// Situations each engine must have been in.
-pub const SITUATIONS: [&str; 32] = [
+pub const SITUATIONS: [&str; 40] = [
     "grant of a whole run",
     "grant from a longer run",
     "grant of the last ticket",
@@ -53,6 +53,14 @@ pub const SITUATIONS: [&str; 32] = [
     "demand 3: one ticket or none",
     "demand 3: two to five tickets",
     "demand 3: six tickets or more",
+    "first ticket 1",
+    "first ticket 4,294,967,295",
+    "first ticket 0 and wrong lengths",
+    "restart: replay with today's address and words",
+    "restart: listed replay",
+    "restart: replay with other memory",
+    "restart: format refused",
+    "restart: accepted call on another arena",
 ];
 
 /// And the segment pool alone.
@@ -78,7 +86,7 @@ pub fn name(engine: Engine) -> &'static str {
 
 fn row(call: &Call) -> &'static str {
     match call {
-        Call::Format => "format",
+        Call::Format(_) => "format",
         Call::Allocate(_) => "allocate",
         Call::Release(_) => "release",
         Call::Find(_) => "find",

@@ -42,7 +42,9 @@ fn records(words: usize) -> Vec<[u32; 3]> {
 
 fn every_call(bench: &mut Bench, pool: &Pool) {
     let most = pool.arena.len() as u32 + 1;
-    bench.once(pool, &Call::Format);
+    for first in [0, 1, 2, u32::MAX] {
+        bench.once(pool, &Call::Format(first));
+    }
     for words in 0..=most {
         bench.once(pool, &Call::Allocate(words));
         for named in (0..4 * most).map(|at| Record { ticket: at / most, address: at % most, words }) {

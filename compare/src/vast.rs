@@ -28,8 +28,7 @@ pub fn run(tally: &mut Tally) {
 
 /// A sound pool with one block held.
 fn pool(engine: Engine) -> Pool {
-    let mut ledger = Ledger::empty(engine.rule(), 24, 4);
-    ledger.next = 2;
+    let mut ledger = Ledger::empty(engine.rule(), 24, 4, 2);
     ledger.slots[1] = Some(LIVE);
     Pool::stored(engine, &ledger, 4, &[5; 24])
 }
@@ -64,7 +63,10 @@ fn calls(which: usize) -> Vec<Call> {
     match BUFFERS[which] {
         "requests" | "answers" => vec![list],
         "placeholder" => vec![look],
-        _ => vec![Call::Format, Call::Allocate(2), Call::Release(LIVE), Call::Find(LIVE), look, list],
+        _ => {
+            let [format, format_none] = [1, 0].map(Call::Format);
+            vec![format, format_none, Call::Allocate(2), Call::Release(LIVE), Call::Find(LIVE), look, list]
+        }
     }
 }
 
@@ -72,7 +74,7 @@ fn calls(which: usize) -> Vec<Call> {
 fn due(pool: &Pool, view: &View, call: &Call, vast: &str) -> Played {
     let refused = Played { head: pool.head, answer: Answer::refusal(8), slice: None };
     match call {
-        Call::Format => Played { head: Head { root: 0, next: 0 }, ..refused },
+        Call::Format(_) => Played { head: Head { root: 0, next: 0 }, ..refused },
         Call::Look(..) => {
             let slice = Some((view.placeholder.at as usize, view.placeholder.len));
             Played { answer: Answer::default(), slice, ..refused }

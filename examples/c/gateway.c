@@ -1,5 +1,6 @@
 /* A gateway between dryers and their radio, on each of the two pools: commands are put into runs of words, and the radio
- * releases them in any order. One release comes in twice, the second time when a new command lies at its address. */
+ * releases them in any order. One release comes in twice, the second time when a new command lies at its address; and
+ * once more after a power loss, when the pool was formatted again. */
 #include "lingfurrow.h"
 
 #include <inttypes.h>
@@ -14,7 +15,8 @@
  * the command and names in its release. */
 typedef struct {
     const char *name;
-    lf_answer (*format)(void);
+    lf_answer (*format)(uint32_t first);
+    uint32_t (*next_ticket)(void);
     lf_answer (*allocate)(uint32_t words);
     lf_answer (*release)(lf_answer named);
     lf_answer (*list)(const uint32_t *requests, size_t requests_len, uint32_t *answers, size_t answers_len);
@@ -35,10 +37,15 @@ static lf_answer tree_keep(lf_tree_outcome outcome)
 }
 
 /* A format that is refused hands back no head to keep. */
-static lf_answer tree_format(void)
+static lf_answer tree_format(uint32_t first)
 {
-    lf_tree_outcome outcome = lf_tree_format(tree_arena, ARENA_WORDS, tree_table, LF_TABLE_WORDS(RECORDS));
+    lf_tree_outcome outcome = lf_tree_format(tree_arena, ARENA_WORDS, tree_table, LF_TABLE_WORDS(RECORDS), first);
     return outcome.answer.number == LF_OK ? tree_keep(outcome) : outcome.answer;
+}
+
+static uint32_t tree_next_ticket(void)
+{
+    return tree_head.next;
 }
 
 static lf_answer tree_allocate(uint32_t words)
@@ -91,11 +98,16 @@ static lf_answer segment_keep(lf_segment_outcome outcome)
     return outcome.answer;
 }
 
-static lf_answer segment_format(void)
+static lf_answer segment_format(uint32_t first)
 {
     lf_segment_outcome outcome = lf_segment_format(segment_arena, ARENA_WORDS, segment_table, LF_TABLE_WORDS(RECORDS),
-                                                   SEGMENTS, segment_index, LF_INDEX_WORDS(SEGMENTS));
+                                                   SEGMENTS, segment_index, LF_INDEX_WORDS(SEGMENTS), first);
     return outcome.answer.number == LF_OK ? segment_keep(outcome) : outcome.answer;
+}
+
+static uint32_t segment_next_ticket(void)
+{
+    return segment_next;
 }
 
 static lf_answer segment_allocate(uint32_t words)
@@ -140,8 +152,9 @@ static void segment_show(lf_answer run)
 /* ---- the loop */
 
 static const pool pools[] = {
-    { "tree pool", tree_format, tree_allocate, tree_release, tree_list, tree_write, tree_show },
-    { "segment pool", segment_format, segment_allocate, segment_release, segment_list, segment_write, segment_show },
+    { "tree pool", tree_format, tree_next_ticket, tree_allocate, tree_release, tree_list, tree_write, tree_show },
+    { "segment pool", segment_format, segment_next_ticket, segment_allocate, segment_release, segment_list,
+      segment_write, segment_show },
 };
 
 /* What comes in: a command of some words for a dryer, or the radio's release of the command that came as the n-th. */
@@ -244,7 +257,8 @@ static void burst(const pool *on, lf_answer first, lf_answer last)
     }
 }
 
-static void serve(const pool *on)
+/* What comes in up to the power loss. Hands back the run that was granted first. */
+static lf_answer serve(const pool *on)
 {
     lf_answer runs[EVENTS];
     lf_answer last = { 0, 0, 0, 0 };
@@ -261,18 +275,41 @@ static void serve(const pool *on)
         }
     }
     burst(on, runs[0], last);
+    return runs[0];
+}
+
+/* The pool is formatted again, with the next ticket as firmware stored it, so that no earlier ticket is given again:
+ * the release that fitted before comes in once more and is refused, though address and words fit the new command. */
+static lf_answer restart(const pool *on, uint32_t stored, lf_answer earlier)
+{
+    lf_answer formatted = on->format(stored);
+    if (formatted.number == LF_OK) {
+        printf("  restart, first ticket %" PRIu32 "\n", stored);
+        lf_answer run = command(on, 4, earlier.words);
+        radio_release(on, earlier, run);
+    }
+    return formatted;
+}
+
+static lf_answer run_on(const pool *on)
+{
+    lf_answer formatted = on->format(1);
+    if (formatted.number != LF_OK) {
+        return formatted;
+    }
+    printf("%s, words %u, records %u\n", on->name, ARENA_WORDS, RECORDS);
+    lf_answer earlier = serve(on);
+    return restart(on, on->next_ticket(), earlier);
 }
 
 int main(void)
 {
     for (size_t i = 0; i < sizeof pools / sizeof pools[0]; i++) {
-        lf_answer formatted = pools[i].format();
+        lf_answer formatted = run_on(&pools[i]);
         if (formatted.number != LF_OK) {
             print_answer(formatted);
             return 1;
         }
-        printf("%s, words %u, records %u\n", pools[i].name, ARENA_WORDS, RECORDS);
-        serve(&pools[i]);
     }
     return 0;
 }

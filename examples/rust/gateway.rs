@@ -82,7 +82,8 @@ fn burst<P: Pool>(pool: &mut P, first: Run, last: Run) -> Result<(), Refusal> {
     Ok(())
 }
 
-fn serve<P: Pool>(pool: &mut P) -> Result<(), Refusal>
+/// What comes in up to the power loss. Hands back the run that was granted first.
+fn serve<P: Pool>(pool: &mut P) -> Result<Run, Refusal>
 where
     P::Word: Display + From<u16>,
 {
@@ -98,20 +99,37 @@ where
             Event::Release { nth } => radio_release(pool, runs[nth - 1], last),
         }
     }
-    burst(pool, runs[0], last)
+    burst(pool, runs[0], last)?;
+    Ok(runs[0])
+}
+
+/// The pool was formatted again, with the next ticket as firmware stored it, so that no earlier ticket is given again:
+/// the release that fitted before comes in once more and is refused, though address and words fit the new command.
+fn restarted<P: Pool>(pool: &mut P, first: u32, earlier: Run) -> Result<(), Refusal>
+where
+    P::Word: Display + From<u16>,
+{
+    println!("  restart, first ticket {first}");
+    let run = command(pool, 4, earlier.words)?;
+    radio_release(pool, earlier, run);
+    Ok(())
 }
 
 fn main() -> Result<(), Refusal> {
     let mut arena = [0; ARENA_WORDS];
     let mut table = [0; 3 * RECORDS];
-    let mut pool = TreePool::format(&mut arena, &mut table)?;
+    let mut pool = TreePool::format(&mut arena, &mut table, 1)?;
     println!("tree pool, words {ARENA_WORDS}, records {RECORDS}");
-    serve(&mut pool)?;
+    let earlier = serve(&mut pool)?;
+    let stored = pool.head().next;
+    restarted(&mut TreePool::format(&mut arena, &mut table, stored)?, stored, earlier)?;
 
     let mut arena = [0; ARENA_WORDS];
     let mut table = [0; 3 * RECORDS];
     let mut index = [0; 3 * SEGMENTS];
-    let mut pool = SegmentPool::format(&mut arena, &mut table, SEGMENTS as u32, &mut index)?;
+    let mut pool = SegmentPool::format(&mut arena, &mut table, SEGMENTS as u32, &mut index, 1)?;
     println!("segment pool, words {ARENA_WORDS}, records {RECORDS}");
-    serve(&mut pool)
+    let earlier = serve(&mut pool)?;
+    let stored = pool.head();
+    restarted(&mut SegmentPool::format(&mut arena, &mut table, SEGMENTS as u32, &mut index, stored)?, stored, earlier)
 }

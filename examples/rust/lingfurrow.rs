@@ -124,7 +124,7 @@ struct SegmentOutcome {
 
 #[rustfmt::skip]
 extern "C" {
-    fn lf_tree_format(arena: *mut u32, arena_len: usize, table: *mut u32, table_len: usize) -> TreeOutcome;
+    fn lf_tree_format(arena: *mut u32, arena_len: usize, table: *mut u32, table_len: usize, first: u32) -> TreeOutcome;
     fn lf_tree_allocate(head: TreeHead, arena: *mut u32, arena_len: usize, table: *mut u32, table_len: usize,
         words: u32) -> TreeOutcome;
     fn lf_tree_release(head: TreeHead, arena: *mut u32, arena_len: usize, table: *mut u32, table_len: usize,
@@ -135,7 +135,7 @@ extern "C" {
         requests: *const u32, requests_len: usize, answers: *mut u32, answers_len: usize) -> TreeOutcome;
 
     fn lf_segment_format(arena: *mut i32, arena_len: usize, table: *mut u32, table_len: usize, segments: u32,
-        index: *mut u32, index_len: usize) -> SegmentOutcome;
+        index: *mut u32, index_len: usize, first: u32) -> SegmentOutcome;
     fn lf_segment_allocate(next: u32, arena: *mut i32, arena_len: usize, table: *mut u32, table_len: usize,
         segments: u32, index: *mut u32, index_len: usize, words: u32) -> SegmentOutcome;
     fn lf_segment_release(next: u32, arena: *mut i32, arena_len: usize, table: *mut u32, table_len: usize,
@@ -160,9 +160,11 @@ pub struct TreePool<'a> {
 }
 
 impl<'a> TreePool<'a> {
-    /// A pool in which all is free. `table` has three words for each run that can be held at a time.
-    pub fn format(arena: &'a mut [u32], table: &'a mut [u32]) -> Result<Self, Refusal> {
-        let outcome = unsafe { lf_tree_format(arena.as_mut_ptr(), arena.len(), table.as_mut_ptr(), table.len()) };
+    /// A pool in which all is free and the next ticket is `first`: after a restart, one above every earlier ticket.
+    /// `table` has three words for each run that can be held at a time.
+    pub fn format(arena: &'a mut [u32], table: &'a mut [u32], first: u32) -> Result<Self, Refusal> {
+        let outcome =
+            unsafe { lf_tree_format(arena.as_mut_ptr(), arena.len(), table.as_mut_ptr(), table.len(), first) };
         outcome.answer.result()?;
         Ok(TreePool { head: outcome.head, arena, table })
     }
@@ -172,7 +174,7 @@ impl<'a> TreePool<'a> {
         TreePool { head, arena, table }
     }
 
-    /// What `resume` takes.
+    /// What `resume` takes; its next ticket is what `format` takes after a restart, if it is not 0.
     pub fn head(&self) -> TreeHead {
         self.head
     }
@@ -245,16 +247,18 @@ pub struct SegmentPool<'a> {
 }
 
 impl<'a> SegmentPool<'a> {
-    /// A pool in which all is free. `segments` is a power of two, and `index` has three words for each.
+    /// A pool in which all is free and the next ticket is `first`: after a restart, one above every earlier ticket.
+    /// `segments` is a power of two, and `index` has three words for each.
     pub fn format(
         arena: &'a mut [i32],
         table: &'a mut [u32],
         segments: u32,
         index: &'a mut [u32],
+        first: u32,
     ) -> Result<Self, Refusal> {
         let outcome = unsafe {
             let (a, t, x) = (arena.as_mut_ptr(), table.as_mut_ptr(), index.as_mut_ptr());
-            lf_segment_format(a, arena.len(), t, table.len(), segments, x, index.len())
+            lf_segment_format(a, arena.len(), t, table.len(), segments, x, index.len(), first)
         };
         outcome.answer.result()?;
         Ok(SegmentPool { next: outcome.next, arena, table, segments, index })
@@ -265,7 +269,7 @@ impl<'a> SegmentPool<'a> {
         SegmentPool { next, arena, table, segments, index }
     }
 
-    /// What `resume` takes: the next ticket.
+    /// What `resume` takes: the next ticket. It is what `format` takes after a restart, if it is not 0.
     pub fn head(&self) -> u32 {
         self.next
     }

@@ -6,11 +6,13 @@
 //   table I V..        words written into the table from word I on
 //   index I V..        words written into the index from word I on
 //   head N             next ticket
-//   format             allocate N      release T A W      find T A W      look T A W
+//   format F           with first ticket F, or 1 if there is no number
+//   allocate N         release T A W      find T A W      look T A W
 //   list N K V..       a list of N words, V over and over, with K words for its answers, which start as sevens
 use ledger::Row;
 use segment_requests::Head;
 use segment_requests::Outcome;
+use testing::first_ticket;
 use testing::is;
 use testing::least;
 use testing::mixed;
@@ -133,8 +135,15 @@ fn write_signed(s: &mut [i32], given: &[u32], count: usize) {
 }
 
 // A refused format hands back a head of zeros; the pool keeps the head that it had.
-fn run_format(head: Head, s: u32, arena: &mut [i32], table: &mut [u32], index: &mut [u32]) -> Head {
-    let outcome = segment_pool::format(s, arena, table, index);
+fn run_format(
+    head: Head,
+    s: u32,
+    arena: &mut [i32],
+    table: &mut [u32],
+    index: &mut [u32],
+    first: u32,
+) -> Head {
+    let outcome = segment_pool::format(s, arena, table, index, first);
     let new = show_outcome(outcome, arena, table, index);
     let answer = outcome.answer;
     if answer.number == 0 { new } else { head }
@@ -216,7 +225,7 @@ fn serve(
     count: usize,
 ) -> Head {
     if is(line, b'f', b'o') {
-        return run_format(head, s, arena, table, index);
+        return run_format(head, s, arena, table, index, first_ticket(given, count));
     }
     if is(line, b'a', b'l') {
         return run_allocate(head, s, arena, table, index, word(given, 0));

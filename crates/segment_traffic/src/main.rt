@@ -372,20 +372,20 @@ fn report(round: Round, arena: &[i32], table: &[u32], index: &[u32]) {
     testing::report(round.tally, fresh);
 }
 
-// A formatted pool, with the next ticket set.
+// A formatted pool with this first ticket.
 fn opened(
     arena: &mut [i32],
     table: &mut [u32],
     index: &mut [u32],
     segments: u32,
     most: u64,
-    next: u32,
+    first: u32,
 ) -> Round {
-    let formatted = segment_pool::format(segments, arena, table, index);
+    let formatted = segment_pool::format(segments, arena, table, index, first);
     Round {
-        head: Head { next },
+        head: formatted.head,
         segments,
-        tally: testing::opened(formatted.answer, most, next),
+        tally: testing::opened(formatted.answer, most, first),
     }
 }
 

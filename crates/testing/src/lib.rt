@@ -143,6 +143,11 @@ pub fn is(line: &[u8], a: u8, b: u8) -> bool {
     (byte(line, 0) == a) & (byte(line, 1) == b)
 }
 
+// The first ticket of a format: the number that is given, or 1.
+pub fn first_ticket(given: &[u32], count: usize) -> u32 {
+    if count == 0 { 1 } else { word(given, 0) }
+}
+
 // The row whose three words are given.
 pub fn row(given: &[u32]) -> Row {
     Row {

@@ -5,9 +5,11 @@
 //   arena I V..        words written into the arena from word I on
 //   table I V..        words written into the table from word I on
 //   head R N           root link and next ticket
-//   format             allocate N      release T A W      find T A W      look T A W
+//   format F           with first ticket F, or 1 if there is no number
+//   allocate N         release T A W      find T A W      look T A W
 //   list N K V..       a list of N words, V over and over, with K words for its answers, which start as sevens
 use ledger::Row;
+use testing::first_ticket;
 use testing::is;
 use testing::least;
 use testing::print;
@@ -51,8 +53,8 @@ fn show_outcome(outcome: Outcome, arena: &[u32], table: &[u32]) -> Head {
 // ---- commands
 
 // A refused format hands back a head of zeros; the pool keeps the head that it had.
-fn run_format(head: Head, arena: &mut [u32], table: &mut [u32]) -> Head {
-    let outcome = tree_pool::format(arena, table);
+fn run_format(head: Head, arena: &mut [u32], table: &mut [u32], first: u32) -> Head {
+    let outcome = tree_pool::format(arena, table, first);
     let new = show_outcome(outcome, arena, table);
     let answer = outcome.answer;
     if answer.number == 0 { new } else { head }
@@ -114,7 +116,7 @@ fn serve(
     count: usize,
 ) -> Head {
     if is(line, b'f', b'o') {
-        return run_format(head, arena, table);
+        return run_format(head, arena, table, first_ticket(given, count));
     }
     if is(line, b'a', b'l') {
         return run_allocate(head, arena, table, word(given, 0));

@@ -274,16 +274,12 @@ fn report(round: Round, arena: &[u32], table: &[u32]) {
     testing::report(round.tally, is_fresh(round.head, arena, table));
 }
 
-// A formatted pool, with the next ticket set.
-fn opened(arena: &mut [u32], table: &mut [u32], most: u64, next: u32) -> Round {
-    let formatted = tree_pool::format(arena, table);
-    let head = formatted.head;
+// A formatted pool with this first ticket.
+fn opened(arena: &mut [u32], table: &mut [u32], most: u64, first: u32) -> Round {
+    let formatted = tree_pool::format(arena, table, first);
     Round {
-        head: Head {
-            root: head.root,
-            next,
-        },
-        tally: testing::opened(formatted.answer, most, next),
+        head: formatted.head,
+        tally: testing::opened(formatted.answer, most, first),
     }
 }
 

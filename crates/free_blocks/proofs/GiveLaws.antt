@@ -31,6 +31,7 @@ use Rattle.free_tree.specs.Links.{linkOf}
 use Rattle.free_tree.specs.Held.{At, Became, NoNode, NoNodeNor, Apart, Room, Inserted, Deleted, Clear, TouchFound}
 use Rattle.free_tree.proofs.RunOrder.{beginsElsewhere}
 use Rattle.free_tree.proofs.ChangeLaws.{insert-tree, delete-tree}
+use Rattle.free_tree.proofs.CellLaws.{outside-first, apart-of}
 use Rattle.free_tree.proofs.StepLaws.{at-length, at-left, at-right}
 use Rattle.free_blocks.specs.Blocks.{Lies, Changed, Gives}
 use Rattle.free_blocks.specs.Giving.{Removed, TakenOut, HeldCell, MergedBelow, MergedAbove}
@@ -162,16 +163,6 @@ tree-covered rs u i = ap (λ l. covered l u) (sym (inorder-treeOf rs)) ∙ in-co
 uncovered : (rs : List Run) (u : ℕ) → covered rs u ≡ false → In u (treeOf rs) → ⊥
 uncovered rs u h i = true≢false (sym (tree-covered rs u i) ∙ h)
 
--- a cell in no block is no node
-no-node : (t : Tree) (lo hi c : ℕ) → Within lo hi t → (In c t → ⊥) → NotFirst c t
-no-node leaf lo hi c w h = tt
-no-node (node a q b) lo hi c w h =
-    let one = w .1 in (
-      no-node a lo (q .start) c (w .0) (λ i. h (inl i)),
-      (λ z. h (inr (inl (omega arith, omega arith)))),
-      no-node b (q .start + q .size) hi c (w .2) (λ i. h (inr (inr i))),
-    )
-
 begins-elsewhere : (c : ℕ) (t : Tree) → all (beginsElsewhere c) (inorder t) ≡ true → NotFirst c t
 begins-elsewhere c leaf h = tt
 begins-elsewhere c (node a q b) h =
@@ -180,24 +171,6 @@ begins-elsewhere c (node a q b) h =
       begins-elsewhere c a (all-append-l f (inorder a) (q ∷ inorder b) h),
       (λ z. eqb-false (q .start) c (not-true (beginsAt c q) (and-l (f q) (all f (inorder b)) rest)) (sym z)),
       begins-elsewhere c b (and-r (f q) (all f (inorder b)) rest),
-    )
-
--- a run of which no cell lies in a block overlaps none
-apart-of : (r : Run) (t : Tree) (lo hi : ℕ) → Within lo hi t → 1 ≤ r .size
-    → ((u : ℕ) → r .start ≤ u → u < r .start + r .size → In u t → ⊥)
-    → Apart r t
-apart-of r leaf lo hi w filled h = tt
-apart-of r (node a q b) lo hi w filled h =
-    let one = w .1 in
-    let end = q .start + q .size in
-    let below : q .start ≤ r .start → r .start < end → ⊥ =
-    λ x y. h (r .start) (omega arith) (omega arith) (inr (inl (x, y))) in
-    let above : r .start ≤ q .start → q .start < r .start + r .size → ⊥ =
-    λ x y. h (q .start) x y (inr (inl (omega arith, omega arith))) in (
-      apart-of r a lo (q .start) (w .0) filled (λ u x y i. h u x y (inl i)),
-      (λ x. let n = below x in omega arith),
-      (λ x. let n = above x in omega arith),
-      apart-of r b end hi (w .2) filled (λ u x y i. h u x y (inr (inr i))),
     )
 
 -- ---- words of the free runs
@@ -249,7 +222,7 @@ module _ {m : Words} where
     cell-inside u h = in-range (treeOf rs) 0 (cells formOne m) u (p .tree .within) (covered-tree rs u h) .1
 
     cell-no-node : (u : ℕ) → covered rs u ≡ false → NotFirst u (treeOf rs)
-    cell-no-node u h = no-node (treeOf rs) 0 (cells formOne m) u (p .tree .within) (uncovered rs u h)
+    cell-no-node u h = outside-first (treeOf rs) 0 (cells formOne m) u (p .tree .within) (uncovered rs u h)
 
     -- a word of a run beyond its first cell
     inner-zero : (i : ℕ) → covered rs (i / 2) ≡ true → NotFirst (i / 2) (treeOf rs) → getD m i 0 ≡ 0

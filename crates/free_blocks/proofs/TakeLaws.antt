@@ -30,7 +30,7 @@ use Rattle.free_tree.proofs.RunOrder.{startsBelow, startsFrom, beginsElsewhere,
 use Rattle.free_tree.proofs.RunOrder.{firstThat-past}
 use Rattle.free_tree.proofs.ChangeLaws.{within-delete, insert-tree, delete-tree}
 use Rattle.free_tree.proofs.ShrinkLaws.{shrink-is}
-use Rattle.free_tree.proofs.CellLaws.{same-cell, same-zeros, cell-from, cell-below}
+use Rattle.free_tree.proofs.CellLaws.{same-cell, same-zeros, cell-from, cell-below, outside-first}
 use Rattle.free_blocks.specs.Blocks.{Lies, Takes, TakenFrom, Taken}
 
 -- ---- runs beside a run
@@ -86,15 +86,6 @@ not-first (node a q b) c h =
       (λ z. other (sym z)),
       not-first b c (and-r (e q) (all e (inorder b)) rest),
     )
-
--- a cell in no block is no node
-outside-first : (t : Tree) (lo hi c : ℕ) → Within lo hi t → (In c t → ⊥) → NotFirst c t
-outside-first leaf lo hi c w n = tt
-outside-first (node a q b) lo hi c w n = (
-  outside-first a lo (q .start) c (w .0) (λ i. n (inl i)),
-  (λ z. n (inr (inl (omega arith, omega (arith, w .1))))),
-  outside-first b (q .start + q .size) hi c (w .2) (λ i. n (inr (inr i))),
-)
 
 -- an arena that agrees on the blocks of a tree holds it too
 same-blocks : (m m′ : Words) (t : Tree) (lo hi : ℕ) → Within lo hi t → length m′ ≡ length m

@@ -4,13 +4,16 @@ use Prim.Native.Nat.{ℕ, suc, _+_, _-_, _*_, _/_, _≤_, _<_, min}
 use native.Mathlib.Nat.{mul-comm, mul-add-div, div-eq-of-lt, le-div-iff-mul-le, div-lt-iff-lt-mul}
 use native.Mathlib.Omega.{arith}
 use mathlib.Core.Path.{_≡_, refl, sym, ap, _∙_}
+use mathlib.Core.Logic.{inl, inr}
 use lib.ListN.{length, getD, drop, length-take, length-drop}
 use lib.Seq.{getD-take, getD-drop, ext-getD}
 use Rattle.words.specs.Lists.{Words}
+use Rattle.ledger.specs.Runs.{Run}
 use Rattle.stored_forms.specs.Tree.{Tree, leaf, node, Form, cellWords}
-use Rattle.stored_forms.specs.Blocks.{Within, NotFirst, Holds, Zeros}
+use Rattle.stored_forms.specs.Blocks.{Within, In, NotFirst, Holds, Zeros}
 use Rattle.stored_forms.proofs.NodeLaws.{Readable, within-le}
 use Rattle.tree_nodes.specs.Nodes.{cells, Same}
+use Rattle.free_tree.specs.Held.{Apart}
 
 module _ {F : Form} {bound : ℕ} (readable : Readable F bound) where
   -- word j of cell c, and the cells of the words from one cell up to another
@@ -74,4 +77,33 @@ no-node-above (node a q b) lo hi c w h =
       no-node-above a lo (q .start) c (w .0) (omega arith),
       (λ z. omega arith),
       no-node-above b (q .start + q .size) hi c (w .2) h,
+    )
+
+-- ---- cells in no block
+
+-- a cell in no block is no node
+pub outside-first : (t : Tree) (lo hi c : ℕ) → Within lo hi t → (In c t → ⊥) → NotFirst c t
+outside-first leaf lo hi c w n = tt
+outside-first (node a q b) lo hi c w n = (
+  outside-first a lo (q .start) c (w .0) (λ i. n (inl i)),
+  (λ z. n (inr (inl (omega arith, omega (arith, w .1))))),
+  outside-first b (q .start + q .size) hi c (w .2) (λ i. n (inr (inr i))),
+)
+
+-- a run of which no cell lies in a block overlaps none
+pub apart-of : (r : Run) (t : Tree) (lo hi : ℕ) → Within lo hi t → 1 ≤ r .size
+    → ((u : ℕ) → r .start ≤ u → u < r .start + r .size → In u t → ⊥)
+    → Apart r t
+apart-of r leaf lo hi w filled h = tt
+apart-of r (node a q b) lo hi w filled h =
+    let one = w .1 in
+    let end = q .start + q .size in
+    let below : q .start ≤ r .start → r .start < end → ⊥ =
+    λ x y. h (r .start) (omega arith) (omega arith) (inr (inl (x, y))) in
+    let above : r .start ≤ q .start → q .start < r .start + r .size → ⊥ =
+    λ x y. h (q .start) x y (inr (inl (omega arith, omega arith))) in (
+      apart-of r a lo (q .start) (w .0) filled (λ u x y i. h u x y (inl i)),
+      (λ x. let n = below x in omega arith),
+      (λ x. let n = above x in omega arith),
+      apart-of r b end hi (w .2) filled (λ u x y i. h u x y (inr (inr i))),
     )

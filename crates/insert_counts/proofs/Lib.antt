@@ -1,0 +1,2 @@
+-- Laws of the map of an arena's cells.
+pub mod MapLaws

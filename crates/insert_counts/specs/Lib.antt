@@ -1,0 +1,2 @@
+-- The map of an arena's cells.
+pub mod Map

@@ -21,16 +21,27 @@ use segment_index::size_at;
 use segment_index::weight_at;
 use words::wipe_part;
 
+// Where a scan found room, and how many blocks it looked at.
+pub struct Fit {
+    pub at: usize,
+    pub places: usize,
+}
+
 // The first free block of n words or more from `from` on. There is one: the leaf of the segment says so.
-pub fn first_fit(v: &[i32], from: usize, n: u32) -> usize
+pub fn first_fit(v: &[i32], from: usize, n: u32) -> Fit
     requires { ⌜ ((c : ℕ → ℤ) × Seeking (now v) c from n) ⌝ }
-    ensures { λ r. ⌜ ((c : ℕ → ℤ) → Seeking (now (v .entry)) c from n → FirstFit c from n r) ⌝ }
+    ensures { λ r. ⌜
+        ((c : ℕ → ℤ) → Seeking (now (v .entry)) c from n → FirstFit c from n (r .at) (r .places))
+        ⌝ }
 {
     let mut at = from;
+    let mut passed: usize = 0;
     while weight_at(v, at) < n {
         at += size_at(v, at);
+        passed += 1;
     }
-    at
+    let places = passed + 1;
+    Fit { at, places }
 }
 
 // The block that ends where p begins, from an earlier block on.

@@ -17,7 +17,7 @@ use Rattle.stored_forms.proofs.SegmentLaws.{weight-zero}
 -- ---- blocks of a range
 
 module _ (c : ℕ → ℤ) where
-  count-few : (u n : ℕ) → blockCount c u n ≤ n
+  pub count-few : (u n : ℕ) → blockCount c u n ≤ n
   count-few u zero = omega arith
   count-few u (suc n) = go (ltb 0 (weight (c u))) (count-few (suc u) n)
     where

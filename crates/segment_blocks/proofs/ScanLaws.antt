@@ -11,7 +11,8 @@ use lib.IntN.{ℤ, pos, natAbs}
 use lib.ListN.{length, getD}
 use Rattle.words.proofs.Tests.{le-of, not-le}
 use Rattle.stored_forms.specs.Segments.{weight, largest}
-use Rattle.stored_forms.specs.Search.{blockCount, Steps, steps, oneMore, scan}
+use Rattle.stored_forms.specs.declared.Steps.{Steps}
+use Rattle.stored_forms.specs.Search.{blockCount, steps, oneMore, scan}
 use Rattle.stored_forms.proofs.SearchLaws.{count-few, count-one, count-add}
 use Rattle.segment_index.proofs.RangeLaws.{begins-weight, largest-on}
 use Rattle.segment_blocks.specs.Blocks.{Scan, Seeking, FirstFit, Chain, EndsAt, Reaches}

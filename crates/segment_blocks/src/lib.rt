@@ -19,16 +19,12 @@ use segment_index::raise_most;
 use segment_index::segment_of;
 use segment_index::size_at;
 use segment_index::weight_at;
+use stored_forms::Steps;
 use words::wipe_part;
 
-// Where a scan found room, and how many blocks it looked at.
-pub struct Fit {
-    pub at: usize,
-    pub places: usize,
-}
-
-// The first free block of n words or more from `from` on. There is one: the leaf of the segment says so.
-pub fn first_fit(v: &[i32], from: usize, n: u32) -> Fit
+// The first free block of n words or more from `from` on, and how many blocks were looked at. There is one: the leaf
+// of the segment says so.
+pub fn first_fit(v: &[i32], from: usize, n: u32) -> Steps
     requires { ⌜ ((c : ℕ → ℤ) × Seeking (now v) c from n) ⌝ }
     ensures { λ r. ⌜
         ((c : ℕ → ℤ) → Seeking (now (v .entry)) c from n → FirstFit c from n (r .at) (r .places))
@@ -41,7 +37,7 @@ pub fn first_fit(v: &[i32], from: usize, n: u32) -> Fit
         passed += 1;
     }
     let places = passed + 1;
-    Fit { at, places }
+    Steps { at, places }
 }
 
 // The block that ends where p begins, from an earlier block on.

@@ -42,7 +42,8 @@ module _ (c : ℕ → ℤ) where
   pub count-add : (u m n : ℕ) → blockCount c u (m + n) ≡ blockCount c u m + blockCount c (u + m) n
   count-add u zero n = rw (zero-add n, add-zero u) (sym (zero-add (blockCount c u n)))
   count-add u (suc m) n =
-      rw (suc-add m n) (go (ltb 0 (weight (c u))) (count-add (suc u) m n ∙ ap (λ k. blockCount c (suc u) m + blockCount c k n) next))
+      rw (suc-add m n) (go (ltb 0 (weight (c u)))
+      (count-add (suc u) m n ∙ ap (λ k. blockCount c (suc u) m + blockCount c k n) next))
     where
       next : suc u + m ≡ u + suc m
       next = omega arith

@@ -2,11 +2,13 @@
 -- Assumes nothing.
 use Prim.Native.Nat.{ℕ, zero, suc, _+_, _-_, _*_, _/_, _^_}
 use mathlib.Core.Bool.{cond}
+use mathlib.Core.Option.{Option, none, some}
 use lib.Dec.{eqb, leb, ltb}
 use lib.IntN.{ℤ, natAbs}
 use lib.ListN.{getD}
 use Rattle.words.specs.Lists.{Words}
 use Rattle.ledger.specs.Records.{Ledger}
+use Rattle.stored_forms.specs.declared.Steps.{Steps}
 use Rattle.stored_forms.specs.Segments.{controlWord, weight, segmentSize, depth}
 
 -- ---- the places, from the pool before the call
@@ -38,11 +40,7 @@ mostPlaces S W = 1 + logOf S depth + segmentSize W S
 
 -- ---- the search, which counts each comparison
 
--- where the search stands, and how many words it has compared
-pub record Steps : Type 0 where
-  pub at : ℕ
-  pub places : ℕ
-
+-- where the search stands, and how many words it has compared: the code's struct `Steps`
 abbrev pub steps : ℕ → ℕ → Steps
 steps k n = record { at = k; places = n }
 
@@ -66,3 +64,8 @@ searched c W S t n =
     let leaf = goDown t n (logOf S depth) 1 in
     let block = scan c n W (getD t (S + leaf .at) 0) in
     cond (ltb (getD t 1 0) n) (steps W 1) (steps (block .at) (1 + leaf .places + block .places))
+
+-- What the search has to come to, by the lowest fit: its first word, with the places of ticket 5; or W, with 1.
+abbrev pub stepsTo : ℕ → ℕ → Ledger → Option ℕ → Steps
+stepsTo S W L none = steps W 1
+stepsTo S W L (some k) = steps k (placesTo S W L k)

@@ -5,8 +5,8 @@ use native.Mathlib.Omega.{arith}
 use lib.IntN.{ℤ}
 use lib.ListN.{length}
 use Rattle.segment_blocks.specs.Blocks.{Seeking}
-use Rattle.segment_blocks.proofs.ScanLaws.{scan-grows, scan-fits, Sought, seek-start, seek-inside, seek-few, seek-on}
-use Rattle.segment_blocks.proofs.ScanLaws.{seek-end}
+use Rattle.segment_blocks.proofs.ScanLaws.{scan-grows, scan-fits, Sought, seek-start, seek-inside}
+use Rattle.segment_blocks.proofs.ScanLaws.{seek-few, seek-on, seek-end}
 use Rattle.segment_blocks.proofs.first_fit.Statement.{statement}
 use Rattle.segment_blocks.proofs.first_fit.Tie as tie
 

@@ -1,24 +1,22 @@
 -- 02, ticket 5: the places that an allocation reports are the steps of 01's search, and bounded. Assumes nothing.
-use Prim.Native.Nat.{ℕ, _+_, _-_, _≤_, _<_, _^_}
-use native.Mathlib.Decide.{ℕ-discrete}
+use Prim.Native.Nat.{ℕ, _+_, _-_, _≤_}
 use native.Mathlib.Nat.{div-one}
 use native.Mathlib.Omega.{arith}
 use mathlib.Core.Path.{_≡_, refl, sym, ap, ap₂, subst, _∙_}
 use mathlib.Core.Logic.{_≢_}
-use mathlib.Core.Bool.{Bool, true, false, cond, _&&_, _||_, true≢false}
+use mathlib.Core.Bool.{Bool, true, false, cond, _&&_, _||_}
 use mathlib.Core.List.{List, map}
 use mathlib.Core.Option.{Option, none, some}
 use lib.Dec.{eqb, leb, ltb}
-use lib.IntN.{ℤ, pos}
-use lib.ListN.{length, getD, length-map, List·getD-map}
+use lib.IntN.{ℤ}
+use lib.ListN.{length, length-map, List·getD-map}
 use mir.Facts.{toZ-ofZ}
 use mir.Syntax.{w32}
 use mir.Val.{toZ}
 use Rattle.words.proofs.Tests.{and-l, and-r, eqb-eq, eqb-false, or-l, le-of}
 use Rattle.words.proofs.PlaceLaws.{map-stamp, stamp-same}
 use Rattle.ledger.specs.Records.{Ledger, full}
-use Rattle.ledger.specs.Units.{span, addressAt, valid, free, owned, lowestFit}
-use Rattle.stored_forms.specs.declared.Steps.{Steps}
+use Rattle.ledger.specs.Units.{span, valid, free, owned, lowestFit}
 use Rattle.stored_forms.specs.Segments.{segmentRule, segmentRange, segmentSize, segmentWord, controlWord, isPower, depth}
 use Rattle.stored_forms.specs.Segments.{segmentIndex, mostWords}
 use Rattle.stored_forms.specs.Search.{placesTo, mostPlaces, steps, searched, stepsTo}
@@ -32,7 +30,7 @@ use Rattle.segment_cores.proofs.UnitLaws.{span-words, address-after}
 use Rattle.calls.specs.Pool.{Pool, ledger, wordCount, store, lengths, stored, sound}
 use Rattle.calls.specs.Step.{ask, allocate, accepted, answerTo, fitOf, numberOf, GateIs, actsDone, step}
 use Rattle.calls.specs.Engines.{segmentEngine}
-use Rattle.calls.specs.Search.{placesBy, placesOf, signedAt, searchOf, PlacesCounted}
+use Rattle.calls.specs.Search.{placesOf, searchOf, PlacesCounted}
 use Rattle.calls.specs.declared.Answer.{Answer}
 use Rattle.calls.proofs.ActLaws.{Asked, ask-zero, ask-done, answer-number}
 use Rattle.calls.proofs.Engines.{segment-laws}

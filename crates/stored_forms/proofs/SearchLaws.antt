@@ -1,5 +1,5 @@
 -- Blocks counted, the logarithm of S, and the bound of the places looked at. Assumes nothing.
-use Prim.Native.Nat.{ℕ, zero, suc, _+_, _-_, _*_, _/_, _^_, _≤_, _<_}
+use Prim.Native.Nat.{ℕ, zero, suc, _+_, _-_, _^_, _≤_, _<_}
 use native.Mathlib.Decide.{ℕ-discrete}
 use native.Mathlib.Nat.{zero-add, add-zero, suc-add, lt-div-mul-add}
 use native.Mathlib.Omega.{arith}
@@ -10,7 +10,7 @@ use lib.IntN.{ℤ, pos}
 use lib.Pow.{pow-lt}
 use Rattle.words.proofs.Tests.{eqb-same, eqb-ne, of-lt, of-ge}
 use Rattle.ledger.specs.Records.{Ledger}
-use Rattle.stored_forms.specs.Segments.{controlWord, weight, segmentSize, depth}
+use Rattle.stored_forms.specs.Segments.{controlWord, weight, segmentSize}
 use Rattle.stored_forms.specs.Search.{logOf, blockCount, segmentStart, placesTo, mostPlaces}
 use Rattle.stored_forms.proofs.SegmentLaws.{weight-zero}
 

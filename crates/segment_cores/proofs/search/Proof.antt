@@ -49,15 +49,19 @@ first-fit-requires c κs =
 scanned : (c : tie.After-first-fit) (L : Ledger)
     → let s = c .before .before .before .before .before .before in
     let d = c .before .before in
-    Searching L (s .args .v .now) (s .args .t .now) (s .args .s) (s .args .d) (s .args .n)
+    let S = s .args .segments .count in
+    Searching L (s .args .v .now) (s .args .t .now) S (s .args .segments .log) (s .args .n)
     → FirstFit (controls L (length (s .args .v .now)))
-    (getD (s .args .t .now) (2 * s .args .s + (d .descend .result - s .args .s)) 0) (s .args .n)
+    (getD (s .args .t .now) (2 * S + (d .descend .result - S)) 0) (s .args .n)
     (c .first-fit .result .at) (c .first-fit .result .places)
 scanned c L k =
     let v = c .before .before .before .before .before .before .args .v .now in
     let leaf = c .before .before .descend .ensures in
     let from = c .before .index-word .ensures in
     rw from at (c .first-fit .ensures (controls L (length v)) (rw from (search-scan L _ _ _ _ _ k _ leaf)))
+
+cast-places : tie.Need-cast-places
+cast-places c = let (L, k) = c .before .before .before .before .before .before .pre in omega (arith, k .few)
 
 add-places : tie.Need-add-places
 add-places c = let (L, k) = c .before .before .before .before .before .before .pre in omega (arith, k .few)
@@ -86,6 +90,7 @@ search-spec =
     add-index-word
     index-word-requires
     first-fit-requires
+    cast-places
     add-places
     add-places-2
     returns-2)

@@ -1,7 +1,7 @@
 -- Blocks counted, the logarithm of S, and the bound of the places looked at. Assumes nothing.
 use Prim.Native.Nat.{ℕ, zero, suc, _+_, _-_, _^_, _≤_, _<_}
 use native.Mathlib.Decide.{ℕ-discrete}
-use native.Mathlib.Nat.{zero-add, add-zero, suc-add, lt-div-mul-add}
+use native.Mathlib.Nat.{zero-add, add-zero, suc-add, lt-div-mul-add, div-le-self}
 use native.Mathlib.Omega.{arith}
 use mathlib.Core.Path.{_≡_, refl, sym, ap, _∙_}
 use mathlib.Core.Bool.{Bool, true, false, cond}
@@ -10,7 +10,7 @@ use lib.IntN.{ℤ, pos}
 use lib.Pow.{pow-lt}
 use Rattle.words.proofs.Tests.{eqb-same, eqb-ne, of-lt, of-ge}
 use Rattle.ledger.specs.Records.{Ledger}
-use Rattle.stored_forms.specs.Segments.{controlWord, weight, segmentSize}
+use Rattle.stored_forms.specs.Segments.{controlWord, weight, segmentSize, depth, mostWords}
 use Rattle.stored_forms.specs.Search.{logOf, blockCount, segmentStart, placesTo, mostPlaces}
 use Rattle.stored_forms.proofs.SegmentLaws.{weight-zero}
 
@@ -67,6 +67,14 @@ log-power (suc d) e h = go (ℕ-discrete e (suc d)) (log-power d e)
         let less : 2 ^ e < 2 ^ suc d = pow-lt (omega arith) in
         rw (eqb-ne (2 ^ e) (2 ^ suc d) (omega arith)) (ih (omega arith))
 
+log-few : (S d : ℕ) → logOf S d ≤ d
+log-few S zero = omega arith
+log-few S (suc d) = go (eqb S (2 ^ suc d)) (log-few S d)
+  where
+    go : (b : Bool) → logOf S d ≤ d → cond b (suc d) (logOf S d) ≤ suc d
+    go true h = omega arith
+    go false h = omega arith
+
 -- ---- the bound
 
 pub places-most : (S W : ℕ) (L : Ledger) (k : ℕ) → 0 < segmentSize W S → placesTo S W L k ≤ mostPlaces S W
@@ -74,6 +82,11 @@ unfolding placesTo mostPlaces
 places-most S W L k some =
     let start = segmentStart k (segmentSize W S) in
     omega (arith, count-few (controlWord W L) start (suc k - start), lt-div-mul-add {a = k} some)
+
+-- so it takes 16 bits
+pub most-small : (S W : ℕ) → S ≤ 256 → W ≤ mostWords → mostPlaces S W < 65536
+unfolding mostPlaces segmentSize
+most-small S W s w = omega (arith, log-few S depth, div-le-self (W + (S - 1)) S)
 
 -- "With 16,384 words and 256 segments that is 73."
 pub most-seventy-three : mostPlaces 256 16384 ≡ 73

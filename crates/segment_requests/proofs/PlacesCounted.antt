@@ -13,12 +13,12 @@ use lib.ListN.{length, length-map, List·getD-map}
 use mir.Facts.{toZ-ofZ}
 use mir.Syntax.{w32}
 use mir.Val.{toZ}
-use Rattle.words.proofs.Tests.{and-l, and-r, eqb-eq, eqb-false, or-l, le-of}
+use Rattle.words.proofs.Tests.{and-l, and-r, eqb-eq, eqb-ne, eqb-false, or-l, le-of}
 use Rattle.words.proofs.PlaceLaws.{map-stamp, stamp-same}
 use Rattle.ledger.specs.Records.{Ledger, full}
 use Rattle.ledger.specs.Units.{span, valid, free, owned, lowestFit}
-use Rattle.stored_forms.specs.Segments.{segmentRule, segmentRange, segmentSize, segmentWord, controlWord, isPower, depth}
-use Rattle.stored_forms.specs.Segments.{segmentIndex, mostWords}
+use Rattle.stored_forms.specs.Segments.{segmentRule, segmentRange, segmentSize, segmentWord, segmentIndex}
+use Rattle.stored_forms.specs.Segments.{controlWord, isPower, depth, mostWords}
 use Rattle.stored_forms.specs.Search.{placesTo, mostPlaces, steps, searched, stepsTo}
 use Rattle.stored_forms.proofs.SegmentLaws.{control-fits, power-is, power-range}
 use Rattle.stored_forms.proofs.SearchLaws.{places-most, most-seventy-three}
@@ -28,13 +28,14 @@ use Rattle.segment_cores.specs.Stores.{Sound, arenaOf}
 use Rattle.segment_cores.proofs.SearchLaws.{search-steps}
 use Rattle.segment_cores.proofs.UnitLaws.{span-words, address-after}
 use Rattle.calls.specs.Pool.{Pool, ledger, wordCount, store, lengths, stored, sound}
-use Rattle.calls.specs.Step.{ask, allocate, accepted, answerTo, fitOf, numberOf, GateIs, actsDone, step}
+use Rattle.calls.specs.Step.{ask, allocate, accepted, answerTo, fitOf, numberOf, GateIs, refusedBy, actsDone, step}
 use Rattle.calls.specs.Engines.{segmentEngine}
-use Rattle.calls.specs.Search.{placesOf, searchOf, PlacesCounted}
+use Rattle.calls.specs.Search.{placesBy, placesOf, searchOf, PlacesCounted}
 use Rattle.calls.specs.declared.Answer.{Answer}
 use Rattle.calls.proofs.ActLaws.{Asked, ask-zero, ask-done, answer-number}
 use Rattle.calls.proofs.Engines.{segment-laws}
-use Rattle.calls.proofs.GateLaws.{is-eight, is-one, gate-refuses, step-sound}
+use Rattle.calls.proofs.GateLaws.{is-eight, is-one, gate-refuses, gate-sound, step-sound}
+use Rattle.segment_requests.specs.Outcomes.{placesAsked}
 use Rattle.calls.proofs.StoreLaws.{sound-lengths, sound-valid, is-store}
 
 -- ---- a sound pool, by the signed words of its arena
@@ -156,6 +157,11 @@ module _ (p : Pool) (ok : sound segmentEngine p ≡ true) where
           let z = eqb-false n 0 (or-l (eqb n 0) (ltb mostWords n) s) in
           (omega arith, f)
 
+-- the places of an act are those of its call
+pub act-places : (p : Pool) (n : ℕ) → sound segmentEngine p ≡ true → placesAsked p n ≡ placesOf p n
+unfolding placesOf
+act-places p n ok = ap (placesBy p) (sym (answer-is p ok n))
+
 -- a call that the gate does not refuse is one on a sound pool
 reached : (p : Pool) (n k : ℕ) → k ≢ 8 → k ≢ 1 → step segmentEngine (allocate n) p .answer .number ≡ k
     → sound segmentEngine p ≡ true
@@ -172,6 +178,20 @@ reached p n k a b e = go (lengths segmentEngine p) refl (stored segmentEngine p)
     go false l s t = absurd (other 8 (is-eight segmentEngine p l) (omega arith) a)
     go true l false t = absurd (other 1 (is-one segmentEngine p l t) (omega arith) b)
     go true l true t = rw (l, t)
+
+-- one that it refuses has looked at no place
+pub gate-places : (p : Pool) (n k : ℕ) → GateIs segmentEngine p k → k ≢ 0 → 0 ≡ placesOf p n
+unfolding placesOf
+gate-places p n k is z =
+    sym (ap (λ o. placesBy p (o .answer)) refuses ∙ rw (eqb-ne k 0 z, eqb-ne k 5 other))
+  where
+    refuses : step segmentEngine (allocate n) p ≡ refusedBy segmentEngine (allocate n) p k
+    refuses = gate-refuses segmentEngine p k is z (allocate n) refl refl
+
+    other : k ≢ 5
+    other e =
+        let ok = reached p n 5 (omega arith) (omega arith) (ap (λ o. o .answer .number) refuses ∙ e) in
+        z (is (ask n) ∙ gate-sound segmentEngine (allocate n) p refl ok)
 
 module _ (p : Pool) (n : ℕ) where
   abbrev x : Answer

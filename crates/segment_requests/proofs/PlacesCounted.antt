@@ -191,7 +191,7 @@ gate-places p n k is z =
     other : k ≢ 5
     other e =
         let ok = reached p n 5 (omega arith) (omega arith) (ap (λ o. o .answer .number) refuses ∙ e) in
-        z (is (ask n) ∙ gate-sound segmentEngine (allocate n) p refl ok)
+        z (is (ask n) ∙ gate-sound segmentEngine (allocate n) p refl refl ok)
 
 module _ (p : Pool) (n : ℕ) where
   abbrev x : Answer

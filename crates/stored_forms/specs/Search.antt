@@ -57,8 +57,8 @@ abbrev pub scan : (ℕ → ℤ) → ℕ → ℕ → ℕ → Steps
 scan c n zero u = steps u 0
 scan c n (suc w) u = oneMore (cond (leb n (weight (c u))) (steps u 0) (scan c n w (u + natAbs (c u))))
 
--- "compare the root", then the two, for n words with the control word; c u is word u of the arena. It stands at W
--- where the root is too small.
+-- "compare the root", then the two, for n words with the control word; c u is word u of the arena, and the first block
+-- of leaf i's segment is word S + i of the index. It stands at W where the root is too small.
 unfoldable pub searched : (ℕ → ℤ) → ℕ → ℕ → Words → ℕ → Steps
 searched c W S t n =
     let leaf = goDown t n (logOf S depth) 1 in

@@ -10,6 +10,6 @@ use Rattle.worked_cases.specs.BenchSheet.{segmentCalls, segmentStates, p
 
 pub bench-sheet : (trace treeEngine treeMemory treeCalls ≡ treeStates)
     × (trace segmentEngine segmentMemory segmentCalls ≡ segmentStates)
-    × (placesIn (step segmentEngine format segmentMemory .pool) (3 ∷ 12 ∷ 11 ∷ []) ≡ segmentPlaces)
+    × (placesIn (step segmentEngine (format 1) segmentMemory .pool) (3 ∷ 12 ∷ 11 ∷ []) ≡ segmentPlaces)
 unfolding treeMachine segmentMachine
 bench-sheet = (refl, refl, refl)

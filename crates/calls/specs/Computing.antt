@@ -6,10 +6,12 @@ use Rattle.ledger.specs.Units.{span, addressAt, first, past, fits, apart, valid
 use Rattle.ledger.specs.Runs.{freeRuns}
 use Rattle.stored_forms.specs.Tree.{formOne, treeRange, freeTree}
 use Rattle.stored_forms.specs.Segments.{controlWord, segmentWord, segmentSize, indexWord, segmentIndex, segmentRange}
+use Rattle.stored_forms.specs.Search.{placesTo}
 use Rattle.calls.specs.Pool.{store, samePool, lengths, stored, sound}
 use Rattle.calls.specs.Step.{named, fitOf, numberOf, grant, answerDone, poolDone, answerTo, poolAfter, behind}
 use Rattle.calls.specs.Step.{gate, actsDone, perform, step}
 use Rattle.calls.specs.Engines.{treeEngineOf, treeEngine, segmentEngine}
+use Rattle.calls.specs.Search.{placesOf}
 use Rattle.calls.specs.Lent.{isWhole, ownTable, headReturns, outcome, after}
 use Rattle.calls.specs.Demand3.{live, isDue, isReplay, stands, afterAct}
 use Rattle.calls.specs.Restart.{asLeft}
@@ -33,5 +35,5 @@ treeMachine = tt
 
 unfoldable pub segmentMachine : Unit {0}
 unfolding ledgerOpened stepOpened sequenceOpened controlWord segmentWord segmentSize indexWord segmentIndex
-    segmentRange segmentEngine
+    segmentRange segmentEngine placesTo placesOf
 segmentMachine = tt

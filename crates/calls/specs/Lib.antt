@@ -2,6 +2,7 @@
 pub mod Pool
 pub mod Step
 pub mod Engines
+pub mod Search
 pub mod Lent
 pub mod Demand1
 pub mod Demand2

@@ -1,12 +1,17 @@
 -- Equal outcomes of the segment pool leave the same. Assumes nothing.
 use Prim.Native.Nat.{ℕ}
 use mathlib.Core.Path.{_≡_, ap}
-use mathlib.Core.List.{List}
+use mathlib.Core.List.{List, []}
 use lib.IntN.{ℤ}
 use Rattle.words.specs.Lists.{Words}
 use Rattle.segment_requests.specs.declared.Outcome.{Outcome}
-use Rattle.segment_requests.specs.Outcomes.{handed}
+use Rattle.segment_requests.specs.declared.Allocation.{Allocation}
+use Rattle.segment_requests.specs.Outcomes.{handed, outcomeOf}
 
 pub same-handed : (S : ℕ) {o x : Outcome} (v : List ℤ) (t i : Words) (bs : List Words) → o ≡ x
     → handed S o v t i bs ≡ handed S x v t i bs
 same-handed S v t i bs e = ap (λ (y : Outcome). handed S y v t i bs) e
+
+pub same-allocated : (S : ℕ) {o x : Allocation} (v : List ℤ) (t i : Words) → o ≡ x
+    → (handed S (outcomeOf o) v t i [], o .places) ≡ (handed S (outcomeOf x) v t i [], x .places)
+same-allocated S v t i e = ap (λ (y : Allocation). (handed S (outcomeOf y) v t i [], y .places)) e

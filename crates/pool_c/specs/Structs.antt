@@ -3,10 +3,12 @@ use Rattle.calls.specs.declared.Answer as calls
 use Rattle.tree_check.specs.declared.Head as tree-head
 use Rattle.tree_cores.specs.declared.Outcome as tree
 use Rattle.segment_requests.specs.declared.Outcome as segment
+use Rattle.segment_requests.specs.declared.Allocation as segment-allocation
 use Rattle.pool_c.specs.declared.TreeHead.{TreeHead}
 use Rattle.pool_c.specs.declared.Answer.{Answer}
 use Rattle.pool_c.specs.declared.TreeOutcome.{TreeOutcome}
 use Rattle.pool_c.specs.declared.SegmentOutcome.{SegmentOutcome}
+use Rattle.pool_c.specs.declared.SegmentAllocation.{SegmentAllocation}
 
 abbrev pub headOf : TreeHead → tree-head.Head
 headOf h = record { root = h .root; next = h .next }
@@ -24,3 +26,10 @@ treeOutcome r = record { head = headOf (r .head); answer = answerOf (r .answer) 
 
 abbrev pub segmentOutcome : SegmentOutcome → segment.Outcome
 segmentOutcome r = record { head = record { next = r .next }; answer = answerOf (r .answer) }
+
+abbrev pub segmentAllocation : SegmentAllocation → segment-allocation.Allocation
+segmentAllocation r = record {
+  head = record { next = r .next };
+  answer = answerOf (r .answer);
+  places = r .places;
+}

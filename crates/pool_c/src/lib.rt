@@ -11,7 +11,7 @@ ghost use Rattle.tree_check.specs.Gate.{treePool, noHead};
 ghost use Rattle.segment_check.specs.Gate.{segmentPool};
 ghost use Rattle.tree_cores.specs.Outcomes as tree;
 ghost use Rattle.segment_requests.specs.Outcomes as segment;
-ghost use Rattle.pool_c.specs.Structs.{headOf, answerOf, treeOutcome, segmentOutcome};
+ghost use Rattle.pool_c.specs.Structs.{headOf, answerOf, treeOutcome, segmentOutcome, segmentAllocation};
 
 // lf_tree_head
 #[repr(C)]
@@ -52,6 +52,14 @@ pub struct TreeOutcome {
 pub struct SegmentOutcome {
     pub next: u32,
     pub answer: Answer,
+}
+
+// lf_segment_allocation
+#[repr(C)]
+pub struct SegmentAllocation {
+    pub next: u32,
+    pub answer: Answer,
+    pub places: u32,
 }
 
 // ---- from the pools' structs to those of C
@@ -97,6 +105,17 @@ fn c_segment_outcome(done: segment_requests::Outcome) -> SegmentOutcome
     SegmentOutcome {
         next: after.next,
         answer: c_answer(done.answer),
+    }
+}
+
+fn c_segment_allocation(done: segment_requests::Allocation) -> SegmentAllocation
+    ensures { λ r. ⌜ segmentAllocation r ≡ done ⌝ }
+{
+    let after = done.head;
+    SegmentAllocation {
+        next: after.next,
+        answer: c_answer(done.answer),
+        places: done.places,
     }
 }
 
@@ -229,15 +248,18 @@ pub extern "C" fn lf_segment_allocate(
     segments: u32,
     index: &mut [u32],
     words: u32,
-) -> SegmentOutcome
-    ensures { λ r. ⌜
-        segment.handed segments (segmentOutcome r) (now (arena .exit)) (now (table .exit)) (now (index .exit)) []
-        ≡ resultOf (step segmentEngine (allocate words)
-        (segmentPool segments next (now (arena .entry)) (now (table .entry)) (now (index .entry)))) ⌝ }
+) -> SegmentAllocation
+    ensures { λ r. ⌜ (
+      segment.handed segments (segment.outcomeOf (segmentAllocation r)) (now (arena .exit)) (now (table .exit))
+          (now (index .exit)) [],
+      r .places,
+    )
+        ≡ segment.allocated
+        (segmentPool segments next (now (arena .entry)) (now (table .entry)) (now (index .entry))) words ⌝ }
 {
     let head = segment_requests::Head { next };
     let done = segment_pool::allocate(head, segments, arena, table, index, words);
-    c_segment_outcome(done)
+    c_segment_allocation(done)
 }
 
 #[no_mangle]

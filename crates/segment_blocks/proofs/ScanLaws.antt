@@ -1,13 +1,20 @@
 -- A scan's step from block to block, and what each scan has found on its way. Assumes nothing.
-use Prim.Native.Nat.{ℕ, _+_, _-_, _<_, _≤_, max}
+use Prim.Native.Nat.{ℕ, zero, suc, _+_, _-_, _<_, _≤_, max}
 use native.Mathlib.Decide.{decLt, ℕ-discrete}
+use native.Mathlib.Numerals.{add-one}
 use native.Mathlib.Omega.{arith}
+use mathlib.Core.Bool.{Bool, true, false, cond}
 use mathlib.Core.List.{List}
-use mathlib.Core.Path.{_≡_, ap, _∙_}
+use mathlib.Core.Path.{_≡_, refl, sym, ap, _∙_}
+use lib.Dec.{leb}
 use lib.IntN.{ℤ, pos, natAbs}
 use lib.ListN.{length, getD}
+use Rattle.words.proofs.Tests.{le-of, not-le}
 use Rattle.stored_forms.specs.Segments.{weight, largest}
-use Rattle.segment_index.proofs.RangeLaws.{largest-on}
+use Rattle.stored_forms.specs.declared.Steps.{Steps}
+use Rattle.stored_forms.specs.Search.{blockCount, steps, oneMore, scan}
+use Rattle.stored_forms.proofs.SearchLaws.{count-few, count-one, count-add}
+use Rattle.segment_index.proofs.RangeLaws.{begins-weight, largest-on}
 use Rattle.segment_blocks.specs.Blocks.{Scan, Seeking, FirstFit, Chain, EndsAt, Reaches}
 
 -- one block on, where the code read its size as m
@@ -40,16 +47,23 @@ module _ (v : List ℤ) (c : ℕ → ℤ) (at : ℕ) (S : Scan v c at) (h : at <
 
 -- ---- the first block that fits
 
-pub record Sought (v : List ℤ) (c : ℕ → ℤ) (from n at : ℕ) : Type 0 where
+-- the scan has come to `at`, past so many blocks, which are all too small
+pub record Sought (v : List ℤ) (c : ℕ → ℤ) (from n at passed : ℕ) : Type 0 where
   pub scan : Scan v c at
   pub above : from ≤ at
   pub before : (u : ℕ) → from ≤ u → u < at → weight (c u) < n
+  pub counted : passed ≡ blockCount c from (at - from)
 
 module _ (v : List ℤ) (c : ℕ → ℤ) (from n : ℕ) (K : Seeking v c from n) where
-  pub seek-start : Sought v c from n from
-  seek-start = record { scan = K .scan; above = omega arith; before = λ u a b. absurd (omega arith) }
+  pub seek-start : Sought v c from n from 0
+  seek-start = record {
+    scan = K .scan;
+    above = omega arith;
+    before = λ u a b. absurd (omega arith);
+    counted = let none : from - from ≡ 0 = omega arith in rw none;
+  }
 
-  module _ (at : ℕ) (G : Sought v c from n at) where
+  module _ (at passed : ℕ) (G : Sought v c from n at passed) where
     -- the block that fits is still ahead
     ahead : at ≤ K .place
     ahead = go (decLt (K .place) at)
@@ -66,12 +80,27 @@ module _ (v : List ℤ) (c : ℕ → ℤ) (from n : ℕ) (K : Seeking v c from n
         go (no l) =
             absurd (omega (arith, ap weight (G .scan .blocks .past (K .place) (omega arith)), K .fits, K .some))
 
+    -- so many blocks fit into the arena
+    pub seek-few : passed + 1 ≤ length v
+    seek-few = omega (arith, G .counted, count-few c from (at - from), G .above, seek-inside)
+
+    -- with the block at `at`, of m words
+    one-more : (m : ℕ) → 0 < m → ((u : ℕ) → at < u → u < at + m → c u ≡ pos 0)
+        → passed + 1 ≡ blockCount c from (at + m - from)
+    one-more m some quiet =
+        let parts : at + m - from ≡ at - from + m = omega (arith, G .above) in
+        let mid : from + (at - from) ≡ at = omega (arith, G .above) in
+        let one = count-one c at m some (begins-weight (c at) (G .scan .begins seek-inside)) quiet in
+        sym (ap (blockCount c from) parts ∙ count-add c from (at - from) m ∙ rw (mid, one) (omega (arith, G .counted)))
+
     pub seek-on : (m : ℕ) → m ≡ natAbs (getD v at (pos 0)) → weight (getD v at (pos 0)) < n
-        → Sought v c from n (at + m)
+        → Sought v c from n (at + m) (passed + 1)
     seek-on m is small = record {
       scan = scan-on v c at (G .scan) seek-inside m is;
       above = omega (arith, G .above);
       before = λ u a b. go u a b (decLt u at) (ℕ-discrete u at);
+      counted = one-more m (scan-grows v c at (G .scan) seek-inside m is)
+          (scan-quiet v c at (G .scan) seek-inside m is);
     }
       where
         go : (u : ℕ) → from ≤ u → u < at + m → Dec (u < at) → Dec (u ≡ at) → weight (c u) < n
@@ -80,12 +109,39 @@ module _ (v : List ℤ) (c : ℕ → ℤ) (from n : ℕ) (K : Seeking v c from n
         go u a b (no l) (no e) =
             omega (arith, ap weight (scan-quiet v c at (G .scan) seek-inside m is u (omega arith) b), K .some)
 
-    pub seek-end : n ≤ weight (getD v at (pos 0)) → FirstFit c from n at
+    pub seek-end : n ≤ weight (getD v at (pos 0)) → FirstFit c from n at (passed + 1)
     seek-end h = record {
       above = G .above;
       fits = omega (arith, scan-weight v c at (G .scan) seek-inside);
       before = G .before;
+      counted = one-more 1 (omega arith) (λ u a b. absurd (omega arith)) ∙ rw (add-one at);
     }
+
+  -- 01's scan, block by block: it ends at the same block
+  pub scan-finds : (w at passed : ℕ) → Sought v c from n at passed → length v ≤ at + w
+      → let end = scan (λ u. getD v u (pos 0)) n w at in
+      FirstFit c from n (end .at) (passed + end .places)
+  scan-finds zero at passed G h = absurd (omega (arith, seek-inside at passed G))
+  scan-finds (suc w) at passed G h =
+      go (leb n (weight (getD v at (pos 0)))) refl (scan-finds w (at + natAbs (getD v at (pos 0))) (passed + 1))
+    where
+      inside : at < length v
+      inside = seek-inside at passed G
+
+      rest : Steps
+      rest = scan (λ u. getD v u (pos 0)) n w (at + natAbs (getD v at (pos 0)))
+
+      go : (b : Bool) → leb n (weight (getD v at (pos 0))) ≡ b
+          → (Sought v c from n (at + natAbs (getD v at (pos 0))) (passed + 1)
+          → length v ≤ at + natAbs (getD v at (pos 0)) + w → FirstFit c from n (rest .at) (passed + 1 + rest .places))
+          → let end = oneMore (cond b (steps at 0) rest) in
+          FirstFit c from n (end .at) (passed + end .places)
+      go true e ih = seek-end at passed G (le-of n (weight (getD v at (pos 0))) e)
+      go false e ih =
+          let next : passed + 1 + rest .places ≡ passed + suc (rest .places) = omega arith in
+          let grows = scan-grows v c at (G .scan) inside (natAbs (getD v at (pos 0))) refl in
+          let on = seek-on at passed G (natAbs (getD v at (pos 0))) refl (not-le n (weight (getD v at (pos 0))) e) in
+          rw next at (ih on (omega arith))
 
 -- ---- the block that ends at p
 

@@ -1,11 +1,12 @@
 -- An arena of blocks, by its control words: c u is the control word of the block that begins at word u, 0 where none
 -- does. The scans of the pool go from block to block. Assumes nothing.
-use Prim.Native.Nat.{ℕ, _+_, _≤_, _<_}
+use Prim.Native.Nat.{ℕ, suc, _+_, _-_, _≤_, _<_}
 use mathlib.Core.List.{List}
 use mathlib.Core.Path.{_≡_}
 use lib.IntN.{ℤ, pos, natAbs}
 use lib.ListN.{length, getD}
 use Rattle.stored_forms.specs.Segments.{weight}
+use Rattle.stored_forms.specs.Search.{blockCount}
 
 -- a block begins at word 0, each block ends inside, and the next one begins where it ends; v shows their control words
 pub record Blocks (v : List ℤ) (c : ℕ → ℤ) : Type 0 where
@@ -31,11 +32,12 @@ pub record Seeking (v : List ℤ) (c : ℕ → ℤ) (from n : ℕ) : Type 0 wher
   pub above : from ≤ place
   pub fits : n ≤ weight (c place)
 
--- r is the first word from `from` on that begins a block of n words or more
-pub record FirstFit (c : ℕ → ℤ) (from n r : ℕ) : Type 0 where
+-- r is the first word from `from` on that begins a block of n words or more, and the `places`th that begins a block
+pub record FirstFit (c : ℕ → ℤ) (from n r places : ℕ) : Type 0 where
   pub above : from ≤ r
   pub fits : n ≤ weight (c r)
   pub before : (u : ℕ) → from ≤ u → u < r → weight (c u) < n
+  pub counted : places ≡ blockCount c from (suc r - from)
 
 -- blocks begin at `from` and, later, at p
 pub record Chain (v : List ℤ) (c : ℕ → ℤ) (from p : ℕ) : Type 0 where

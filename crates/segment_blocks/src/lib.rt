@@ -19,18 +19,25 @@ use segment_index::raise_most;
 use segment_index::segment_of;
 use segment_index::size_at;
 use segment_index::weight_at;
+use stored_forms::Steps;
 use words::wipe_part;
 
-// The first free block of n words or more from `from` on. There is one: the leaf of the segment says so.
-pub fn first_fit(v: &[i32], from: usize, n: u32) -> usize
+// The first free block of n words or more from `from` on, and how many blocks were looked at. There is one: the leaf
+// of the segment says so.
+pub fn first_fit(v: &[i32], from: usize, n: u32) -> Steps
     requires { ⌜ ((c : ℕ → ℤ) × Seeking (now v) c from n) ⌝ }
-    ensures { λ r. ⌜ ((c : ℕ → ℤ) → Seeking (now (v .entry)) c from n → FirstFit c from n r) ⌝ }
+    ensures { λ r. ⌜
+        ((c : ℕ → ℤ) → Seeking (now (v .entry)) c from n → FirstFit c from n (r .at) (r .places))
+        ⌝ }
 {
     let mut at = from;
+    let mut passed: usize = 0;
     while weight_at(v, at) < n {
         at += size_at(v, at);
+        passed += 1;
     }
-    at
+    let places = passed + 1;
+    Steps { at, places }
 }
 
 // The block that ends where p begins, from an earlier block on.

@@ -157,8 +157,13 @@ fn run_allocate(
     index: &mut [u32],
     words: u32,
 ) -> Head {
-    let outcome = segment_pool::allocate(head, s, arena, table, index, words);
-    show_outcome(outcome, arena, table, index)
+    let done = segment_pool::allocate(head, s, arena, table, index, words);
+    show_answer(done.answer);
+    print(b"  places");
+    print_number(done.places);
+    print(b"\n");
+    show_memory(done.head, arena, table, index);
+    done.head
 }
 
 fn run_release(

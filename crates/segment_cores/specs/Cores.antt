@@ -2,7 +2,6 @@
 use Prim.Native.Nat.{ℕ, _-_, _^_, _≤_, _<_}
 use mathlib.Core.Bool.{Bool, cond}
 use mathlib.Core.List.{List}
-use mathlib.Core.Option.{Option, none, some}
 use mathlib.Core.Path.{_≡_}
 use lib.Dec.{ltb}
 use lib.IntN.{ℤ, pos, natAbs}
@@ -22,10 +21,6 @@ pub record Searching (L : Ledger) (v : List ℤ) (t : Words) (s d n : ℕ) : Typ
   pub power : s ≡ 2 ^ d
   pub few : d ≤ depth
   pub two : 2 ≤ n
-
--- a unit, or w where there is none
-abbrev pub unitOr : ℕ → Option ℕ → ℕ
-unitOr w o = elim o [ none ↦ w | some k ↦ k ]
 
 -- the index of the control words c, of which one is at 0 and one, past it, at p
 pub record Seat (c : ℕ → ℤ) (W : ℕ) (t : Words) (s d g p : ℕ) : Type 0 where

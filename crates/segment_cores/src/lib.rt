@@ -10,9 +10,10 @@ ghost use Rattle.words.specs.Places.{wiped};
 ghost use Rattle.ledger.specs.Records.{Ledger};
 ghost use Rattle.ledger.specs.Units.{free, lowestFit};
 ghost use Rattle.stored_forms.specs.Segments.{segmentRule, mostWords};
+ghost use Rattle.stored_forms.specs.Search.{stepsTo};
 ghost use Rattle.segment_blocks.specs.Upkeep.{Sizes};
 ghost use Rattle.segment_cores.specs.Stores.{Unheld, Granting, Releasing, Becomes, putRest, pastOld, merged};
-ghost use Rattle.segment_cores.specs.Cores.{Searching, unitOr, Seat, Begun, Sitting, Beneath, restAt};
+ghost use Rattle.segment_cores.specs.Cores.{Searching, Seat, Begun, Sitting, Beneath, restAt};
 use segment_blocks::block_before;
 use segment_blocks::build_index;
 use segment_blocks::first_fit;
@@ -27,26 +28,34 @@ use segment_index::put_free;
 use segment_index::put_held;
 use segment_index::segment_of;
 use segment_index::size_at;
+use stored_forms::Steps;
 use words::wipe_part_signed;
 use words::wipe_signed;
 
 // The lowest word from which n words are free, or the arena's length: the root, a descent, and the scan of one
-// segment.
-pub fn search(v: &[i32], t: &[u32], segments: Segments, n: u32) -> usize
+// segment. The places looked at are counted: the root, a word at each level, and the blocks scanned.
+pub fn search(v: &[i32], t: &[u32], segments: Segments, n: u32) -> Steps
     requires { ⌜ ((L : Ledger) × Searching L (now v) (now t) (segments .count) (segments .log) n) ⌝ }
     ensures { λ r. ⌜
         ((L : Ledger) → Searching L (now (v .entry)) (now (t .entry)) (segments .count) (segments .log) n
-        → r ≡ unitOr (length (now (v .entry))) (lowestFit (free segmentRule L) (length (now (v .entry))) n))
+        → r
+        ≡ stepsTo (segments .count) (length (now (v .entry))) L
+        (lowestFit (free segmentRule L) (length (now (v .entry))) n))
         ⌝ }
 {
     let s = segments.count;
     let d = segments.log;
     if t[1] < n {
-        return v.len();
+        return Steps {
+            at: v.len(),
+            places: 1,
+        };
     }
     let k = descend(t, d, n) - s;
     let from = index_word(t, 2 * s + k);
-    first_fit(v, from, n)
+    let fit = first_fit(v, from, n);
+    let places = 1 + d as usize + fit.places;
+    Steps { at: fit.at, places }
 }
 
 // What is left of a run above a grant: a free block of y words, none where y is 0.

@@ -22,6 +22,10 @@ pub weight-size : (z : ℤ) → weight z ≤ natAbs z
 weight-size (pos n) = omega arith
 weight-size (negsuc n) = omega arith
 
+pub begins-weight : (z : ℤ) → 0 < natAbs z → 0 < weight z
+begins-weight (pos n) h = h
+begins-weight (negsuc n) h = omega arith
+
 -- ---- two ranges that agree
 
 pub largest-same : (c d : ℕ → ℤ) (u n : ℕ) → ((k : ℕ) → u ≤ k → k < u + n → c k ≡ d k) → largest c u n ≡ largest d u n

@@ -3,10 +3,14 @@ use Prim.Native.Nat.{ℕ, zero, suc, _+_, _*_, _^_, _≤_, _<_}
 use native.Mathlib.Decide.{decLt}
 use native.Mathlib.Nat.{pow-suc, mul-assoc, mul-comm, add-mul, one-mul, mul-one, mul-le-mul-left}
 use native.Mathlib.Omega.{arith}
-use mathlib.Core.Path.{_≡_, sym, subst, _∙_}
+use mathlib.Core.Bool.{Bool, true, false, cond}
+use mathlib.Core.Path.{_≡_, refl, sym, ap, subst, _∙_}
+use lib.Dec.{leb}
 use lib.ListN.{getD}
 use lib.Pow.{pow-pos}
 use Rattle.words.specs.Lists.{Words}
+use Rattle.words.proofs.Tests.{le-of, not-le}
+use Rattle.stored_forms.specs.Search.{goDown}
 use Rattle.segment_index.specs.Tree.{Heap, LowestLeaf}
 
 -- i is on the way, k levels above the leaves: those below i are the words from i * 2 ^ k on, 2 ^ k of them
@@ -106,3 +110,23 @@ way-end s t n i w = record {
   fits = w .fits;
   before = λ j a b. w .before j a (omega (arith, mul-one i));
 }
+
+-- ---- 01's descent, level by level
+
+-- it ends at the same leaf
+pub down-lowest : (s : ℕ) (t : Words) → Heap s t → (n k i : ℕ) → Way s t n k i → LowestLeaf s t n (goDown t n k i .at)
+down-lowest s t h n zero i w = way-end s t n i w
+down-lowest s t h n (suc k) i w =
+    go (leb n (getD t (2 * i) 0)) refl (down-lowest s t h n k (2 * i)) (down-lowest s t h n k (2 * i + 1))
+  where
+    go : (b : Bool) → leb n (getD t (2 * i) 0) ≡ b
+        → (Way s t n k (2 * i) → LowestLeaf s t n (goDown t n k (2 * i) .at))
+        → (Way s t n k (2 * i + 1) → LowestLeaf s t n (goDown t n k (2 * i + 1) .at))
+        → LowestLeaf s t n (goDown t n k (cond b (2 * i) (2 * i + 1)) .at)
+    go true e l r = l (way-left s t h n k i w (le-of n (getD t (2 * i) 0) e))
+    go false e l r = r (way-right s t h n k i w (not-le n (getD t (2 * i) 0) e))
+
+-- it compares a word at each level
+pub down-places : (t : Words) (n k i : ℕ) → goDown t n k i .places ≡ k
+down-places t n zero i = refl
+down-places t n (suc k) i = ap suc (down-places t n k (cond (leb n (getD t (2 * i) 0)) (2 * i) (2 * i + 1)))

@@ -5,15 +5,16 @@
 use call_parts::Named;
 use calls::Answer;
 use ledger::Row;
+use segment_requests::Allocation;
 use segment_requests::Head;
 use segment_requests::Outcome;
 ghost use mathlib.Core.Path.{_≡_};
 ghost use mathlib.Core.List.{[], _∷_};
-ghost use Rattle.calls.specs.Step.{format, allocate, release, find, look, list, step};
+ghost use Rattle.calls.specs.Step.{format, release, find, look, list, step};
 ghost use Rattle.calls.specs.Engines.{segmentEngine};
 ghost use Rattle.call_parts.specs.Results.{resultOf, wholeSlice, sliceOf};
 ghost use Rattle.segment_check.specs.Gate.{asWords, segmentPool};
-ghost use Rattle.segment_requests.specs.Outcomes.{handed};
+ghost use Rattle.segment_requests.specs.Outcomes.{handed, outcomeOf, allocated};
 
 // ---- find and look
 
@@ -97,7 +98,20 @@ pub fn format(
 
 // ---- allocate and release
 
-// Words under the next ticket, at the lowest address where enough free words lie together.
+fn with_places(done: Outcome, places: u32) -> Allocation
+    ensures { λ r. ⌜ (outcomeOf r ≡ done) × (r .places ≡ places) ⌝ }
+{
+    let head = done.head;
+    let answer = done.answer;
+    Allocation {
+        head,
+        answer,
+        places,
+    }
+}
+
+// Words under the next ticket, at the lowest address where enough free words lie together, and the places that the
+// search looked at. What the gate refuses has looked at none.
 pub fn allocate(
     head: Head,
     s: u32,
@@ -105,17 +119,20 @@ pub fn allocate(
     table: &mut [u32],
     index: &mut [u32],
     words: u32,
-) -> Outcome
-    ensures { λ r. ⌜ handed s r (now (arena .exit)) (now (table .exit)) (now (index .exit)) []
-        ≡ resultOf (step segmentEngine (allocate words)
-        (segmentPool s (head .next) (now (arena .entry)) (now (table .entry)) (now (index .entry)))) ⌝ }
+) -> Allocation
+    ensures { λ r. ⌜
+        (handed s (outcomeOf r) (now (arena .exit)) (now (table .exit)) (now (index .exit)) [], r .places)
+        ≡ allocated (segmentPool s (head .next) (now (arena .entry)) (now (table .entry)) (now (index .entry)))
+        words ⌝ }
 {
     let number = segment_check::gate_number(s, head.next, &*arena, &*table, &*index);
     if number != 0 {
-        return segment_requests::refused_with(head, number);
+        let refused = segment_requests::refused_with(head, number);
+        return with_places(refused, 0);
     }
     let done = segment_requests::grant(head, s, arena, table, index, words);
-    segment_requests::outcome_of_grant(head, words, done)
+    let outcome = segment_requests::outcome_of_grant(head, words, done);
+    with_places(outcome, (done / 4294967296) as u32)
 }
 
 // Frees exactly the block whose live ticket, address and words are named; free blocks that it touches become one with

@@ -1,11 +1,12 @@
 -- A grant on a sound segment pool: the search finds the lowest fit, and the words taken from its block leave the stored
 -- form of the ledger with the new record. Assumes nothing.
-use Prim.Native.Nat.{ℕ, _+_, _*_, _≤_, _<_}
+use Prim.Native.Nat.{ℕ, _+_, _-_, _*_, _≤_, _<_}
 use native.Mathlib.Nat.{div-one}
+use native.Mathlib.Decide.{ℕ-discrete}
 use native.Mathlib.Omega.{arith}
 use mathlib.Core.Path.{_≡_, refl, sym, ap, ap₂, _∙_}
 use mathlib.Core.Logic.{_≢_}
-use mathlib.Core.Bool.{Bool, false, _||_}
+use mathlib.Core.Bool.{true, false, _||_}
 use mathlib.Core.List.{List}
 use mathlib.Core.Option.{Option, none, some}
 use lib.Dec.{eqb, ltb}
@@ -22,21 +23,27 @@ use Rattle.ledger.specs.Records.{Ledger, row, slots, recordsOf, tableOf, enter}
 use Rattle.ledger.specs.Units.{span, addressAt, past, free, lowestFit}
 use Rattle.ledger.proofs.FitLaws.{fit-lowest}
 use Rattle.ledger.proofs.UnitLaws.{past-new}
-use Rattle.stored_forms.specs.Segments.{segmentRule}
+use Rattle.stored_forms.specs.declared.Steps.{Steps}
+use Rattle.stored_forms.specs.Segments.{segmentRule, isPower, depth, mostWords}
+use Rattle.stored_forms.specs.Search.{placesTo, stepsTo}
+use Rattle.stored_forms.proofs.SegmentLaws.{power-range}
+use Rattle.stored_forms.proofs.SearchLaws.{places-most, most-small}
+use Rattle.segment_index.proofs.SizeLaws.{size-pos}
 use Rattle.segment_index.specs.declared.Segments.{Segments}
 use Rattle.segment_index.specs.Index.{Divided}
 use Rattle.segment_cores.specs.Stores.{Granting, Becomes}
 use Rattle.segment_cores.proofs.CallLaws.{granting}
 use Rattle.segment_cores.proofs.UnitLaws.{span-words, address-after}
-use Rattle.segment_cores.specs.Cores.{unitOr}
 use Rattle.calls.specs.Pool.{Pool, nextAfter}
 use Rattle.calls.specs.Step.{ask, success, fitOf, answerTo, poolAfter}
 use Rattle.calls.specs.Engines.{segmentEngine}
+use Rattle.calls.specs.Search.{placesBy}
 use Rattle.calls.proofs.ActLaws.{Asked, ask-done}
 use Rattle.calls.proofs.GrantLaws.{over, zeroed, grant-store, next-above}
 use Rattle.record_table.proofs.SlotLaws.{empty-found}
 use Rattle.segment_requests.specs.declared.Head.{Head}
 use Rattle.segment_requests.specs.Granting.{Grantable}
+use Rattle.segment_requests.specs.Outcomes.{placesAsked}
 use Rattle.segment_check.specs.Gate.{asWords, segmentPool}
 use Rattle.segment_check.proofs.GateLaws.{InRange}
 use Rattle.segment_requests.proofs.StoredLaws.{sound-range, sound-form, stored-pool}
@@ -50,20 +57,42 @@ fit-is S next n v t x = rw (length-map v (ofZ w32), div-one (length v))
 
 -- ---- what the search says
 
-module _ (f : ℕ → Bool) (W n r : ℕ) (some-units : 1 ≤ n) (is : r ≡ unitOr W (lowestFit f W n)) where
-  pub none-fits : r ≡ W → lowestFit f W n ≡ none
-  none-fits e = go (lowestFit f W n) refl is
-    where
-      go : (o : Option ℕ) → lowestFit f W n ≡ o → r ≡ unitOr W o → o ≡ none
-      go none l h = refl
-      go (some k) l h = absurd (omega (arith, fit-lowest f W n k l .room))
+module _ (S W : ℕ) (L : Ledger) (n : ℕ) (some-units : 1 ≤ n) (r : Steps)
+    (is : r ≡ stepsTo S W L (lowestFit (free segmentRule L) W n)) where
+  abbrev fit : Option ℕ
+  fit = lowestFit (free segmentRule L) W n
 
-  pub one-fits : r ≢ W → lowestFit f W n ≡ some r
-  one-fits e = go (lowestFit f W n) refl is
+  pub none-fits : r .at ≡ W → (fit ≡ none) × (r .places ≡ 1)
+  none-fits e = go fit refl is
     where
-      go : (o : Option ℕ) → lowestFit f W n ≡ o → r ≡ unitOr W o → o ≡ some r
-      go none l h = absurd (e h)
-      go (some k) l h = ap some (sym h)
+      go : (o : Option ℕ) → fit ≡ o → r ≡ stepsTo S W L o → (o ≡ none) × (r .places ≡ 1)
+      go none l h = (refl, ap (λ (q : Steps). q .places) h)
+      go (some k) l h =
+          let at = ap (λ (q : Steps). q .at) h in
+          absurd (omega (arith, fit-lowest (free segmentRule L) W n k l .room))
+
+  pub one-fits : r .at ≢ W → (fit ≡ some (r .at)) × (r .places ≡ placesTo S W L (r .at))
+  one-fits e = go fit refl is
+    where
+      go : (o : Option ℕ) → fit ≡ o → r ≡ stepsTo S W L o → (o ≡ some (r .at)) × (r .places ≡ placesTo S W L (r .at))
+      go none l h = absurd (e (ap (λ (q : Steps). q .at) h))
+      go (some k) l h =
+          let at = ap (λ (q : Steps). q .at) h in
+          (ap some (sym at), ap (λ (q : Steps). q .places) h ∙ ap (placesTo S W L) (sym at))
+
+  pub few-places : isPower S depth ≡ true → 0 < W → W ≤ mostWords → r .places < 65536
+  few-places power some-words few = go (ℕ-discrete (r .at) W)
+    where
+      go : Dec (r .at ≡ W) → r .places < 65536
+      go (yes e) = omega (arith, none-fits e .1)
+      go (no e) =
+          let (one, segments) = power-range S depth power in
+          omega (
+            arith,
+            one-fits e .1,
+            places-most S W L (r .at) (size-pos W S one some-words),
+            most-small S W segments few,
+          )
 
 pub some-words : (n : ℕ) → (eqb n 0 || ltb 16384 n) ≡ false → 1 ≤ n
 some-words n size = let z = eqb-false n 0 (or-l (eqb n 0) (ltb 16384 n) size) in omega arith
@@ -111,6 +140,12 @@ module _ (h : Head) (S : ℕ) (v : List ℤ) (t x : Words) (n slot at : ℕ) (f 
   place-answer =
       ap (λ (y : ℕ). success (row (h .next) y n)) (sym (address-after at))
       ∙ sym (ask-done segmentEngine lent n at asked .0)
+
+  pub place-places : placesTo S (length v) L at ≡ placesAsked lent n
+  place-places =
+      let size : at ≡ at + 1 - 1 = omega arith in
+      ap₂ (λ (m k : ℕ). placesTo S m L k) (sym (length-map v (ofZ w32))) size
+      ∙ ap (placesBy lent) place-answer
 
   -- the words that a grant zeroes
   abbrev ground : List ℤ

@@ -3,3 +3,4 @@ pub mod StoredLaws
 pub mod RefusedLaws
 pub mod GrantLaws
 pub mod ReleaseLaws
+pub mod PlacesCounted

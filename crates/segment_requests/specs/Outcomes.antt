@@ -6,12 +6,15 @@ use lib.Dec.{eqb}
 use lib.IntN.{ℤ}
 use Rattle.words.specs.Lists.{Words}
 use Rattle.ledger.specs.declared.Row.{Row}
-use Rattle.calls.specs.Pool.{nextAfter}
-use Rattle.calls.specs.Step.{refusal, success}
-use Rattle.call_parts.specs.Results.{Result, result}
+use Rattle.calls.specs.Pool.{Pool, nextAfter}
+use Rattle.calls.specs.Step.{refusal, success, allocate, ask, answerTo, step}
+use Rattle.calls.specs.Engines.{segmentEngine}
+use Rattle.calls.specs.Search.{placesBy, placesOf}
+use Rattle.call_parts.specs.Results.{Result, result, resultOf}
 use Rattle.segment_check.specs.Gate.{segmentPool}
 use Rattle.segment_requests.specs.declared.Head.{Head}
 use Rattle.segment_requests.specs.declared.Outcome.{Outcome}
+use Rattle.segment_requests.specs.declared.Allocation.{Allocation}
 
 -- all that a call with S segments hands back and leaves: answer, head, arena, table, index, and the answer buffer of a
 -- list call
@@ -32,6 +35,25 @@ grantOutcome h n e =
       answer = success (record { ticket = h .next; address = e % 65536; words = n });
     })
     (refusedWith h (e / 65536))
+
+-- the two parts of a number that has both: the effect in the lower 32 bits, and above them the places looked at
+abbrev pub effectIn : ℕ → ℕ
+effectIn e = e % 4294967296
+
+abbrev pub placesIn : ℕ → ℕ
+placesIn e = e / 4294967296
+
+-- the places that an allocation of n words on a sound pool reports
+abbrev pub placesAsked : Pool → ℕ → ℕ
+placesAsked p n = placesBy p (answerTo segmentEngine p (ask n))
+
+-- an allocation's outcome, apart from its places
+abbrev pub outcomeOf : Allocation → Outcome
+outcomeOf r = record { head = r .head; answer = r .answer }
+
+-- what an allocation of n words on p comes to: the machine's result, and the places of 02's ticket 5
+abbrev pub allocated : Pool → ℕ → Result × ℕ
+allocated p n = (resultOf (step segmentEngine (allocate n) p), placesOf p n)
 
 -- what a release comes to by its number: a refusal, or the named record once more; no ticket is used up
 abbrev pub releaseOutcome : Head → Row → ℕ → Outcome

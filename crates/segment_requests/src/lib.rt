@@ -18,7 +18,8 @@ ghost use Rattle.call_parts.specs.Parts.{namedIn, actOf, requestAt, withAnswer}
 ghost use Rattle.call_parts.specs.Results.{acted, ran};
 ghost use Rattle.segment_check.specs.Gate.{segmentPool};
 ghost use Rattle.segment_requests.specs.Granting.{Grantable};
-ghost use Rattle.segment_requests.specs.Outcomes.{handed, refusedWith, grantOutcome, releaseOutcome};
+ghost use Rattle.segment_requests.specs.Outcomes.{handed, refusedWith, grantOutcome, releaseOutcome, effectIn, placesIn};
+ghost use Rattle.segment_requests.specs.Outcomes.{placesAsked};
 
 // What a call is passed and hands back: the next ticket, 0 when none is left.
 pub struct Head {
@@ -29,6 +30,13 @@ pub struct Head {
 pub struct Outcome {
     pub head: Head,
     pub answer: Answer,
+}
+
+// An outcome with the places that the search looked at: what an allocation hands back.
+pub struct Allocation {
+    pub head: Head,
+    pub answer: Answer,
+    pub places: u32,
 }
 
 // A refusal: the head as it came.
@@ -83,7 +91,16 @@ fn place(
     address
 }
 
-// An allocation on a sound pool: the tests in the order of their numbers, then the search.
+// An effect, and above its 32 bits the places that the search looked at.
+fn with_places(effect: u32, places: usize) -> u64
+    requires { ⌜ places < 65536 ⌝ }
+    ensures { λ r. ⌜ (effectIn r ≡ effect) × (placesIn r ≡ places) ⌝ }
+{
+    effect as u64 + 4294967296 * (places as u64)
+}
+
+// An allocation on a sound pool: the tests in the order of their numbers, then the search. What is refused before the
+// search has looked at no place.
 pub fn grant(
     head: Head,
     s: u32,
@@ -91,43 +108,49 @@ pub fn grant(
     table: &mut [u32],
     index: &mut [u32],
     words: u32,
-) -> u32
+) -> u64
     requires { ⌜ sound segmentEngine (segmentPool s (head .next) (now arena) (now table) (now index)) ≡ true ⌝ }
     ensures { λ r. ⌜
-        handed s (grantOutcome head words r) (now (arena .exit)) (now (table .exit)) (now (index .exit)) []
+        handed s (grantOutcome head words (effectIn r)) (now (arena .exit)) (now (table .exit)) (now (index .exit)) []
         ≡ acted segmentEngine (ask words)
         (segmentPool s (head .next) (now (arena .entry)) (now (table .entry)) (now (index .entry))) ⌝ }
+    ensures { λ r. ⌜ placesIn r
+        ≡ placesAsked (segmentPool s (head .next) (now (arena .entry)) (now (table .entry)) (now (index .entry)))
+        words ⌝ }
 {
     if (words == 0) | (16384 < words) {
-        return no_effect(2);
+        return with_places(no_effect(2), 0);
     }
     let Slot::At(slot) = record_table::empty_slot(table) else {
-        return no_effect(3);
+        return with_places(no_effect(3), 0);
     };
     let next = head.next;
     if next == 0 {
-        return no_effect(4);
+        return with_places(no_effect(4), 0);
     }
     segment_check::ranged(arena);
     let segments = segment_index::segments_of(s, arena.len());
-    let at = segment_cores::search(arena, index, segments, words + 1);
+    let fit = segment_cores::search(arena, index, segments, words + 1);
+    let at = fit.at;
     if at == arena.len() {
-        return no_effect(5);
+        return with_places(no_effect(5), fit.places);
     }
-    place(head, s, arena, table, index, words, slot, at)
+    let effect = place(head, s, arena, table, index, words, slot, at);
+    with_places(effect, fit.places)
 }
 
 // The outcome of an allocation with this effect.
-pub fn outcome_of_grant(head: Head, words: u32, done: u32) -> Outcome
-    ensures { λ r. ⌜ r ≡ grantOutcome head words done ⌝ }
+pub fn outcome_of_grant(head: Head, words: u32, done: u64) -> Outcome
+    ensures { λ r. ⌜ r ≡ grantOutcome head words (effectIn done) ⌝ }
 {
-    let number = done / 65536;
+    let effect = (done % 4294967296) as u32;
+    let number = effect / 65536;
     if number != 0 {
         return refused_with(head, number);
     }
     let new = Row {
         ticket: head.next,
-        address: done % 65536,
+        address: effect % 65536,
         words,
     };
     Outcome {

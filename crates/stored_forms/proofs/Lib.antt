@@ -3,3 +3,4 @@ pub mod TreeLaws
 pub mod SegmentLaws
 pub mod NodeLaws
 pub mod FreeTreeLaws
+pub mod SearchLaws

@@ -8,6 +8,8 @@ use Rattle.ledger.specs.Records.{row}
 use Rattle.calls.specs.declared.Answer.{Answer}
 use Rattle.calls.specs.Pool.{Pool, Engine}
 use Rattle.calls.specs.Step.{Call, format, allocate, release, Outcome, success, zeroAnswer, refusal, step}
+use Rattle.calls.specs.Engines.{segmentEngine}
+use Rattle.calls.specs.Search.{placesOf}
 
 -- An answer, and the pool after it.
 pub record State : Type 0 where
@@ -29,6 +31,11 @@ stateOf o = state (o .answer) (o .pool .head .root) (o .pool .head .next) (o .po
 abbrev pub trace : Engine → Pool → List (Call Words) → List State
 trace E p [] = []
 trace E p (c ∷ cs) = let o = step E c p in stateOf o ∷ trace E (o .pool) cs
+
+-- the places that allocations report, each on the pool that the one before left (02, ticket 5)
+abbrev pub placesIn : Pool → List ℕ → List ℕ
+placesIn p [] = []
+placesIn p (n ∷ ns) = placesOf p n ∷ placesIn (step segmentEngine (allocate n) p .pool) ns
 
 -- memory before the format, with any contents: 24 words or 16, 4 records, S 4
 abbrev pub treeMemory : Pool
@@ -110,3 +117,7 @@ segmentStates =
     (4294967292 ∷ 0 ∷ 0 ∷ 0 ∷ 4294967284 ∷ 0 ∷ 0 ∷ 0 ∷ 0 ∷ 0 ∷ 0 ∷ 0 ∷ 0 ∷ 0 ∷ 0 ∷ 0 ∷ [])
     (1 ∷ 1 ∷ 3 ∷ 2 ∷ 5 ∷ 11 ∷ 0 ∷ 0 ∷ 0 ∷ 0 ∷ 0 ∷ 0 ∷ []) (0 ∷ 1 ∷ 1 ∷ 0 ∷ 1 ∷ 1 ∷ 0 ∷ 0 ∷ 0 ∷ 4 ∷ 16 ∷ 16 ∷ []))
     ∷ []
+
+-- T13, the refused A 12, and T14
+abbrev pub segmentPlaces : List ℕ
+segmentPlaces = 4 ∷ 1 ∷ 4 ∷ []

@@ -1,9 +1,13 @@
 -- `segment_cores::search` meets its contract. Assumes nothing.
+use Prim.Native.Nat.{_+_, _-_, _*_}
 use native.Mathlib.Omega.{arith}
-use lib.ListN.{length}
+use lib.ListN.{length, getD}
+use Rattle.ledger.specs.Records.{Ledger}
+use Rattle.segment_blocks.specs.Blocks.{FirstFit}
+use Rattle.segment_cores.specs.Cores.{Searching}
 use Rattle.segment_cores.proofs.ChangeLaws.{controls}
 use Rattle.segment_cores.proofs.SearchLaws.{few-segments, index-long, root-inside, heap, search-none, leaf-low}
-use Rattle.segment_cores.proofs.SearchLaws.{leaf-inside, search-scan, search-found}
+use Rattle.segment_cores.proofs.SearchLaws.{leaf-inside, search-scan, search-few, search-found}
 use Rattle.segment_cores.proofs.search.Statement.{statement}
 use Rattle.segment_cores.proofs.search.Tie as tie
 
@@ -41,14 +45,38 @@ first-fit-requires c κs =
     let scan = search-scan L _ _ _ _ _ k _ (c .before .descend .ensures) in
     (controls L (length (s .args .v .now)), rw (c .index-word .ensures) scan)
 
-returns-2 : tie.Need-returns-2
-returns-2 c =
+-- what the scan says, in the readings of the ledger
+scanned : (c : tie.After-first-fit) (L : Ledger)
+    → let s = c .before .before .before .before .before .before in
+    let d = c .before .before in
+    let S = s .args .segments .count in
+    Searching L (s .args .v .now) (s .args .t .now) S (s .args .segments .log) (s .args .n)
+    → FirstFit (controls L (length (s .args .v .now)))
+    (getD (s .args .t .now) (2 * S + (d .descend .result - S)) 0) (s .args .n)
+    (c .first-fit .result .at) (c .first-fit .result .places)
+scanned c L k =
     let v = c .before .before .before .before .before .before .args .v .now in
     let leaf = c .before .before .descend .ensures in
     let from = c .before .index-word .ensures in
-    λ L k.
-    let fit = c .first-fit .ensures (controls L (length v)) (rw from (search-scan L _ _ _ _ _ k _ leaf)) in
-    search-found L _ _ _ _ _ k _ leaf _ (rw from at fit)
+    rw from at (c .first-fit .ensures (controls L (length v)) (rw from (search-scan L _ _ _ _ _ k _ leaf)))
+
+cast-places : tie.Need-cast-places
+cast-places c = let (L, k) = c .before .before .before .before .before .before .pre in omega (arith, k .few)
+
+add-places : tie.Need-add-places
+add-places c = let (L, k) = c .before .before .before .before .before .before .pre in omega (arith, k .few)
+
+add-places-2 : tie.Need-add-places-2
+add-places-2 c =
+    let f = c .before in
+    let (L, k) = f .before .before .before .before .before .before .pre in
+    let few = search-few L _ _ _ _ _ k _ (f .before .before .descend .ensures) _ _ (scanned f L k) in
+    omega (arith, k .few)
+
+returns-2 : tie.Need-returns-2
+returns-2 c =
+    let f = c .before in
+    λ L k. search-found L _ _ _ _ _ k _ (f .before .before .descend .ensures) _ _ (scanned f L k)
 
 pub search-spec : {M : Type 1} → statement M
 search-spec =
@@ -62,4 +90,7 @@ search-spec =
     add-index-word
     index-word-requires
     first-fit-requires
+    cast-places
+    add-places
+    add-places-2
     returns-2)

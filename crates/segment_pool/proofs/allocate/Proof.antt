@@ -11,6 +11,7 @@ use Rattle.calls.specs.Step.{allocate, ask}
 use Rattle.calls.proofs.GateLaws.{gate-opens}
 use Rattle.call_parts.proofs.ResultLaws.{gate-result, single-result}
 use Rattle.segment_requests.specs.declared.Outcome.{Outcome}
+use Rattle.segment_requests.proofs.PlacesCounted.{act-places, gate-places}
 use Rattle.segment_pool.proofs.allocate.Statement.{statement}
 use Rattle.segment_pool.proofs.allocate.Tie as tie
 
@@ -24,6 +25,9 @@ gate-number-requires c κs = search needs
 refused-with-requires : tie.Need-refused-with-requires
 refused-with-requires c κs = search needs
 
+with-places-requires : tie.Need-with-places-requires
+with-places-requires c κs = search needs
+
 same-length : tie.Need-same-length
 same-length c = search needs
 
@@ -35,12 +39,16 @@ same-length-3 c = search needs
 
 returns : tie.Need-returns
 returns c =
-    let g = c .before .before in
+    let g = c .before .before .before in
     let s = g .before .before .before .before .before .before in
-    ap (λ (o : Outcome). handed (s .args .s) o (now (s .args .arena)) (now (s .args .table)) (now (s .args .index)) [])
-    (c .refused-with .ensures)
-    ∙ gate-result segmentEngine (pool s) (g .gate-number .result) (g .gate-number .ensures) (c .before .if1 .taken)
-    (allocate (s .args .words)) refl refl
+    let result = ap (λ (o : Outcome). handed (s .args .s) o (now (s .args .arena)) (now (s .args .table))
+    (now (s .args .index)) []) (c .with-places .ensures .0 ∙ c .before .refused-with .ensures)
+    ∙ gate-result segmentEngine (pool s) (g .gate-number .result) (g .gate-number .ensures)
+    (c .before .before .if1 .taken) (allocate (s .args .words)) refl refl in
+    let places = c .with-places .ensures .1
+    ∙ gate-places (pool s) (s .args .words) (g .gate-number .result) (g .gate-number .ensures)
+    (c .before .before .if1 .taken) in
+    λ i. (result i, places i)
 
 grant-requires : tie.Need-grant-requires
 grant-requires c κs =
@@ -51,6 +59,12 @@ grant-requires c κs =
 
 outcome-of-grant-requires : tie.Need-outcome-of-grant-requires
 outcome-of-grant-requires c κs = search needs
+
+cast-with-places : tie.Need-cast-with-places
+cast-with-places c = search needs
+
+with-places-requires-2 : tie.Need-with-places-requires-2
+with-places-requires-2 c κs = search needs
 
 same-length-4 : tie.Need-same-length-4
 same-length-4 c = search needs
@@ -63,16 +77,17 @@ same-length-6 c = search needs
 
 returns-2 : tie.Need-returns-2
 returns-2 c =
-    let q = c .before .before .before .before .before .before in
+    let q = c .before .before .before .before .before .before .before in
     let g = q .before .before .before .before .before in
     let s = g .before .before .before .before .before .before in
-    let b = q .grant .last .1 .1 .0 in
-    let u = q .grant .last .1 .1 .1 .0 in
-    let x = q .grant .last .1 .1 .1 .1 .0 in
+    let m = q .grant .last .1 .1 in
     let ok = gate-opens segmentEngine (pool s) (g .gate-number .result) (g .gate-number .ensures)
     (q .before .before .before .before .if1 .left) in
-    ap (λ (y : Outcome). handed (s .args .s) y b u x []) (c .outcome-of-grant .ensures) ∙ q .grant .ensures
-    ∙ single-result segmentEngine (ask (s .args .words)) (pool s) ok
+    let result = ap (λ (y : Outcome). handed (s .args .s) y (m .0) (m .1 .0) (m .1 .1 .0) [])
+    (c .with-places2 .ensures .0 ∙ c .before .outcome-of-grant .ensures) ∙ q .grant .ensures .0
+    ∙ single-result segmentEngine (ask (s .args .words)) (pool s) ok in
+    let places = c .with-places2 .ensures .1 ∙ q .grant .ensures .1 ∙ act-places (pool s) (s .args .words) ok in
+    λ i. (result i, places i)
 
 pub allocate-spec : {M : Type 1} → statement M
 allocate-spec =
@@ -80,12 +95,15 @@ allocate-spec =
     (tie.spec
     gate-number-requires
     refused-with-requires
+    with-places-requires
     same-length
     same-length-2
     same-length-3
     returns
     grant-requires
     outcome-of-grant-requires
+    cast-with-places
+    with-places-requires-2
     same-length-4
     same-length-5
     same-length-6

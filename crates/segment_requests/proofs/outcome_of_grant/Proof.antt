@@ -4,6 +4,9 @@ use borrow.Author.Tests.{eq-eqb, ne-eqb}
 use Rattle.segment_requests.proofs.outcome_of_grant.Statement.{statement}
 use Rattle.segment_requests.proofs.outcome_of_grant.Tie as tie
 
+cast-effect : tie.Need-cast-effect
+cast-effect c = search needs
+
 refused-with-requires : tie.Need-refused-with-requires
 refused-with-requires c κs = search needs
 
@@ -23,4 +26,4 @@ returns-2 c =
 
 pub outcome-of-grant-spec : {M : Type 1} → statement M
 outcome-of-grant-spec =
-    tie.close (tie.spec refused-with-requires returns next-after-requires succeeded-requires returns-2)
+    tie.close (tie.spec cast-effect refused-with-requires returns next-after-requires succeeded-requires returns-2)

@@ -64,7 +64,7 @@ returns c =
     let u = g .grant .last .1 .1 .1 .0 in
     let x = g .grant .last .1 .1 .1 .1 .0 in
     ap (λ (o : Outcome). handed (s .args .s) o b u x []) (c .outcome-of-grant .ensures)
-    ∙ g .grant .ensures ∙ ap (λ (y : Request). acted segmentEngine (actOf y) (pool s)) (sym (m .request .given .1))
+    ∙ g .grant .ensures .0 ∙ ap (λ (y : Request). acted segmentEngine (actOf y) (pool s)) (sym (m .request .given .1))
 
 same-length-4 : tie.Need-same-length-4
 same-length-4 c = search needs

@@ -24,8 +24,8 @@ lf_answer ask_for(const contestant *c, pool *p, uint32_t words)
         p->head = o.head;
         return o.answer;
     }
-    lf_segment_outcome o = c->segment_allocate(p->head.next, (int32_t *)p->arena, p->words, p->table, 3 * p->records,
-                                               p->segments, p->index, 3 * p->segments, words);
+    lf_segment_allocation o = c->segment_allocate(p->head.next, (int32_t *)p->arena, p->words, p->table,
+                                                  3 * p->records, p->segments, p->index, 3 * p->segments, words);
     p->head.next = o.next;
     return o.answer;
 }

@@ -31,7 +31,7 @@ lf_answer __real_lf_tree_find(lf_tree_head head, const uint32_t *arena, size_t a
                               size_t table_len, NAMED);
 lf_tree_outcome __real_lf_tree_list(lf_tree_head head, TREE, LISTED);
 lf_segment_outcome __real_lf_segment_format(SEGMENT, uint32_t first);
-lf_segment_outcome __real_lf_segment_allocate(uint32_t next, SEGMENT, uint32_t words);
+lf_segment_allocation __real_lf_segment_allocate(uint32_t next, SEGMENT, uint32_t words);
 lf_segment_outcome __real_lf_segment_release(uint32_t next, SEGMENT, NAMED);
 
 lf_tree_outcome __wrap_lf_tree_format(TREE, uint32_t first)
@@ -143,13 +143,42 @@ static void forget_held(const int32_t *arena, uint32_t segments, uint32_t *index
             index[segments + at] = 0;
 }
 
-lf_segment_outcome __wrap_lf_segment_allocate(uint32_t next, SEGMENT, uint32_t words)
+/* Blocks that begin in the segment of a granted one above it; its rest was none before the grant. */
+static uint32_t blocks_above(const int32_t *arena, size_t arena_len, uint32_t segments, uint32_t address)
 {
-    lf_segment_outcome done = __real_lf_segment_allocate(next, SEGMENT_PASSED, words);
+    size_t at = address - 1, words = (arena_len + segments - 1) / segments, end = (at / words + 1) * words;
+    uint32_t count = 0;
+    at += (size_t)abs(arena[at]);
+    if (at < arena_len && arena[at] > 0)
+        at += (size_t)arena[at];
+    for (; at < end && at < arena_len; at += (size_t)abs(arena[at]))
+        count++;
+    return count;
+}
+
+/* Places counted wrongly. */
+static uint32_t miscounted(lf_segment_allocation done, const int32_t *arena, size_t arena_len, uint32_t segments)
+{
+    int granted = done.answer.number == 0;
+    if (broken(20) && granted) /* blocks above the chosen one counted too */
+        return done.places + blocks_above(arena, arena_len, segments, done.answer.address);
+    if (broken(21) && granted) /* root not counted */
+        return done.places - 1;
+    if (broken(22) && done.answer.number == LF_NO_ROOM) /* root not counted where it is too small */
+        return 0;
+    if (broken(23) && granted) /* levels not counted */
+        return done.places - (uint32_t)__builtin_ctz(segments);
+    return done.places;
+}
+
+lf_segment_allocation __wrap_lf_segment_allocate(uint32_t next, SEGMENT, uint32_t words)
+{
+    lf_segment_allocation done = __real_lf_segment_allocate(next, SEGMENT_PASSED, words);
+    done.places = miscounted(done, arena, arena_len, segments);
     if (broken(12) && done.answer.number == 0)
         forget_held(arena, segments, index);
     if (broken(13)) { /* refuses everything */
-        lf_segment_outcome refused = { next, { LF_NO_ROOM, 0, 0, 0 } };
+        lf_segment_allocation refused = { next, { LF_NO_ROOM, 0, 0, 0 }, 1 };
         return refused;
     }
     return done;

@@ -7,6 +7,7 @@ _Static_assert(WORDS(sizeof(lf_tree_head)) == 2, "head");
 _Static_assert(WORDS(sizeof(lf_answer)) == 4, "answer");
 _Static_assert(WORDS(sizeof(lf_tree_outcome)) == 6, "tree outcome");
 _Static_assert(WORDS(sizeof(lf_segment_outcome)) == 5, "segment outcome");
+_Static_assert(WORDS(sizeof(lf_segment_allocation)) == 6, "segment allocation");
 
 #define TREE uint32_t *, size_t, uint32_t *, size_t
 #define READ_TREE const uint32_t *, size_t, const uint32_t *, size_t
@@ -20,7 +21,7 @@ lf_tree_outcome lf_tree_release(lf_tree_head, TREE, uint32_t, uint32_t, uint32_t
 lf_answer lf_tree_find(lf_tree_head, READ_TREE, uint32_t, uint32_t, uint32_t);
 lf_tree_outcome lf_tree_list(lf_tree_head, TREE, LISTED);
 lf_segment_outcome lf_segment_format(SEGMENT, uint32_t);
-lf_segment_outcome lf_segment_allocate(uint32_t, SEGMENT, uint32_t);
+lf_segment_allocation lf_segment_allocate(uint32_t, SEGMENT, uint32_t);
 lf_segment_outcome lf_segment_release(uint32_t, SEGMENT, uint32_t, uint32_t, uint32_t);
 lf_answer lf_segment_find(uint32_t, READ_SEGMENT, uint32_t, uint32_t, uint32_t);
 lf_segment_outcome lf_segment_list(uint32_t, SEGMENT, LISTED);

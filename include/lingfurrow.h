@@ -37,9 +37,9 @@
  *
  * WHAT IS PROVED (crates/pool_c, by the Rattle prover): for all numbers and all contents of the buffers, each function
  * of the archive returns, touches nothing outside the buffers, and both its outcome and every word that it leaves are
- * those that crates/calls/specs/Step.antt defines. Of restarts (crates/calls/specs/Restart.antt): no ticket below the
- * number given to format is ever live in the new pool, as long as each call that is not refused gets head and table as
- * the one before left them, and no other format is accepted there.
+ * those that crates/calls/specs/Step.antt defines, and Search.antt there for the places that an allocation reports. Of
+ * restarts (Restart.antt there): no ticket below the number given to format is ever live in the new pool, as long as
+ * each call that is not refused gets head and table as the one before left them, and no other format is accepted there.
  *
  * WHAT IS NOT PROVED, and is yours to see to:
  *   - Pointers are not null, not even with length 0, aligned to 4 bytes, and good for their length.
@@ -124,6 +124,13 @@ typedef struct {
     lf_answer answer;
 } lf_segment_outcome;
 
+/* The outcome of lf_segment_allocate, and how many places its search looked at. */
+typedef struct {
+    uint32_t next;
+    lf_answer answer;
+    uint32_t places;
+} lf_segment_allocation;
+
 /* ---- the tree pool */
 
 /* Makes a pool in which all is free and the next ticket is `first`, whatever the buffers held; RESTART above says which
@@ -180,9 +187,12 @@ static inline lf_tree_slice lf_tree_look(lf_tree_head head, const uint32_t *aren
 lf_segment_outcome lf_segment_format(int32_t *arena, size_t arena_len, uint32_t *table, size_t table_len,
                                      uint32_t segments, uint32_t *index, size_t index_len, uint32_t first);
 
-lf_segment_outcome lf_segment_allocate(uint32_t next, int32_t *arena, size_t arena_len, uint32_t *table,
-                                       size_t table_len, uint32_t segments, uint32_t *index, size_t index_len,
-                                       uint32_t words);
+/* `places` is 1 with LF_NO_ROOM, 0 with any other refusal, else 1, plus log2(segments), plus the number of blocks, free
+ * or held, that begin in the segment of the granted one at or below it. These are the steps of the search; they are at
+ * most 1 + log2(segments) + words per segment, so an installer can promise 73 for 16,384 words and 256 segments. */
+lf_segment_allocation lf_segment_allocate(uint32_t next, int32_t *arena, size_t arena_len, uint32_t *table,
+                                          size_t table_len, uint32_t segments, uint32_t *index, size_t index_len,
+                                          uint32_t words);
 
 lf_segment_outcome lf_segment_release(uint32_t next, int32_t *arena, size_t arena_len, uint32_t *table,
                                       size_t table_len, uint32_t segments, uint32_t *index, size_t index_len,

@@ -10,9 +10,20 @@ typedef struct {
     shape h;
 } segment_pool;
 
+// The lowest free block that is large enough, and the places looked at to find it.
+typedef struct {
+    size_t at;
+    uint32_t places;
+} fit;
+
 static inline lf_segment_outcome segment_refused(uint32_t next, uint32_t number)
 {
     return (lf_segment_outcome){next, refused(number)};
+}
+
+static inline lf_segment_allocation not_granted(uint32_t next, uint32_t number)
+{
+    return (lf_segment_allocation){next, refused(number), number == NO_ROOM};
 }
 
 // The control words at a, b and, where a free block lay there, e have changed; `end` is the first block past them. Each
@@ -37,13 +48,15 @@ static ALWAYS_INLINE void reindex_grant(const segment_pool *p, size_t at, size_t
 }
 
 // The lowest free block of n words or more, where the root of the index says that there is one.
-static ALWAYS_INLINE size_t first_fit(const segment_pool *p, uint32_t n)
+static ALWAYS_INLINE fit first_fit(const segment_pool *p, uint32_t n)
 {
     size_t k = descend(p->index, p->h.s, n) - p->h.s;
-    size_t at = p->index[2 * p->h.s + k];
-    while (weight_of(p->v[at]) < n)
-        at += size_of(p->v[at]);
-    return at;
+    fit f = {p->index[2 * p->h.s + k], 2 + (uint32_t)__builtin_ctzl(p->h.s)};
+    while (weight_of(p->v[f.at]) < n) {
+        f.at += size_of(p->v[f.at]);
+        f.places++;
+    }
+    return f;
 }
 
 static ALWAYS_INLINE void take_words(const segment_pool *p, size_t at, size_t n)
@@ -83,22 +96,22 @@ static ALWAYS_INLINE void give_words(const segment_pool *p, size_t at, size_t n)
 }
 
 // An allocation on a sound pool.
-static ALWAYS_INLINE lf_segment_outcome segment_grant(uint32_t next, const segment_pool *p, uint32_t words)
+static ALWAYS_INLINE lf_segment_allocation segment_grant(uint32_t next, const segment_pool *p, uint32_t words)
 {
     if (words == 0 || words > MOST_WORDS)
-        return segment_refused(next, BAD_WORDS);
+        return not_granted(next, BAD_WORDS);
     size_t slot = empty_slot(p->table, p->slots);
     if (slot == p->slots)
-        return segment_refused(next, NO_RECORD);
+        return not_granted(next, NO_RECORD);
     if (next == 0)
-        return segment_refused(next, NO_TICKET);
+        return not_granted(next, NO_TICKET);
     if (p->index[1] < words + 1)
-        return segment_refused(next, NO_ROOM);
-    size_t at = first_fit(p, words + 1);
-    take_words(p, at, words + 1);
-    row new = {next, (uint32_t)(at + 1), words};
+        return not_granted(next, NO_ROOM);
+    fit f = first_fit(p, words + 1);
+    take_words(p, f.at, words + 1);
+    row new = {next, (uint32_t)(f.at + 1), words};
     write_row(p->table, slot, new);
-    return (lf_segment_outcome){next_after(next), succeeded(new)};
+    return (lf_segment_allocation){next_after(next), succeeded(new), f.places};
 }
 
 // A release on a sound pool.
@@ -114,8 +127,10 @@ static ALWAYS_INLINE lf_segment_outcome segment_vacate(uint32_t next, const segm
 
 static ALWAYS_INLINE lf_segment_outcome segment_serve(uint32_t next, const segment_pool *p, const uint32_t *q)
 {
-    if (q[0] == 1 && (q[2] | q[3]) == 0)
-        return segment_grant(next, p, q[1]);
+    if (q[0] == 1 && (q[2] | q[3]) == 0) {
+        lf_segment_allocation one = segment_grant(next, p, q[1]);
+        return (lf_segment_outcome){one.next, one.answer};
+    }
     if (q[0] == 2)
         return segment_vacate(next, p, (row){q[1], q[2], q[3]});
     return segment_refused(next, BAD_REQUEST);
@@ -141,13 +156,13 @@ lf_segment_outcome TWIN(segment_format)(int32_t *restrict arena, size_t arena_le
     return (lf_segment_outcome){first, {DONE, 0, 0, 0}};
 }
 
-lf_segment_outcome TWIN(segment_allocate)(uint32_t next, int32_t *restrict arena, size_t arena_len,
-                                          uint32_t *restrict table, size_t table_len, uint32_t segments,
-                                          uint32_t *restrict index, size_t index_len, uint32_t words)
+lf_segment_allocation TWIN(segment_allocate)(uint32_t next, int32_t *restrict arena, size_t arena_len,
+                                             uint32_t *restrict table, size_t table_len, uint32_t segments,
+                                             uint32_t *restrict index, size_t index_len, uint32_t words)
 {
     uint32_t number = segment_gate(next, arena, arena_len, table, table_len, segments, index, index_len);
     if (number != DONE)
-        return segment_refused(next, number);
+        return not_granted(next, number);
     segment_pool p = {arena, table, table_len / RECORD_WORDS, index, shape_of(arena_len, segments)};
     return segment_grant(next, &p, words);
 }

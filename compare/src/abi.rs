@@ -26,6 +26,14 @@ pub struct SegmentOutcome {
 
 #[derive(Clone, Copy)]
 #[repr(C)]
+pub struct SegmentAllocation {
+    pub next: u32,
+    pub answer: Answer,
+    pub places: u32,
+}
+
+#[derive(Clone, Copy)]
+#[repr(C)]
 pub struct TreeSlice {
     pub words: *const u32,
     pub len: usize,
@@ -80,7 +88,7 @@ unsafe extern "C" {
     pub fn lf_segment_allocate(
         next: Word, arena: *mut i32, arena_len: usize, table: *mut u32, table_len: usize,
         segments: Word, index: *mut u32, index_len: usize, words: Word,
-    ) -> SegmentOutcome;
+    ) -> SegmentAllocation;
     pub fn lf_segment_release(
         next: Word, arena: *mut i32, arena_len: usize, table: *mut u32, table_len: usize,
         segments: Word, index: *mut u32, index_len: usize, ticket: Word, address: Word, words: Word,

@@ -6,7 +6,7 @@ use crate::library::{Lent, Library, Played};
 use crate::model::{self, Call, Head, Outcome, Placeholder, Pool, Slice};
 use crate::random::Random;
 use crate::tally::Tally;
-use crate::{situations, watch};
+use crate::{segment_search, situations, watch};
 use std::ops::Range;
 
 pub struct Bench {
@@ -67,6 +67,7 @@ impl Bench {
         self.library.lend_for(call, &mut self.place);
         let played = self.library.play(pool, call);
         let outcome = model::make(pool, call);
+        self.check_search(&before, call, &outcome);
         let differences = self.differences(pool, call, &played, &outcome);
         if !differences.is_empty() {
             let size = before.arena.len() + before.table.len() + before.index.len();
@@ -126,6 +127,7 @@ impl Bench {
         if slice.is_none() {
             differ("answer", &outcome.answer, &played.answer, &mut all);
             differ("head", &outcome.head, &played.head, &mut all);
+            differ("places", &outcome.places, &played.places, &mut all);
         }
         compare_words("arena", &pool.arena, &self.library.lent.arena, &mut all);
         compare_words("table", &pool.table, &self.library.lent.table, &mut all);
@@ -138,6 +140,22 @@ impl Bench {
             compare_words("placeholder", words, &self.library.placeholder, &mut all);
         }
         all
+    }
+
+    /// 001's search in the words as they were finds the block granted, after as many places as request 5
+    /// counts, which are no more than it allows.
+    fn check_search(&mut self, before: &Pool, call: &Call, outcome: &Outcome) {
+        let (Call::Allocate(words), Some(places), 0 | 5) = (call, outcome.places, outcome.answer.number) else {
+            return;
+        };
+        let (arena, index, segments) = (&before.arena, &before.index, before.segments as usize);
+        let found = segment_search::search(arena, index, segments, words + 1);
+        let due = ((outcome.answer.number == 0).then(|| outcome.answer.address as usize - 1), places);
+        let most = segment_search::most_places(arena.len(), segments);
+        if found != due || places > most {
+            let told = format!("  {call:?}: the search found {found:?}, due {due:?}, at most {most}");
+            self.tally.mismatch(self.section, arena.len(), told);
+        }
     }
 
     /// Where a slice due lies in the library's buffers, and its length.

@@ -32,14 +32,17 @@ impl Sheet<'_> {
         self.due(line, outcome.answer, Answer::default());
     }
 
-    fn grant(&mut self, line: &str, words: u32, ticket: u32, address: u32) {
+    /// Hands back the places looked at.
+    fn grant(&mut self, line: &str, words: u32, ticket: u32, address: u32) -> Option<u32> {
         let outcome = self.bench.step(&mut self.pool, &Call::Allocate(words));
         self.due(line, outcome.answer, Answer { number: 0, ticket, address, words });
+        outcome.places
     }
 
-    fn no_grant(&mut self, line: &str, words: u32, number: u32) {
+    fn no_grant(&mut self, line: &str, words: u32, number: u32) -> Option<u32> {
         let outcome = self.bench.step(&mut self.pool, &Call::Allocate(words));
         self.due(line, outcome.answer, Answer::refusal(number));
+        outcome.places
     }
 
     fn release(&mut self, line: &str, [ticket, address, words]: [u32; 3], number: u32) {
@@ -117,7 +120,9 @@ fn segment(bench: &mut Bench) {
     sheet.word("T13", 0, -4i32 as u32);
     sheet.word("T13", 4, 12);
     sheet.index("T13", [0, 12, 12, 0, 1, 12, 0, 0], [0, 4, 16, 16]);
-    sheet.no_grant("A 12", 12, 5);
-    sheet.grant("T14", 11, 2, 5);
+    let places = sheet.no_grant("A 12", 12, 5);
+    sheet.due("A 12", places, Some(1));
+    let places = sheet.grant("T14", 11, 2, 5);
+    sheet.due("T14", places, Some(4));
     sheet.index("T14", [0, 1, 1, 0, 1, 1, 0, 0], [0, 4, 16, 16]);
 }

@@ -16,6 +16,7 @@ mod pools;
 mod random;
 mod restart;
 mod segment_form;
+mod segment_search;
 mod single_calls;
 mod situations;
 mod tally;

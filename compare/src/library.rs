@@ -5,12 +5,14 @@ use crate::guarded::{Guarded, Words};
 use crate::model::{Answer, Call, Engine, Head, Placeholder, Pool};
 use crate::random::Random;
 
-/// What the library handed back; a look only its slice, by place and length.
+/// What the library handed back; a look only its slice, by place and length; an allocation in the
+/// segment pool also the places looked at.
 #[derive(Clone, Copy, PartialEq, Eq, Debug)]
 pub struct Played {
     pub head: Head,
     pub answer: Answer,
     pub slice: Option<(usize, usize)>,
+    pub places: Option<u32>,
 }
 
 /// Where everything lies that a call may take.
@@ -124,7 +126,7 @@ fn play_tree(pool: &Pool, view: &View, call: &Call) -> Played {
             Call::List { .. } => abi::lf_tree_list(head, a.at, a.len, t.at, t.len, r.at, r.len, w.at, w.len),
             Call::Find(_) => {
                 let answer = abi::lf_tree_find(head, a.at, a.len, t.at, t.len, ticket, address, words);
-                return Played { head: pool.head, answer, slice: None };
+                return Played { head: pool.head, answer, slice: None, places: None };
             }
             Call::Look(..) => {
                 let slice = abi::compare_tree_look(head, a.at, a.len, t.at, t.len, p.at, p.len, ticket, address, words);
@@ -132,7 +134,8 @@ fn play_tree(pool: &Pool, view: &View, call: &Call) -> Played {
             }
         }
     };
-    Played { head: Head { root: done.head.root, next: done.head.next }, answer: done.answer, slice: None }
+    let head = Head { root: done.head.root, next: done.head.next };
+    Played { head, answer: done.answer, slice: None, places: None }
 }
 
 fn play_segment(pool: &Pool, view: &View, call: &Call) -> Played {
@@ -144,7 +147,11 @@ fn play_segment(pool: &Pool, view: &View, call: &Call) -> Played {
     let done = unsafe {
         match call {
             Call::Format(_) => abi::lf_segment_format(v, a.len, t.at, t.len, s, i.at, i.len, ticket),
-            Call::Allocate(_) => abi::lf_segment_allocate(next, v, a.len, t.at, t.len, s, i.at, i.len, words),
+            Call::Allocate(_) => {
+                let done = abi::lf_segment_allocate(next, v, a.len, t.at, t.len, s, i.at, i.len, words);
+                let head = Head { root: 0, next: done.next };
+                return Played { head, answer: done.answer, slice: None, places: Some(done.places) };
+            }
             Call::Release(_) => {
                 abi::lf_segment_release(next, v, a.len, t.at, t.len, s, i.at, i.len, ticket, address, words)
             }
@@ -153,7 +160,7 @@ fn play_segment(pool: &Pool, view: &View, call: &Call) -> Played {
             }
             Call::Find(_) => {
                 let answer = abi::lf_segment_find(next, v, a.len, t.at, t.len, s, i.at, i.len, ticket, address, words);
-                return Played { head: pool.head, answer, slice: None };
+                return Played { head: pool.head, answer, slice: None, places: None };
             }
             Call::Look(..) => {
                 let look = abi::compare_segment_look;
@@ -162,11 +169,11 @@ fn play_segment(pool: &Pool, view: &View, call: &Call) -> Played {
             }
         }
     };
-    Played { head: Head { root: 0, next: done.next }, answer: done.answer, slice: None }
+    Played { head: Head { root: 0, next: done.next }, answer: done.answer, slice: None, places: None }
 }
 
 impl Played {
     fn look(pool: &Pool, at: usize, len: usize) -> Played {
-        Played { head: pool.head, answer: Answer::default(), slice: Some((at, len)) }
+        Played { head: pool.head, answer: Answer::default(), slice: Some((at, len)), places: None }
     }
 }

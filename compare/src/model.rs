@@ -1,10 +1,11 @@
 //! The calls of document 01 on any memory, in its order of numbers: 8, 1, 9, then 2 to 5 or 6, 7; and
-//! format as request 2 of document 02 has it, with the first ticket number: 8, 6.
+//! format as request 2 of document 02 has it, with the first ticket number: 8, 6; and the places of
+//! request 5, counted from the ledger before the call.
 //! Soundness as 01 says it: read the ledger off the table, compute its stored form over the
 //! callers' words, compare.
 
 use crate::ledger::{Ledger, Record, UnitRule};
-use crate::{segment_form, tree_form};
+use crate::{segment_form, segment_search, tree_form};
 
 #[derive(Clone, Copy, PartialEq, Eq, Debug)]
 pub enum Engine {
@@ -72,6 +73,8 @@ pub struct Outcome {
     pub answer: Answer,
     pub slice: Option<Slice>,
     pub answers: Vec<u32>,
+    /// Only for an allocation in the segment pool.
+    pub places: Option<u32>,
 }
 
 impl Engine {
@@ -152,9 +155,14 @@ impl Pool {
 pub fn make(pool: &mut Pool, call: &Call) -> Outcome {
     let mut slice = None;
     let mut answers = Vec::new();
+    let mut places = None;
     let answer = match call {
         Call::Format(first) => return format(pool, *first),
-        Call::Allocate(words) => allocate(pool, *words),
+        Call::Allocate(words) => {
+            let (answer, looked_at) = allocate(pool, *words);
+            places = looked_at;
+            answer
+        }
         Call::Release(named) => release(pool, *named),
         Call::Find(named) => find(pool, *named),
         Call::Look(named, _) => {
@@ -167,11 +175,12 @@ pub fn make(pool: &mut Pool, call: &Call) -> Outcome {
             list(pool, requests, &mut answers)
         }
     };
-    Outcome { head: pool.head, answer, slice, answers }
+    Outcome { head: pool.head, answer, slice, answers, places }
 }
 
 fn format(pool: &mut Pool, first: u32) -> Outcome {
-    let nothing = Outcome { head: Head { root: 0, next: 0 }, answer: Answer::default(), slice: None, answers: vec![] };
+    let (head, answer) = (Head { root: 0, next: 0 }, Answer::default());
+    let nothing = Outcome { head, answer, slice: None, answers: vec![], places: None };
     if !pool.lengths_suit() {
         return Outcome { answer: Answer::refusal(8), ..nothing };
     }
@@ -183,13 +192,21 @@ fn format(pool: &mut Pool, first: u32) -> Outcome {
     Outcome { head: pool.head, ..nothing }
 }
 
-fn allocate(pool: &mut Pool, words: u32) -> Answer {
-    Answer::of(pool.ledger().and_then(|mut ledger| {
-        let record = ledger.grant(words)?;
-        pool.zero(&ledger, record);
-        pool.take_form_of(&ledger);
-        Ok(record)
-    }))
+/// The answer, and in the segment pool the places looked at.
+fn allocate(pool: &mut Pool, words: u32) -> (Answer, Option<u32>) {
+    let reports = pool.engine == Engine::Segment;
+    let before = match pool.ledger() {
+        Ok(ledger) => ledger,
+        Err(number) => return (Answer::refusal(number), reports.then_some(0)),
+    };
+    let mut after = before.clone();
+    let granted = after.grant(words);
+    if let Ok(record) = granted {
+        pool.zero(&after, record);
+        pool.take_form_of(&after);
+    }
+    let places = reports.then(|| segment_search::places(&before, pool.segments as usize, granted));
+    (Answer::of(granted), places)
 }
 
 fn release(pool: &mut Pool, named: Record) -> Answer {

@@ -2,6 +2,7 @@
 
 use crate::ledger::{Ledger, Record, Run};
 use crate::model::{Call, Engine, Outcome, Placeholder, Pool};
+use crate::segment_form::blocks_of;
 use crate::tally::Tally;
 
 pub fn note(tally: &mut Tally, before: &Pool, call: &Call, outcome: &Outcome) {
@@ -22,7 +23,10 @@ pub fn note(tally: &mut Tally, before: &Pool, call: &Call, outcome: &Outcome) {
     let free = ledger.free_runs();
     note_pool(tally, before, &ledger, &free);
     match call {
-        Call::Allocate(_) if outcome.answer.number == 0 => note_grant(tally, engine, &ledger, &free, outcome),
+        Call::Allocate(_) if outcome.answer.number == 0 => {
+            note_grant(tally, engine, &ledger, &free, outcome);
+            note_search(tally, before, &ledger, outcome);
+        }
         Call::Release(named) if outcome.answer.number == 0 => note_release(tally, engine, &ledger, &free, *named),
         Call::Release(named) | Call::Find(named) if outcome.answer.number == 6 => {
             note_unknown(tally, engine, &ledger, *named)
@@ -76,6 +80,22 @@ fn note_grant(tally: &mut Tally, engine: Engine, ledger: &Ledger, free: &[Run], 
     let slot = ledger.slots.iter().position(Option::is_none).unwrap_or(0);
     let full_above = ledger.slots[slot..].iter().any(Option::is_some);
     tally.situation(engine, "grant in a slot below a full one", full_above);
+}
+
+/// What lies in the segment of the block granted.
+fn note_search(tally: &mut Tally, pool: &Pool, ledger: &Ledger, outcome: &Outcome) {
+    if pool.engine != Engine::Segment {
+        return;
+    }
+    let per_segment = pool.arena.len().div_ceil(pool.segments as usize);
+    let chosen = outcome.answer.address as usize - 1;
+    let mut beside = blocks_of(ledger);
+    beside.retain(|block| block.first / per_segment == chosen / per_segment);
+    let below = |held: bool| beside.iter().any(|block| block.first < chosen && block.held == held);
+    tally.situation(pool.engine, "search past a held block", below(true));
+    tally.situation(pool.engine, "search past a free block", below(false));
+    let above = beside.iter().any(|block| block.first > chosen);
+    tally.situation(pool.engine, "blocks above the chosen one in its segment", above);
 }
 
 fn note_release(tally: &mut Tally, engine: Engine, ledger: &Ledger, free: &[Run], named: Record) {

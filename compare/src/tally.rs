@@ -64,8 +64,16 @@ pub const SITUATIONS: [&str; 40] = [
 ];
 
 /// And the segment pool alone.
-pub const SEGMENT_SITUATIONS: [&str; 5] =
-    ["damage seen: index", "S above W", "W no multiple of S", "free block of one word", "S of 1"];
+pub const SEGMENT_SITUATIONS: [&str; 8] = [
+    "damage seen: index",
+    "S above W",
+    "W no multiple of S",
+    "free block of one word",
+    "S of 1",
+    "search past a held block",
+    "search past a free block",
+    "blocks above the chosen one in its segment",
+];
 
 #[derive(Default)]
 pub struct Tally {

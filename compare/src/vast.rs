@@ -72,9 +72,10 @@ fn calls(which: usize) -> Vec<Call> {
 
 /// All is refused with 8 but a list with much room for answers; look hands back the placeholder.
 fn due(pool: &Pool, view: &View, call: &Call, vast: &str) -> Played {
-    let refused = Played { head: pool.head, answer: Answer::refusal(8), slice: None };
+    let refused = Played { head: pool.head, answer: Answer::refusal(8), slice: None, places: None };
     match call {
         Call::Format(_) => Played { head: Head { root: 0, next: 0 }, ..refused },
+        Call::Allocate(_) => Played { places: (pool.engine == Engine::Segment).then_some(0), ..refused },
         Call::Look(..) => {
             let slice = Some((view.placeholder.at as usize, view.placeholder.len));
             Played { answer: Answer::default(), slice, ..refused }

@@ -9,6 +9,7 @@
 #define RECORDS 4u
 #define ARENA_WORDS 24u
 #define SEGMENTS 4u
+#define MOST_PLACES (1u + 2u + ARENA_WORDS / SEGMENTS) /* 2 is the logarithm of SEGMENTS */
 #define BURST 4u
 
 /* What the loop below needs of a pool. The answer of allocate, ticket, address and words, is what the radio gets with
@@ -110,11 +111,19 @@ static uint32_t segment_next_ticket(void)
     return segment_next;
 }
 
+/* With the places that the search for room looked at. */
+static lf_segment_allocation segment_allocate_counted(uint32_t words)
+{
+    lf_segment_allocation done = lf_segment_allocate(segment_next, segment_arena, ARENA_WORDS, segment_table,
+                                                     LF_TABLE_WORDS(RECORDS), SEGMENTS, segment_index,
+                                                     LF_INDEX_WORDS(SEGMENTS), words);
+    segment_next = done.next;
+    return done;
+}
+
 static lf_answer segment_allocate(uint32_t words)
 {
-    return segment_keep(lf_segment_allocate(segment_next, segment_arena, ARENA_WORDS, segment_table,
-                                            LF_TABLE_WORDS(RECORDS), SEGMENTS, segment_index,
-                                            LF_INDEX_WORDS(SEGMENTS), words));
+    return segment_allocate_counted(words).answer;
 }
 
 static lf_answer segment_release(lf_answer named)
@@ -302,6 +311,15 @@ static lf_answer run_on(const pool *on)
     return restart(on, on->next_ticket(), earlier);
 }
 
+/* The segment pool says how far each search for room went. */
+static void count_places(void)
+{
+    for (uint32_t words = 2; words < 4; words++) {
+        printf("  search for room, words %" PRIu32 ": places %" PRIu32 ", at most %u\n", words,
+               segment_allocate_counted(words).places, MOST_PLACES);
+    }
+}
+
 int main(void)
 {
     for (size_t i = 0; i < sizeof pools / sizeof pools[0]; i++) {
@@ -311,5 +329,6 @@ int main(void)
             return 1;
         }
     }
+    count_places();
     return 0;
 }

@@ -7,6 +7,7 @@ use std::fmt::Display;
 const RECORDS: usize = 4;
 const ARENA_WORDS: usize = 24;
 const SEGMENTS: usize = 4;
+const MOST_PLACES: usize = 1 + SEGMENTS.ilog2() as usize + ARENA_WORDS / SEGMENTS;
 
 /// What comes in: a command of some words for a dryer, or the radio's release of the command that came as the n-th.
 enum Event {
@@ -115,6 +116,14 @@ where
     Ok(())
 }
 
+/// The segment pool says how far each search for room went.
+fn count_places(pool: &mut SegmentPool) {
+    for words in 2..4 {
+        let (_, places) = pool.allocate_counted(words);
+        println!("  search for room, words {words}: places {places}, at most {MOST_PLACES}");
+    }
+}
+
 fn main() -> Result<(), Refusal> {
     let mut arena = [0; ARENA_WORDS];
     let mut table = [0; 3 * RECORDS];
@@ -131,5 +140,8 @@ fn main() -> Result<(), Refusal> {
     println!("segment pool, words {ARENA_WORDS}, records {RECORDS}");
     let earlier = serve(&mut pool)?;
     let stored = pool.head();
-    restarted(&mut SegmentPool::format(&mut arena, &mut table, SEGMENTS as u32, &mut index, stored)?, stored, earlier)
+    let mut pool = SegmentPool::format(&mut arena, &mut table, SEGMENTS as u32, &mut index, stored)?;
+    restarted(&mut pool, stored, earlier)?;
+    count_places(&mut pool);
+    Ok(())
 }

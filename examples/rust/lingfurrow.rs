@@ -122,6 +122,13 @@ struct SegmentOutcome {
     answer: Answer,
 }
 
+#[repr(C)]
+struct SegmentAllocation {
+    next: u32,
+    answer: Answer,
+    places: u32,
+}
+
 #[rustfmt::skip]
 extern "C" {
     fn lf_tree_format(arena: *mut u32, arena_len: usize, table: *mut u32, table_len: usize, first: u32) -> TreeOutcome;
@@ -137,7 +144,7 @@ extern "C" {
     fn lf_segment_format(arena: *mut i32, arena_len: usize, table: *mut u32, table_len: usize, segments: u32,
         index: *mut u32, index_len: usize, first: u32) -> SegmentOutcome;
     fn lf_segment_allocate(next: u32, arena: *mut i32, arena_len: usize, table: *mut u32, table_len: usize,
-        segments: u32, index: *mut u32, index_len: usize, words: u32) -> SegmentOutcome;
+        segments: u32, index: *mut u32, index_len: usize, words: u32) -> SegmentAllocation;
     fn lf_segment_release(next: u32, arena: *mut i32, arena_len: usize, table: *mut u32, table_len: usize,
         segments: u32, index: *mut u32, index_len: usize, ticket: u32, address: u32, words: u32) -> SegmentOutcome;
     fn lf_segment_find(next: u32, arena: *const i32, arena_len: usize, table: *const u32, table_len: usize,
@@ -274,6 +281,15 @@ impl<'a> SegmentPool<'a> {
         self.next
     }
 
+    /// `allocate`, with the places that its search looked at; the header says what they are and how many at most.
+    pub fn allocate_counted(&mut self, words: u32) -> (Result<Run, Refusal>, u32) {
+        let (a, t, x) = (self.arena.as_mut_ptr(), self.table.as_mut_ptr(), self.index.as_mut_ptr());
+        let (a_len, t_len, x_len) = (self.arena.len(), self.table.len(), self.index.len());
+        let done = unsafe { lf_segment_allocate(self.next, a, a_len, t, t_len, self.segments, x, x_len, words) };
+        self.next = done.next;
+        (done.answer.result(), done.places)
+    }
+
     fn keep(&mut self, outcome: SegmentOutcome) -> Result<Run, Refusal> {
         self.next = outcome.next;
         outcome.answer.result()
@@ -285,11 +301,7 @@ impl Pool for SegmentPool<'_> {
     type Word = i32;
 
     fn allocate(&mut self, words: u32) -> Result<Run, Refusal> {
-        let outcome = unsafe {
-            lf_segment_allocate(self.next, self.arena.as_mut_ptr(), self.arena.len(), self.table.as_mut_ptr(),
-                self.table.len(), self.segments, self.index.as_mut_ptr(), self.index.len(), words)
-        };
-        self.keep(outcome)
+        self.allocate_counted(words).0
     }
 
     fn release(&mut self, run: Run) -> Result<Run, Refusal> {

@@ -55,31 +55,33 @@ CRATES = [
     (5, 1, BOTH, SHARED, "call_parts", "answers, named records, lists"),
     (6, 1, LEFT, TREE, "tree_nodes", "nodes of the free tree in the arena"),
     (7, 1, (390, 540), TREE, "free_tree", "fit, insert, delete"),
-    (8, 1, (390, 540), TREE, "free_blocks", "cells taken, given back"),
-    (7, 2, (550, 700), TREE, "tree_check", "the head; one check"),
-    (9, 1, LEFT, TREE, "tree_cores", "grant, release, requests"),
-    (10, 1, LEFT, TREE, "tree_pool", "the six calls"),
+    (8, 2, (390, 540), TREE, "free_blocks", "cells taken, given back"),
+    (7, 3, (550, 700), TREE, "tree_check", "the head; one check"),
+    (10, 1, LEFT, TREE, "tree_requests", "grant, release, lists on a sound pool"),
+    (11, 1, LEFT, TREE, "tree_pool", "the six calls"),
     (6, 1, RIGHT, SEGMENT, "segment_index", "control words, tree of the index"),
     (7, 1, RIGHT, SEGMENT, "segment_blocks", "scans and upkeep"),
-    (8, 1, RIGHT, SEGMENT, "segment_cores", "search, grant, release, format"),
+    (8, 1, RIGHT, SEGMENT, "segment_cores", "search, grant, release, format of the arena"),
     (9, 1, RIGHT, SEGMENT, "segment_check", "one exact check of blocks and index"),
-    (10, 1, RIGHT, SEGMENT, "segment_pool", "the six calls"),
-    (11, 1, (160, 485), OUTER, "pool_text", "the program's meaning; serves chunks"),
-    (12, 1, (160, 485), OUTER, "text_session", "between two files"),
-    (13, 1, (160, 317), OUTER, "pool", "the program"),
-    (13, 1, (327, 485), TRIED, "text_cases", "its cases"),
-    (11, 1, (495, 635), TRIED, "tree_cases", "worked cases"),
-    (12, 1, (495, 635), TRIED, "tree_traffic", "random calls"),
-    (11, 1, (645, 840), OUTER, "pool_c", "both pools' calls for C"),
-    (11, 1, (850, 1020), TRIED, "segment_cases", "worked cases"),
-    (12, 1, (850, 1020), TRIED, "segment_traffic", "random calls"),
+    (10, 1, RIGHT, SEGMENT, "segment_requests", "grant, release, lists on a sound pool"),
+    (11, 1, RIGHT, SEGMENT, "segment_pool", "the six calls"),
+    (12, 1, (160, 485), OUTER, "pool_text", "the program's meaning; serves chunks"),
+    (13, 1, (160, 485), OUTER, "text_session", "between two files"),
+    (14, 1, (160, 317), OUTER, "pool", "the program"),
+    (14, 1, (327, 485), TRIED, "text_cases", "its cases"),
+    (12, 1, (495, 635), TRIED, "tree_cases", "worked cases"),
+    (13, 1, (495, 635), TRIED, "tree_traffic", "random calls"),
+    (14, 1, (495, 635), TRIED, "insert_counts", "links stored"),
+    (12, 1, (645, 840), OUTER, "pool_c", "both pools' calls for C"),
+    (12, 1, (850, 1020), TRIED, "segment_cases", "worked cases"),
+    (13, 1, (850, 1020), TRIED, "segment_traffic", "random calls"),
 ]
-BANDS = [(0, 4, "what it means"), (4, 2, "shared code"), (6, 4, "parts of each engine"), (10, 1, "the pools"),
-         (11, 3, "for C, as text; tests")]
+BANDS = [(0, 4, "what it means"), (4, 2, "shared code"), (6, 5, "parts of each engine"), (11, 1, "the pools"),
+         (12, 3, "for C, as text; tests")]
 
 
 def layers():
-    high, gap, rows = 46, 6, 14
+    high, gap, rows = 46, 6, 15
     p = Picture(1220, 30 + rows * (high + gap) + 30, "Crates, bottom to top")
 
     def top(row, n):

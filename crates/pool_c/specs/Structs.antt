@@ -1,7 +1,7 @@
 -- The structs that cross to C, as the pools' own. Assumes nothing.
 use Rattle.calls.specs.declared.Answer as calls
 use Rattle.tree_check.specs.declared.Head as tree-head
-use Rattle.tree_cores.specs.declared.Outcome as tree
+use Rattle.tree_requests.specs.declared.Outcome as tree
 use Rattle.segment_requests.specs.declared.Outcome as segment
 use Rattle.segment_requests.specs.declared.Allocation as segment-allocation
 use Rattle.pool_c.specs.declared.TreeHead.{TreeHead}

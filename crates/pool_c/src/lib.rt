@@ -9,7 +9,7 @@ ghost use Rattle.calls.specs.Engines.{treeEngine, segmentEngine};
 ghost use Rattle.call_parts.specs.Results.{resultOf};
 ghost use Rattle.tree_check.specs.Gate.{treePool, noHead};
 ghost use Rattle.segment_check.specs.Gate.{segmentPool};
-ghost use Rattle.tree_cores.specs.Outcomes as tree;
+ghost use Rattle.tree_requests.specs.Outcomes as tree;
 ghost use Rattle.segment_requests.specs.Outcomes as segment;
 ghost use Rattle.pool_c.specs.Structs.{headOf, answerOf, treeOutcome, segmentOutcome, segmentAllocation};
 
@@ -85,7 +85,7 @@ fn c_answer(answer: calls::Answer) -> Answer
     both(told, place)
 }
 
-fn c_tree_outcome(done: tree_cores::Outcome) -> TreeOutcome
+fn c_tree_outcome(done: tree_requests::Outcome) -> TreeOutcome
     ensures { λ r. ⌜ treeOutcome r ≡ done ⌝ }
 {
     let after = done.head;

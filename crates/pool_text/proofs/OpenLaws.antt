@@ -23,9 +23,9 @@ use Rattle.call_parts.specs.Parts.{formatNumber}
 use Rattle.call_parts.proofs.FormatLaws.{format-answers}
 use Rattle.tree_check.specs.Gate.{treePool, noHead}
 use Rattle.tree_check.proofs.GateLaws.{in-range}
-use Rattle.tree_cores.specs.declared.Outcome.{Outcome}
+use Rattle.tree_requests.specs.declared.Outcome.{Outcome}
 use Rattle.call_parts.specs.Results.{Result, resultOf}
-use Rattle.tree_cores.specs.Outcomes.{handed}
+use Rattle.tree_requests.specs.Outcomes.{handed}
 use Rattle.tree_pool.proofs.FormatLaws.{blank-owned}
 use Rattle.text.specs.Fields.{lineOf}
 use Rattle.pool_text.specs.Meaning.{serving, stopped, served, fresh, opening, opened, refusalLine, mostWords}

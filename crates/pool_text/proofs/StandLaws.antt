@@ -16,8 +16,8 @@ use Rattle.call_parts.specs.declared.Request.{Request}
 use Rattle.call_parts.specs.Parts.{actOf}
 use Rattle.call_parts.specs.Results.{Result, acted}
 use Rattle.call_parts.proofs.ResultLaws.{acted-sound}
-use Rattle.tree_cores.specs.declared.Outcome.{Outcome}
-use Rattle.tree_cores.specs.Outcomes.{handed}
+use Rattle.tree_requests.specs.declared.Outcome.{Outcome}
+use Rattle.tree_requests.specs.Outcomes.{handed}
 use Rattle.text.specs.Numbers.{Bytes}
 use Rattle.text.specs.Fields.{Wrote}
 use Rattle.text.specs.Lines.{Served}

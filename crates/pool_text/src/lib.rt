@@ -7,7 +7,7 @@ use text::Number;
 use text::Pair;
 use text::Triple;
 use tree_check::Head;
-use tree_cores::Outcome;
+use tree_requests::Outcome;
 ghost use mathlib.Core.Path.{_≡_};
 ghost use mathlib.Core.Bool.{true};
 ghost use mathlib.Core.List.{[]};
@@ -19,7 +19,7 @@ ghost use Rattle.calls.specs.Engines.{treeEngine};
 ghost use Rattle.call_parts.specs.Parts.{actOf};
 ghost use Rattle.call_parts.specs.Results.{resultOf, acted};
 ghost use Rattle.tree_check.specs.Gate.{treePool, noHead};
-ghost use Rattle.tree_cores.specs.Outcomes.{handed};
+ghost use Rattle.tree_requests.specs.Outcomes.{handed};
 ghost use Rattle.text.specs.Fields.{Wrote};
 ghost use Rattle.text.specs.Lines.{feed, finish};
 ghost use Rattle.pool_text.specs.Meaning.{begins, sizesOf, sizesAndFirstOf, askOf, giveOf, requestOf};
@@ -252,7 +252,7 @@ fn serve_front(
         ≡ acted treeEngine (actOf request) (treePool head (take n (now (arena .entry))) (take t (now (table .entry)))) ⌝ }
 {
     let start = 0;
-    tree_cores::serve(head, &mut arena[start..n], &mut table[start..t], request)
+    tree_requests::serve(head, &mut arena[start..n], &mut table[start..t], request)
 }
 
 // A line after P.

@@ -24,7 +24,7 @@ use testing::word;
 use testing::write;
 use testing::write_list;
 use tree_check::Head;
-use tree_cores::Outcome;
+use tree_requests::Outcome;
 
 // The head of the pool, and how many words of the two buffers are lent to it.
 struct Pool {

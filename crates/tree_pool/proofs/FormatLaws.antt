@@ -25,9 +25,9 @@ use Rattle.call_parts.specs.Results.{resultOf}
 use Rattle.call_parts.proofs.FormatLaws.{zero-table, format-refused, format-right}
 use Rattle.tree_check.specs.Gate.{treePool, noHead}
 use Rattle.tree_check.proofs.GateLaws.{InRange, in-range}
-use Rattle.tree_cores.specs.declared.Outcome.{Outcome}
-use Rattle.tree_cores.specs.Outcomes.{handed, refusedWith}
-use Rattle.tree_cores.proofs.StoredLaws.{Shows, stored-pool}
+use Rattle.tree_requests.specs.declared.Outcome.{Outcome}
+use Rattle.tree_requests.specs.Outcomes.{handed, refusedWith}
+use Rattle.tree_requests.proofs.StoredLaws.{Shows, stored-pool}
 
 blank-free : (k u : ℕ) → free (formRule formOne) (replicate k emptyRow) u ≡ true
 unfolding free covers

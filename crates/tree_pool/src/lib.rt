@@ -4,14 +4,14 @@ use call_parts::Named;
 use calls::Answer;
 use ledger::Row;
 use tree_check::Head;
-use tree_cores::Outcome;
+use tree_requests::Outcome;
 ghost use mathlib.Core.Path.{_≡_};
 ghost use mathlib.Core.List.{[], _∷_};
 ghost use Rattle.calls.specs.Step.{format, allocate, release, find, look, list, step};
 ghost use Rattle.calls.specs.Engines.{treeEngine};
 ghost use Rattle.call_parts.specs.Results.{resultOf, wholeSlice, sliceOf};
 ghost use Rattle.tree_check.specs.Gate.{treePool, noHead};
-ghost use Rattle.tree_cores.specs.Outcomes.{handed};
+ghost use Rattle.tree_requests.specs.Outcomes.{handed};
 
 // ---- find and look
 
@@ -63,7 +63,7 @@ pub fn format(arena: &mut [u32], table: &mut [u32], first: u32) -> Outcome
     let right = tree_check::right_lengths(arena, table);
     let number = call_parts::format_number(right, first);
     if number != 0 {
-        return tree_cores::refused_with(Head { root: 0, next: 0 }, number);
+        return tree_requests::refused_with(Head { root: 0, next: 0 }, number);
     }
     let cells = (arena.len() / 2) as u32;
     words::wipe(arena);
@@ -87,10 +87,10 @@ pub fn allocate(head: Head, arena: &mut [u32], table: &mut [u32], words: u32) ->
 {
     let number = tree_check::gate_number(head, &*arena, &*table);
     if number != 0 {
-        return tree_cores::refused_with(head, number);
+        return tree_requests::refused_with(head, number);
     }
-    let done = tree_cores::grant(head, arena, table, words);
-    tree_cores::outcome_of_grant(head, words, done)
+    let done = tree_requests::grant(head, arena, table, words);
+    tree_requests::outcome_of_grant(head, words, done)
 }
 
 // Frees exactly the block whose live ticket, address and words are named; free blocks that it touches become one with
@@ -101,10 +101,10 @@ pub fn release(head: Head, arena: &mut [u32], table: &mut [u32], named: Row) -> 
 {
     let number = tree_check::gate_number(head, &*arena, &*table);
     if number != 0 {
-        return tree_cores::refused_with(head, number);
+        return tree_requests::refused_with(head, number);
     }
-    let done = tree_cores::vacate(head, arena, table, named);
-    tree_cores::outcome_of_release(head, named, done)
+    let done = tree_requests::vacate(head, arena, table, named);
+    tree_requests::outcome_of_release(head, named, done)
 }
 
 // ---- list
@@ -123,13 +123,13 @@ pub fn list(
         (now (arena .entry)) (now (table .entry)))) ⌝ }
 {
     if !call_parts::list_suits(asked, answers) {
-        return tree_cores::refused_with(head, 8);
+        return tree_requests::refused_with(head, 8);
     }
     let number = tree_check::gate_number(head, &*arena, &*table);
     if number != 0 {
-        return tree_cores::refused_with(head, number);
+        return tree_requests::refused_with(head, number);
     }
-    let after = tree_cores::serve_all(head, arena, table, asked, answers);
+    let after = tree_requests::serve_all(head, arena, table, asked, answers);
     Outcome {
         head: after,
         answer: call_parts::succeeded(call_parts::EMPTY_ROW),

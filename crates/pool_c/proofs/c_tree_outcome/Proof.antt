@@ -2,7 +2,7 @@
 use mathlib.Core.Path.{ap}
 use borrow.Author.Needs.{needs}
 use Rattle.calls.specs.declared.Answer.{Answer}
-use Rattle.tree_cores.specs.declared.Outcome.{Outcome}
+use Rattle.tree_requests.specs.declared.Outcome.{Outcome}
 use Rattle.pool_c.proofs.c_tree_outcome.Statement.{statement}
 use Rattle.pool_c.proofs.c_tree_outcome.Tie as tie
 

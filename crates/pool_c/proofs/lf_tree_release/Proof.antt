@@ -2,8 +2,8 @@
 use mathlib.Core.Path.{ap, _∙_}
 use mathlib.Core.List.{[]}
 use borrow.Author.Needs.{needs}
-use Rattle.tree_cores.specs.declared.Outcome.{Outcome}
-use Rattle.tree_cores.specs.Outcomes.{handed}
+use Rattle.tree_requests.specs.declared.Outcome.{Outcome}
+use Rattle.tree_requests.specs.Outcomes.{handed}
 use Rattle.pool_c.proofs.lf_tree_release.Statement.{statement}
 use Rattle.pool_c.proofs.lf_tree_release.Tie as tie
 

@@ -1,4 +1,4 @@
--- `pool_text::serve_front` meets its contract: `tree_cores::serve` on the first words. Assumes nothing.
+-- `pool_text::serve_front` meets its contract: `tree_requests::serve` on the first words. Assumes nothing.
 use borrow.Author.Needs.{needs}
 use native.Mathlib.Nat.{sub-zero}
 use mathlib.Core.List.{[]}
@@ -7,7 +7,7 @@ use Rattle.call_parts.specs.Parts.{actOf}
 use Rattle.calls.specs.Engines.{treeEngine}
 use Rattle.call_parts.specs.Results.{acted}
 use Rattle.tree_check.specs.Gate.{treePool}
-use Rattle.tree_cores.specs.Outcomes.{handed}
+use Rattle.tree_requests.specs.Outcomes.{handed}
 use Rattle.pool_text.proofs.FrontLaws.{fronts}
 use Rattle.pool_text.proofs.serve_front.Statement.{statement}
 use Rattle.pool_text.proofs.serve_front.Tie as tie

@@ -7,9 +7,9 @@ use Rattle.calls.specs.Step.{allocate, ask}
 use Rattle.calls.specs.Engines.{treeEngine}
 use Rattle.calls.proofs.GateLaws.{gate-opens}
 use Rattle.tree_check.specs.Gate.{treePool}
-use Rattle.tree_cores.specs.Outcomes.{handed}
+use Rattle.tree_requests.specs.Outcomes.{handed}
 use Rattle.call_parts.proofs.ResultLaws.{gate-result, single-result}
-use Rattle.tree_cores.specs.declared.Outcome.{Outcome}
+use Rattle.tree_requests.specs.declared.Outcome.{Outcome}
 use Rattle.tree_pool.proofs.allocate.Statement.{statement}
 use Rattle.tree_pool.proofs.allocate.Tie as tie
 

@@ -9,9 +9,9 @@ use Rattle.calls.specs.Engines.{treeEngine}
 use Rattle.calls.proofs.GateLaws.{gate-opens}
 use Rattle.call_parts.proofs.ResultLaws.{gate-result, unsuited-result, list-result}
 use Rattle.call_parts.proofs.WholeLists.{suited-lengths}
-use Rattle.tree_cores.specs.declared.Outcome.{Outcome}
+use Rattle.tree_requests.specs.declared.Outcome.{Outcome}
 use Rattle.tree_check.specs.Gate.{treePool}
-use Rattle.tree_cores.specs.Outcomes.{handed}
+use Rattle.tree_requests.specs.Outcomes.{handed}
 use Rattle.tree_pool.proofs.list.Statement.{statement}
 use Rattle.tree_pool.proofs.list.Tie as tie
 

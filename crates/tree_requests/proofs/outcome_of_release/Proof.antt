@@ -1,10 +1,10 @@
--- `tree_cores::outcome_of_release` meets its contract: its test is the one in `releaseOutcome`. Assumes nothing.
+-- `tree_requests::outcome_of_release` meets its contract: its test is the one in `releaseOutcome`. Assumes nothing.
 use mathlib.Core.Path.{ap}
 use borrow.Author.Needs.{needs}
 use borrow.Author.Tests.{eq-eqb, ne-eqb}
 use Rattle.calls.specs.declared.Answer.{Answer}
-use Rattle.tree_cores.proofs.outcome_of_release.Statement.{statement}
-use Rattle.tree_cores.proofs.outcome_of_release.Tie as tie
+use Rattle.tree_requests.proofs.outcome_of_release.Statement.{statement}
+use Rattle.tree_requests.proofs.outcome_of_release.Tie as tie
 
 refused-with-requires : tie.Need-refused-with-requires
 refused-with-requires c κs = search needs

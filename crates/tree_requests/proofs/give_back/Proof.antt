@@ -1,4 +1,4 @@
--- `tree_cores::give_back` meets its contract: the cells that go back make the act a release. Assumes nothing.
+-- `tree_requests::give_back` meets its contract: the cells that go back make the act a release. Assumes nothing.
 use native.Mathlib.Omega.{arith}
 use mathlib.Core.Path.{sym}
 use borrow.Author.Needs.{needs}
@@ -15,10 +15,10 @@ use Rattle.calls.specs.Step.{give}
 use Rattle.calls.specs.Engines.{treeEngine}
 use Rattle.call_parts.proofs.ResultLaws.{acted-by}
 use Rattle.tree_check.specs.Gate.{treePool}
-use Rattle.tree_cores.proofs.ReleaseLaws.{release-range, release-slot, release-gives}
-use Rattle.tree_cores.proofs.ReleaseLaws.{release-answer, release-root, release-pool}
-use Rattle.tree_cores.proofs.give_back.Statement.{statement}
-use Rattle.tree_cores.proofs.give_back.Tie as tie
+use Rattle.tree_requests.proofs.ReleaseLaws.{release-range, release-slot, release-gives}
+use Rattle.tree_requests.proofs.ReleaseLaws.{release-answer, release-root, release-pool}
+use Rattle.tree_requests.proofs.give_back.Statement.{statement}
+use Rattle.tree_requests.proofs.give_back.Tie as tie
 
 -- what the cells given back leave, in the ledger's units
 given : (c : tie.After-give-cells)

@@ -18,8 +18,8 @@ ghost use Rattle.calls.specs.Engines.{treeEngine};
 ghost use Rattle.call_parts.specs.Parts.{namedIn, actOf, requestAt, withAnswer};
 ghost use Rattle.call_parts.specs.Results.{acted, ran};
 ghost use Rattle.tree_check.specs.Gate.{treePool};
-ghost use Rattle.tree_cores.specs.Granting.{Grantable};
-ghost use Rattle.tree_cores.specs.Outcomes.{handed, refusedWith, grantOutcome, releaseOutcome};
+ghost use Rattle.tree_requests.specs.Granting.{Grantable};
+ghost use Rattle.tree_requests.specs.Outcomes.{handed, refusedWith, grantOutcome, releaseOutcome};
 
 // A unit of the tree pool is one cell of two words.
 const CELLS: Rule = Rule { unit: 2, lead: 0 };

@@ -1,4 +1,4 @@
--- `tree_cores::grant` meets its contract: the rows 2, 3, 4, 5 in turn, then the grant. Assumes nothing.
+-- `tree_requests::grant` meets its contract: the rows 2, 3, 4, 5 in turn, then the grant. Assumes nothing.
 use native.Mathlib.Omega.{arith}
 use mathlib.Core.Path.{refl, _∙_, sym}
 use borrow.Author.Needs.{needs}
@@ -15,11 +15,11 @@ use Rattle.calls.specs.Engines.{treeEngineOf, treeEngine}
 use Rattle.record_table.proofs.SlotLaws.{empty-found, empty-missing}
 use Rattle.call_parts.proofs.AskLaws.{ask-two, ask-three, ask-four, ask-five}
 use Rattle.tree_check.specs.Gate.{treePool}
-use Rattle.tree_cores.proofs.RefusedLaws.{grant-refused}
-use Rattle.tree_cores.proofs.SoundLaws.{sound-lies}
-use Rattle.tree_cores.proofs.GrantLaws.{none-fits, some-units, fitted}
-use Rattle.tree_cores.proofs.grant.Statement.{statement}
-use Rattle.tree_cores.proofs.grant.Tie as tie
+use Rattle.tree_requests.proofs.RefusedLaws.{grant-refused}
+use Rattle.tree_requests.proofs.SoundLaws.{sound-lies}
+use Rattle.tree_requests.proofs.GrantLaws.{none-fits, some-units, fitted}
+use Rattle.tree_requests.proofs.grant.Statement.{statement}
+use Rattle.tree_requests.proofs.grant.Tie as tie
 
 no-effect-requires : tie.Need-no-effect-requires
 no-effect-requires c κs = search needs

@@ -35,8 +35,8 @@ use Rattle.call_parts.proofs.FindLaws.{slot-number}
 use Rattle.tree_check.specs.Gate.{treePool}
 use Rattle.tree_check.proofs.GateLaws.{InRange}
 use Rattle.tree_check.specs.declared.Head.{Head}
-use Rattle.tree_cores.proofs.StoredLaws.{Shows, stored-pool}
-use Rattle.tree_cores.proofs.SoundLaws.{sound-range, sound-good, sound-lies, held-word}
+use Rattle.tree_requests.proofs.StoredLaws.{Shows, stored-pool}
+use Rattle.tree_requests.proofs.SoundLaws.{sound-range, sound-good, sound-lies, held-word}
 
 module _ (h : Head) (a t : Words) (r : Row) (slot : ℕ) (ok : sound treeEngine (treePool h a t) ≡ true)
     (found : namedIn t r ≡ Slot slot) where

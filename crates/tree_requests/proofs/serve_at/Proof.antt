@@ -1,4 +1,4 @@
--- `tree_cores::serve_at` meets its contract: one act, and its four answer words. Assumes nothing.
+-- `tree_requests::serve_at` meets its contract: one act, and its four answer words. Assumes nothing.
 use native.Mathlib.Omega.{arith}
 use mathlib.Core.Path.{_∙_, ap}
 use borrow.Author.Needs.{needs}
@@ -9,8 +9,8 @@ use Rattle.call_parts.specs.Parts.{requestAt, withAnswer}
 use Rattle.call_parts.specs.Results.{Result, acted}
 use Rattle.calls.specs.Engines.{treeEngine}
 use Rattle.tree_check.specs.Gate.{treePool}
-use Rattle.tree_cores.proofs.serve_at.Statement.{statement}
-use Rattle.tree_cores.proofs.serve_at.Tie as tie
+use Rattle.tree_requests.proofs.serve_at.Statement.{statement}
+use Rattle.tree_requests.proofs.serve_at.Tie as tie
 
 request-at-requires : tie.Need-request-at-requires
 request-at-requires c κs = let fits = c .before .before .before .before .pre .1 .0 in omega (arith, fits)

@@ -1,4 +1,4 @@
--- `tree_cores::vacate` meets its contract: the rows 6 and 7, then the release. Assumes nothing.
+-- `tree_requests::vacate` meets its contract: the rows 6 and 7, then the release. Assumes nothing.
 use mathlib.Core.Path.{_∙_, sym}
 use borrow.Author.Needs.{needs}
 use denote.Ref.{now}
@@ -6,9 +6,9 @@ use Rattle.words.proofs.Tests.{eqb-ne}
 use Rattle.calls.specs.Engines.{treeEngine}
 use Rattle.call_parts.proofs.FindLaws.{named-refused, give-refused}
 use Rattle.tree_check.specs.Gate.{treePool}
-use Rattle.tree_cores.proofs.RefusedLaws.{release-refused}
-use Rattle.tree_cores.proofs.vacate.Statement.{statement}
-use Rattle.tree_cores.proofs.vacate.Tie as tie
+use Rattle.tree_requests.proofs.RefusedLaws.{release-refused}
+use Rattle.tree_requests.proofs.vacate.Statement.{statement}
+use Rattle.tree_requests.proofs.vacate.Tie as tie
 
 named-slot-requires : tie.Need-named-slot-requires
 named-slot-requires c κs = search needs

@@ -43,9 +43,9 @@ use Rattle.tree_check.specs.Gate.{treePool}
 use Rattle.tree_check.specs.Maps.{cellRule}
 use Rattle.tree_check.proofs.GateLaws.{InRange}
 use Rattle.tree_check.specs.declared.Head.{Head}
-use Rattle.tree_cores.specs.Granting.{Grantable}
-use Rattle.tree_cores.proofs.StoredLaws.{Shows, stored-pool}
-use Rattle.tree_cores.proofs.SoundLaws.{sound-range, sound-good, sound-lies, held-word}
+use Rattle.tree_requests.specs.Granting.{Grantable}
+use Rattle.tree_requests.proofs.StoredLaws.{Shows, stored-pool}
+use Rattle.tree_requests.proofs.SoundLaws.{sound-range, sound-good, sound-lies, held-word}
 
 -- ---- the first run that passes, with those before and after it
 

@@ -1,4 +1,4 @@
--- `tree_cores::serve_all` meets its contract: before request i, pool and answers are those of the first i requests.
+-- `tree_requests::serve_all` meets its contract: before request i, pool and answers are those of the first i requests.
 -- Assumes nothing.
 use native.Mathlib.Omega.{arith}
 use mathlib.Core.Path.{_≡_, _∙_, refl}
@@ -15,8 +15,8 @@ use Rattle.call_parts.proofs.ListLaws.{Running, list-start, list-next, list-end
 use Rattle.tree_check.specs.Gate.{treePool}
 use Rattle.calls.proofs.Engines.{tree-laws}
 use Rattle.call_parts.proofs.ResultLaws.{acted-sound}
-use Rattle.tree_cores.proofs.serve_all.Statement.{statement}
-use Rattle.tree_cores.proofs.serve_all.Tie as tie
+use Rattle.tree_requests.proofs.serve_all.Statement.{statement}
+use Rattle.tree_requests.proofs.serve_all.Tie as tie
 
 abbrev Inv-loop : tie.InvT-loop
 Inv-loop arena₀ table₀ asked answers₀ after₀ i₀ arena table answers after i =

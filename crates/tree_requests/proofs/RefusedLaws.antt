@@ -12,10 +12,10 @@ use Rattle.call_parts.specs.Results.{acted}
 use Rattle.call_parts.proofs.AskLaws.{RefusedBy}
 use Rattle.call_parts.proofs.ResultLaws.{acted-refused}
 use Rattle.tree_check.specs.declared.Head.{Head}
-use Rattle.tree_cores.specs.declared.Outcome.{Outcome}
-use Rattle.tree_cores.specs.declared.Effect.{Effect}
+use Rattle.tree_requests.specs.declared.Outcome.{Outcome}
+use Rattle.tree_requests.specs.declared.Effect.{Effect}
 use Rattle.tree_check.specs.Gate.{treePool}
-use Rattle.tree_cores.specs.Outcomes.{handed, refusedWith, grantOutcome, releaseOutcome}
+use Rattle.tree_requests.specs.Outcomes.{handed, refusedWith, grantOutcome, releaseOutcome}
 
 module _ (h : Head) (a t : Words) where
   pub refused-acted : (act : Act) (o : Outcome) (x : ℕ) → o ≡ refusedWith h x → RefusedBy treeEngine (treePool h a t) act x

@@ -10,8 +10,8 @@ use Rattle.calls.specs.Step.{refusal, success}
 use Rattle.call_parts.specs.Results.{Result, result}
 use Rattle.tree_check.specs.Gate.{treePool}
 use Rattle.tree_check.specs.declared.Head.{Head}
-use Rattle.tree_cores.specs.declared.Outcome.{Outcome}
-use Rattle.tree_cores.specs.declared.Effect.{Effect}
+use Rattle.tree_requests.specs.declared.Outcome.{Outcome}
+use Rattle.tree_requests.specs.declared.Effect.{Effect}
 
 -- all that a call hands back and leaves: answer, head, arena, table, and the answer buffer of a list call
 abbrev pub handed : Outcome → Words → Words → List Words → Result

@@ -1,4 +1,4 @@
--- `tree_cores::place` meets its contract: what was found makes the act a grant. Assumes nothing.
+-- `tree_requests::place` meets its contract: what was found makes the act a grant. Assumes nothing.
 use native.Mathlib.Omega.{arith}
 use mathlib.Core.Path.{sym}
 use borrow.Author.Needs.{needs}
@@ -16,10 +16,10 @@ use Rattle.calls.specs.Step.{ask}
 use Rattle.calls.specs.Engines.{treeEngine}
 use Rattle.call_parts.proofs.ResultLaws.{acted-by}
 use Rattle.tree_check.specs.Gate.{treePool}
-use Rattle.tree_cores.proofs.GrantLaws.{place-takes, place-inside, place-root, place-pool}
-use Rattle.tree_cores.proofs.GrantLaws.{place-answer, place-range, place-slot}
-use Rattle.tree_cores.proofs.place.Statement.{statement}
-use Rattle.tree_cores.proofs.place.Tie as tie
+use Rattle.tree_requests.proofs.GrantLaws.{place-takes, place-inside, place-root, place-pool}
+use Rattle.tree_requests.proofs.GrantLaws.{place-answer, place-range, place-slot}
+use Rattle.tree_requests.proofs.place.Statement.{statement}
+use Rattle.tree_requests.proofs.place.Tie as tie
 
 range : (s : tie.Start) → InRange (now (s .args .arena)) (now (s .args .table))
 range s = place-range (s .args .head) (now (s .args .arena)) (now (s .args .table)) (s .args .words) (s .args .slot)

@@ -1,4 +1,4 @@
--- `tree_cores::serve` meets its contract: each kind of request is its act. Assumes nothing.
+-- `tree_requests::serve` meets its contract: each kind of request is its act. Assumes nothing.
 use mathlib.Core.Path.{_∙_, sym, ap}
 use borrow.Author.Needs.{needs}
 use denote.Ref.{now}
@@ -9,12 +9,12 @@ use mathlib.Core.List.{[]}
 use Rattle.calls.specs.Engines.{treeEngine}
 use Rattle.call_parts.specs.Results.{acted}
 use Rattle.call_parts.proofs.WholeLists.{bad-refused}
-use Rattle.tree_cores.specs.declared.Outcome.{Outcome}
+use Rattle.tree_requests.specs.declared.Outcome.{Outcome}
 use Rattle.tree_check.specs.Gate.{treePool}
-use Rattle.tree_cores.specs.Outcomes.{handed}
-use Rattle.tree_cores.proofs.RefusedLaws.{refused-acted}
-use Rattle.tree_cores.proofs.serve.Statement.{statement}
-use Rattle.tree_cores.proofs.serve.Tie as tie
+use Rattle.tree_requests.specs.Outcomes.{handed}
+use Rattle.tree_requests.proofs.RefusedLaws.{refused-acted}
+use Rattle.tree_requests.proofs.serve.Statement.{statement}
+use Rattle.tree_requests.proofs.serve.Tie as tie
 
 enum-known-request : tie.Need-enum-known-request
 enum-known-request c = search needs

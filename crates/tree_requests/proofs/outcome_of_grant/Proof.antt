@@ -1,8 +1,8 @@
--- `tree_cores::outcome_of_grant` meets its contract: its test is the one in `grantOutcome`. Assumes nothing.
+-- `tree_requests::outcome_of_grant` meets its contract: its test is the one in `grantOutcome`. Assumes nothing.
 use borrow.Author.Needs.{needs}
 use borrow.Author.Tests.{eq-eqb, ne-eqb}
-use Rattle.tree_cores.proofs.outcome_of_grant.Statement.{statement}
-use Rattle.tree_cores.proofs.outcome_of_grant.Tie as tie
+use Rattle.tree_requests.proofs.outcome_of_grant.Statement.{statement}
+use Rattle.tree_requests.proofs.outcome_of_grant.Tie as tie
 
 refused-with-requires : tie.Need-refused-with-requires
 refused-with-requires c κs = search needs

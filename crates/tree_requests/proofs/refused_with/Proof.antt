@@ -1,9 +1,9 @@
--- `tree_cores::refused_with` meets its contract: the head as it came. Assumes nothing.
+-- `tree_requests::refused_with` meets its contract: the head as it came. Assumes nothing.
 use mathlib.Core.Path.{ap}
 use borrow.Author.Needs.{needs}
 use Rattle.calls.specs.declared.Answer.{Answer}
-use Rattle.tree_cores.proofs.refused_with.Statement.{statement}
-use Rattle.tree_cores.proofs.refused_with.Tie as tie
+use Rattle.tree_requests.proofs.refused_with.Statement.{statement}
+use Rattle.tree_requests.proofs.refused_with.Tie as tie
 
 refused-requires : tie.Need-refused-requires
 refused-requires c κs = search needs

@@ -34,7 +34,7 @@ fn fits(map: &[u32], x: usize, n: usize) -> bool
     if map.len() - x < n {
         return false;
     }
-    words::zero_part(map, x, x + n)
+    words::is_zero_part(map, x, x + n)
 }
 
 // The cells from `lo` up to `hi` lie in a block.

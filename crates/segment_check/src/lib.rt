@@ -11,7 +11,7 @@ use segment_index::larger;
 use segment_index::lesser;
 use segment_index::segments_of;
 use segment_index::size_at;
-use words::zero_part_signed;
+use words::is_zero_part_signed;
 ghost use mathlib.Core.Path.{_≡_};
 ghost use mathlib.Core.Bool.{true, _||_};
 ghost use Prim.Native.Nat.{ℕ, _+_, _-_, _*_, _≤_, _<_};
@@ -33,6 +33,9 @@ ghost use Rattle.record_table.specs.Partition.{Noted};
 ghost use Rattle.segment_check.specs.BitMaps.{bitAt};
 ghost use Rattle.segment_check.specs.Laid.{Laid, HeldBlock, FreeBlock, Strip, Matched};
 ghost use Rattle.segment_check.specs.Laid.{Lays, LaysAll, Heads, Sets, Good, Joined, Headed, Shown};
+
+// A unit of the segment pool is one word, and a block has one before its address: the control word.
+pub const WORDS: Rule = Rule { unit: 1, lead: 1 };
 
 // ---- the map, 64 words of the arena to an entry
 
@@ -81,7 +84,7 @@ fn is_free_block(v: &[i32], at: usize, n: usize, after: bool) -> bool
     if after | (v.len() - at < n) {
         return false;
     }
-    zero_part_signed(v, at + 1, at + n)
+    is_zero_part_signed(v, at + 1, at + n)
 }
 
 // Where blocks that are laid have led: the next one begins at `next`, past the arena's end if one is wrong. So many
@@ -240,7 +243,7 @@ fn map_row(
         × (Good (now (v .entry)) next (now (table .entry)) i → u ≤ length (now (v .entry))) ⌝ }
 {
     let words = v.len();
-    let rule = Rule { unit: 1, lead: 1 };
+    let rule = WORDS;
     let r = read_row(table, i);
     let u = record_table::enter_row(rule, words, next, table, i, r, &mut *seen, m);
     if u == 0 {

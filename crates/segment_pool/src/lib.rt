@@ -85,14 +85,9 @@ pub fn format(
     let segments = segment_index::segments_of(s, arena.len());
     segment_cores::lay_out(arena, index, segments);
     words::wipe(table);
-    let none = Row {
-        ticket: 0,
-        address: 0,
-        words: 0,
-    };
     Outcome {
         head: Head { next: first },
-        answer: call_parts::succeeded(none),
+        answer: call_parts::succeeded(call_parts::EMPTY_ROW),
     }
 }
 
@@ -182,13 +177,8 @@ pub fn list(
         return segment_requests::refused_with(head, number);
     }
     let after = segment_requests::serve_all(head, s, arena, table, index, asked, answers);
-    let none = Row {
-        ticket: 0,
-        address: 0,
-        words: 0,
-    };
     Outcome {
         head: after,
-        answer: call_parts::succeeded(none),
+        answer: call_parts::succeeded(call_parts::EMPTY_ROW),
     }
 }

@@ -4,7 +4,6 @@ use call_parts::Named;
 use call_parts::Request;
 use calls::Answer;
 use ledger::Row;
-use ledger::Rule;
 use record_table::Found as Slot;
 ghost use mathlib.Core.Path.{_≡_};
 ghost use mathlib.Core.Bool.{true};
@@ -78,7 +77,7 @@ fn place(
         ≡ acted segmentEngine (ask words)
         (segmentPool s (head .next) (now (arena .entry)) (now (table .entry)) (now (index .entry))) ⌝ }
 {
-    let n = record_table::span_of(Rule { unit: 1, lead: 1 }, words);
+    let n = record_table::span_of(segment_check::WORDS, words);
     let segments = segment_index::segments_of(s, arena.len());
     segment_cores::allot(arena, index, segments, at, n);
     let address = (at + 1) as u32;
@@ -181,16 +180,11 @@ fn give_back(
         (segmentPool s (head .next) (now (arena .entry)) (now (table .entry)) (now (index .entry))) ⌝ }
 {
     segment_check::ranged(arena);
-    let at = record_table::first_unit(Rule { unit: 1, lead: 1 }, named);
-    let n = record_table::span_of(Rule { unit: 1, lead: 1 }, named.words);
+    let at = record_table::first_unit(segment_check::WORDS, named);
+    let n = record_table::span_of(segment_check::WORDS, named.words);
     let segments = segment_index::segments_of(s, arena.len());
     segment_cores::release(arena, index, segments, at, n);
-    let none = Row {
-        ticket: 0,
-        address: 0,
-        words: 0,
-    };
-    record_table::write_row(table, slot, none);
+    record_table::write_row(table, slot, call_parts::EMPTY_ROW);
     0
 }
 

@@ -4,6 +4,7 @@
 pub mod record_map;
 pub mod tree_walk;
 
+use ledger::Rule;
 use record_map::leads_to;
 use record_map::map_rows;
 use tree_walk::walk_all;
@@ -19,6 +20,9 @@ ghost use Rattle.calls.specs.Step.{GateIs};
 ghost use Rattle.calls.specs.Engines.{treeEngine};
 ghost use Rattle.tree_check.specs.Maps.{Roomy, most, Shown};
 ghost use Rattle.tree_check.specs.Gate.{treePool, RightLengths};
+
+// A unit of the tree pool is one cell of two words.
+pub const CELLS: Rule = Rule { unit: 2, lead: 0 };
 
 // What a call of the tree pool is passed and hands back: the root link and the next ticket, 0 when none is left.
 pub struct Head {

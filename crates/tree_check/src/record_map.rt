@@ -1,6 +1,7 @@
 // The map of a table's records: of each, the cells that it holds, in a row from its first cell on. Free blocks are held
 // against it: what lies between two of them has to be records.
 // Slices are lent on as `&*slice`, which keeps pointer and length in registers (docs/DECISIONS.md, what crosses calls).
+use crate::CELLS;
 use ledger::Row;
 use ledger::Rule;
 ghost use mathlib.Core.Path.{_≡_};
@@ -146,7 +147,7 @@ pub fn map_rows(
     ensures { λ r. ⌜ (r ≤ words → Mapped words next (now (table .entry)) r (now (map .exit))) ⌝ }
     ensures { λ r. ⌜ (valid cellRule words next (recordsOf (now (table .entry))) ≡ true → r ≤ words) ⌝ }
 {
-    let rule = Rule { unit: 2, lead: 0 };
+    let rule = CELLS;
     let mut held: usize = 0;
     let mut i = 0;
     while i < table.len() / 3 {

@@ -36,7 +36,7 @@ fn node_ok(arena: &[u32], map: &[u8], k: usize, c: usize, z: usize) -> bool
             return false;
         }
     }
-    leads_to(map, k, c) & words::zero_part(arena, 2 * c + 2, 2 * (c + z))
+    leads_to(map, k, c) & words::is_zero_part(arena, 2 * c + 2, 2 * (c + z))
 }
 
 // Left part, node, right part: whether the blocks of the tree at the link, each shorter than the limit, lie apart from

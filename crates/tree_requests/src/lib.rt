@@ -4,8 +4,8 @@ use call_parts::Named;
 use call_parts::Request;
 use calls::Answer;
 use ledger::Row;
-use ledger::Rule;
 use record_table::Found as Slot;
+use tree_check::CELLS;
 use tree_check::Head;
 ghost use mathlib.Core.Path.{_≡_};
 ghost use mathlib.Core.List.{[]};
@@ -20,9 +20,6 @@ ghost use Rattle.call_parts.specs.Results.{acted, ran};
 ghost use Rattle.tree_check.specs.Gate.{treePool};
 ghost use Rattle.tree_requests.specs.Granting.{Grantable};
 ghost use Rattle.tree_requests.specs.Outcomes.{handed, refusedWith, grantOutcome, releaseOutcome};
-
-// A unit of the tree pool is one cell of two words.
-const CELLS: Rule = Rule { unit: 2, lead: 0 };
 
 // A head with the answer: what a call hands back.
 pub struct Outcome {

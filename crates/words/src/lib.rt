@@ -50,7 +50,7 @@ pub fn wipe_signed(s: &mut [i32])
 
 // Whether the words from lo up to hi are 0. The loop gathers all their bits and has no way out, so that the machine
 // reads many words at a time.
-fn zero_block(s: &[u32], lo: usize, hi: usize) -> bool
+fn is_zero_block(s: &[u32], lo: usize, hi: usize) -> bool
     requires { ⌜ (lo ≤ hi) × (hi ≤ length (now s)) ⌝ }
     ensures { λ r. ⌜ r ≡ every (zeroAt (now (s .entry))) lo (hi - lo) ⌝ }
 {
@@ -64,23 +64,23 @@ fn zero_block(s: &[u32], lo: usize, hi: usize) -> bool
 }
 
 // Whether the words from lo up to hi are 0. After each block of 256 words the answer may be known.
-pub fn zero_part(s: &[u32], lo: usize, hi: usize) -> bool
+pub fn is_zero_part(s: &[u32], lo: usize, hi: usize) -> bool
     requires { ⌜ (lo ≤ hi) × (hi ≤ length (now s)) ⌝ }
     ensures { λ r. ⌜ r ≡ every (zeroAt (now (s .entry))) lo (hi - lo) ⌝ }
 {
     let mut i = lo;
     while hi - i >= 256 {
         let e = i + 256;
-        if !zero_block(s, i, e) {
+        if !is_zero_block(s, i, e) {
             return false;
         }
         i = e;
     }
-    zero_block(s, i, hi)
+    is_zero_block(s, i, hi)
 }
 
 // The tests once more, over signed words.
-fn zero_block_signed(s: &[i32], lo: usize, hi: usize) -> bool
+fn is_zero_block_signed(s: &[i32], lo: usize, hi: usize) -> bool
     requires { ⌜ (lo ≤ hi) × (hi ≤ length (now s)) ⌝ }
     ensures { λ r. ⌜ r ≡ every (zeroAtZ (now (s .entry))) lo (hi - lo) ⌝ }
 {
@@ -93,17 +93,17 @@ fn zero_block_signed(s: &[i32], lo: usize, hi: usize) -> bool
     any == 0
 }
 
-pub fn zero_part_signed(s: &[i32], lo: usize, hi: usize) -> bool
+pub fn is_zero_part_signed(s: &[i32], lo: usize, hi: usize) -> bool
     requires { ⌜ (lo ≤ hi) × (hi ≤ length (now s)) ⌝ }
     ensures { λ r. ⌜ r ≡ every (zeroAtZ (now (s .entry))) lo (hi - lo) ⌝ }
 {
     let mut i = lo;
     while hi - i >= 256 {
         let e = i + 256;
-        if !zero_block_signed(s, i, e) {
+        if !is_zero_block_signed(s, i, e) {
             return false;
         }
         i = e;
     }
-    zero_block_signed(s, i, hi)
+    is_zero_block_signed(s, i, hi)
 }

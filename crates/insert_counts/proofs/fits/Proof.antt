@@ -19,19 +19,19 @@ sub-if3 c = search needs
 returns-3 : tie.Need-returns-3
 returns-3 c e = absurd (false≢true e)
 
-add-zero-part : tie.Need-add-zero-part
-add-zero-part c = search needs
+add-is-zero-part : tie.Need-add-is-zero-part
+add-is-zero-part c = search needs
 
-zero-part-requires : tie.Need-zero-part-requires
-zero-part-requires c κs = search needs
+is-zero-part-requires : tie.Need-is-zero-part-requires
+is-zero-part-requires c κs = search needs
 
 returns-4 : tie.Need-returns-4
 returns-4 c e =
     let b1 = c .before in
     let b2 = b1 .before in
-    fits-all (b2 .before .if1 .left) (b2 .if2 .left) (b1 .if3 .left) (sym e ∙ c .zero-part .ensures)
+    fits-all (b2 .before .if1 .left) (b2 .if2 .left) (b1 .if3 .left) (sym e ∙ c .is-zero-part .ensures)
 
 pub fits-spec : {M : Type 1} → statement M
 fits-spec =
     tie.close
-    (tie.spec returns returns-2 sub-if3 returns-3 add-zero-part zero-part-requires returns-4)
+    (tie.spec returns returns-2 sub-if3 returns-3 add-is-zero-part is-zero-part-requires returns-4)

@@ -32,14 +32,14 @@ returns c =
       λ b. absurd (true≢false (sym (c .if1 .taken) ∙ rw (b .apart) (of-ge room (a .n) (omega (arith, b .inside))))),
     )
 
-add-zero-part-signed : tie.Need-add-zero-part-signed
-add-zero-part-signed c = search needs
+add-is-zero-part-signed : tie.Need-add-is-zero-part-signed
+add-is-zero-part-signed c = search needs
 
-add-zero-part-signed-2 : tie.Need-add-zero-part-signed-2
-add-zero-part-signed-2 c = omega (arith, inside c)
+add-is-zero-part-signed-2 : tie.Need-add-is-zero-part-signed-2
+add-is-zero-part-signed-2 c = omega (arith, inside c)
 
-zero-part-signed-requires : tie.Need-zero-part-signed-requires
-zero-part-signed-requires c κs = (omega (arith, c .before .pre .1), inside c)
+is-zero-part-signed-requires : tie.Need-is-zero-part-signed-requires
+is-zero-part-signed-requires c κs = (omega (arith, c .before .pre .1), inside c)
 
 returns-2 : tie.Need-returns-2
 returns-2 c =
@@ -50,9 +50,9 @@ returns-2 c =
       λ e. record {
         apart = or-l (a .after) (ltb (length (now (a .v)) - a .at) (a .n)) (i .if1 .left);
         inside = inside i;
-        right = free-block (now (a .v)) (a .at) (a .n) some (sym is) (sym (c .zero-part-signed .ensures) ∙ e);
+        right = free-block (now (a .v)) (a .at) (a .n) some (sym is) (sym (c .is-zero-part-signed .ensures) ∙ e);
       },
-      λ b. c .zero-part-signed .ensures ∙ block-zeros (now (a .v)) (a .at) (a .n) some (b .right),
+      λ b. c .is-zero-part-signed .ensures ∙ block-zeros (now (a .v)) (a .at) (a .n) some (b .right),
     )
 
 pub is-free-block-spec : {M : Type 1} → statement M
@@ -61,7 +61,7 @@ is-free-block-spec =
     (tie.spec
     sub-if1
     returns
-    add-zero-part-signed
-    add-zero-part-signed-2
-    zero-part-signed-requires
+    add-is-zero-part-signed
+    add-is-zero-part-signed-2
+    is-zero-part-signed-requires
     returns-2)

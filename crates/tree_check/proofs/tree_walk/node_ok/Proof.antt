@@ -19,27 +19,27 @@ leads-to-requires c κs =
     let small = ready .small in
     (omega arith, λ bytes. omega (arith, ready .places bytes))
 
-mul-zero-part : tie.Need-mul-zero-part
-mul-zero-part c = search needs
+mul-is-zero-part : tie.Need-mul-is-zero-part
+mul-is-zero-part c = search needs
 
-add-zero-part : tie.Need-add-zero-part
-add-zero-part c = search needs
+add-is-zero-part : tie.Need-add-is-zero-part
+add-is-zero-part c = search needs
 
-add-zero-part-2 : tie.Need-add-zero-part-2
-add-zero-part-2 c = search needs
+add-is-zero-part-2 : tie.Need-add-is-zero-part-2
+add-is-zero-part-2 c = search needs
 
-mul-zero-part-2 : tie.Need-mul-zero-part-2
-mul-zero-part-2 c = search needs
+mul-is-zero-part-2 : tie.Need-mul-is-zero-part-2
+mul-is-zero-part-2 c = search needs
 
-zero-part-requires : tie.Need-zero-part-requires
-zero-part-requires c κs = search needs
+is-zero-part-requires : tie.Need-is-zero-part-requires
+is-zero-part-requires c κs = search needs
 
 -- no free block touches the one before
 apart : (c : tie.Joined1) → (let a = c .before .before .before .args in earliest (a .k) ≤ a .c)
 apart c = let low = c .before .before .before .pre .0 in ⊎-elim (λ w. omega arith) (λ w. omega arith) (c .if1 .came)
 
 returns-2 : tie.Need-returns-2
-returns-2 c = placed _ _ (apart (c .before .before)) (c .before .leads-to .ensures) (c .zero-part .ensures)
+returns-2 c = placed _ _ (apart (c .before .before)) (c .before .leads-to .ensures) (c .is-zero-part .ensures)
 
 pub node-ok-spec : {M : Type 1} → statement M
 node-ok-spec =
@@ -47,9 +47,9 @@ node-ok-spec =
     (tie.spec
     returns
     leads-to-requires
-    mul-zero-part
-    add-zero-part
-    add-zero-part-2
-    mul-zero-part-2
-    zero-part-requires
+    mul-is-zero-part
+    add-is-zero-part
+    add-is-zero-part-2
+    mul-is-zero-part-2
+    is-zero-part-requires
     returns-2)

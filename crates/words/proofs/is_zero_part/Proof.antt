@@ -1,18 +1,18 @@
--- `words::zero_part_signed` meets its contract. Its invariant: the answer is the test of what is left from i on.
+-- `words::is_zero_part` meets its contract. Its invariant: the answer is the test of what is left from i on.
 -- Assumes nothing.
 use Prim.Native.Nat.{_+_, _-_, _≤_}
 use mathlib.Core.Path.{_≡_, refl, sym, _∙_}
 use native.Mathlib.Omega.{arith}
 use borrow.Author.Needs.{needs}
-use Rattle.words.specs.Signed.{zeroAtZ}
+use Rattle.words.specs.Lists.{zeroAt}
 use Rattle.words.specs.Counted.{every}
 use Rattle.words.proofs.Tests.{not-true, not-false}
 use Rattle.words.proofs.CountedLaws.{every-skip, every-stop}
-use Rattle.words.proofs.zero_part_signed.Statement.{statement}
-use Rattle.words.proofs.zero_part_signed.Tie as tie
+use Rattle.words.proofs.is_zero_part.Statement.{statement}
+use Rattle.words.proofs.is_zero_part.Tie as tie
 
 abbrev Inv-loop : tie.InvT-loop
-Inv-loop s lo hi i₀ i = (lo ≤ i) × (i ≤ hi) × (every (zeroAtZ s) lo (hi - lo) ≡ every (zeroAtZ s) i (hi - i))
+Inv-loop s lo hi i₀ i = (lo ≤ i) × (i ≤ hi) × (every (zeroAt s) lo (hi - lo) ≡ every (zeroAt s) i (hi - i))
 
 abbrev μ-loop : tie.MeasureT-loop
 μ-loop s lo hi i₀ i = hi - i
@@ -26,13 +26,13 @@ sub-loop c = search needs
 add-e : tie.Need-add-e Inv-loop μ-loop
 add-e c = search needs
 
-zero-block-signed-requires : tie.Need-zero-block-signed-requires Inv-loop μ-loop
-zero-block-signed-requires c κs = search needs
+is-zero-block-requires : tie.Need-is-zero-block-requires Inv-loop μ-loop
+is-zero-block-requires c κs = search needs
 
 returns : tie.Need-returns Inv-loop μ-loop
 returns c =
     let l = c .before .before .before .loop in
-    let block = c .before .zero-block-signed in
+    let block = c .before .is-zero-block in
     every-stop _ _ _ (l .i) (l .inv .2) (l .i + 256) (block .result) (omega arith) (omega arith) (block .ensures)
     (not-true (block .result) (c .if1 .taken))
 
@@ -42,21 +42,21 @@ loop-less c = search needs
 loop-again : tie.Need-loop-again Inv-loop μ-loop
 loop-again c =
     let l = c .before .before .before .loop in
-    let block = c .before .zero-block-signed in (
+    let block = c .before .is-zero-block in (
       search needs,
       search needs,
       every-skip _ _ _ (l .i) (l .inv .2) (l .i + 256) (block .result) (omega arith) (omega arith) (block .ensures)
           (not-false (block .result) (c .if1 .left)),
     )
 
-zero-block-signed-requires-2 : tie.Need-zero-block-signed-requires-2 Inv-loop μ-loop
-zero-block-signed-requires-2 c κs = search needs
+is-zero-block-requires-2 : tie.Need-is-zero-block-requires-2 Inv-loop μ-loop
+is-zero-block-requires-2 c κs = search needs
 
 returns-2 : tie.Need-returns-2 Inv-loop μ-loop
-returns-2 c = c .zero-block-signed2 .ensures ∙ sym (c .before .before .loop .inv .2)
+returns-2 c = c .is-zero-block2 .ensures ∙ sym (c .before .before .loop .inv .2)
 
-pub zero-part-signed-spec : {M : Type 1} → statement M
-zero-part-signed-spec =
+pub is-zero-part-spec : {M : Type 1} → statement M
+is-zero-part-spec =
     tie.close
     (tie.spec
     Inv-loop
@@ -64,9 +64,9 @@ zero-part-signed-spec =
     loop-holds
     sub-loop
     add-e
-    zero-block-signed-requires
+    is-zero-block-requires
     returns
     loop-less
     loop-again
-    zero-block-signed-requires-2
+    is-zero-block-requires-2
     returns-2)

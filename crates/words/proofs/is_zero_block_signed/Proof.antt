@@ -1,20 +1,20 @@
--- `words::zero_block` meets its contract. Its invariant: the bits so far and the test of what is left make the answer.
+-- `words::is_zero_block_signed` meets its contract. Its invariant: the bits so far and the test of what is left make the answer.
 -- Assumes nothing.
 use Prim.Native.Nat.{_≤_, _-_}
 use mathlib.Core.Path.{_≡_, refl}
 use mathlib.Core.Bool.{_&&_}
 use borrow.Author.Needs.{needs}
 use lib.Dec.{eqb}
-use Rattle.words.specs.Lists.{zeroAt}
+use Rattle.words.specs.Signed.{zeroAtZ}
 use Rattle.words.specs.Counted.{every}
 use Rattle.words.proofs.CountedLaws.{flag-next, flag-end}
-use Rattle.words.proofs.Tests.{or-none}
-use Rattle.words.proofs.zero_block.Statement.{statement}
-use Rattle.words.proofs.zero_block.Tie as tie
+use Rattle.words.proofs.SignedLaws.{or-bits}
+use Rattle.words.proofs.is_zero_block_signed.Statement.{statement}
+use Rattle.words.proofs.is_zero_block_signed.Tie as tie
 
 abbrev Inv-loop : tie.InvT-loop
 Inv-loop s lo hi any₀ i₀ any i =
-    (lo ≤ i) × (i ≤ hi) × ((eqb any 0 && every (zeroAt s) i (hi - i)) ≡ every (zeroAt s) lo (hi - lo))
+    (lo ≤ i) × (i ≤ hi) × ((eqb any 0 && every (zeroAtZ s) i (hi - i)) ≡ every (zeroAtZ s) lo (hi - lo))
 
 abbrev μ-loop : tie.MeasureT-loop
 μ-loop s lo hi any₀ i₀ any i = hi - i
@@ -25,8 +25,8 @@ loop-holds c = (search needs, search needs, refl)
 mul-any : tie.Need-mul-any Inv-loop μ-loop
 mul-any c = search needs
 
-shared-slice-read-any : tie.Need-shared-slice-read-any Inv-loop μ-loop
-shared-slice-read-any c = search needs
+shared-slice-copy-out-any : tie.Need-shared-slice-copy-out-any Inv-loop μ-loop
+shared-slice-copy-out-any c = search needs
 
 add-i : tie.Need-add-i Inv-loop μ-loop
 add-i c = search needs
@@ -35,12 +35,12 @@ loop-less : tie.Need-loop-less Inv-loop μ-loop
 loop-less c = search needs
 
 loop-again : tie.Need-loop-again Inv-loop μ-loop
-loop-again c = search (needs, flag-next, or-none)
+loop-again c = search (needs, flag-next, or-bits)
 
 returns : tie.Need-returns Inv-loop μ-loop
 returns c = search (needs, flag-end)
 
-pub zero-block-spec : {M : Type 1} → statement M
-zero-block-spec =
+pub is-zero-block-signed-spec : {M : Type 1} → statement M
+is-zero-block-signed-spec =
     tie.close
-    (tie.spec Inv-loop μ-loop loop-holds mul-any shared-slice-read-any add-i loop-less loop-again returns)
+    (tie.spec Inv-loop μ-loop loop-holds mul-any shared-slice-copy-out-any add-i loop-less loop-again returns)

@@ -1,44 +1,37 @@
--- Laws of cells given back: a run taken out of a list of runs and out of the arena, what touches the cells, and
--- the sum put in. Assumes nothing.
+-- Laws of cells given back: a run put into a list of runs, what touches the cells taken out, and the sum put in.
+-- Assumes nothing.
 use Prim.Native.Nat.{ℕ, suc, _+_, _-_, _*_, _/_, _≤_, _<_}
 use native.Mathlib.Omega.{arith}
 use native.Mathlib.Decide.{ℕ-discrete, decLe}
 use mathlib.Core.Path.{_≡_, refl, sym, ap, _∙_, subst}
-use mathlib.Core.Logic.{_≢_, inl, inr}
-use mathlib.Core.Bool.{Bool, true, false, cond, not, _&&_, _||_, true≢false, or-true, or-false, or-assoc, or-comm}
+use mathlib.Core.Logic.{_≢_}
+use mathlib.Core.Bool.{Bool, true, false, cond, _&&_, _||_, true≢false, or-true, or-false, or-assoc, or-comm}
 use mathlib.Core.List.{List, [], _∷_, _++_}
 use mathlib.Core.Option.{some}
-use lib.Dec.{eqb, leb, ltb}
+use lib.Dec.{leb, ltb}
 use lib.ListN.{length, getD}
-use Rattle.words.specs.Lists.{Words, all, firstThat}
+use Rattle.words.specs.Lists.{Words, firstThat}
 use Rattle.words.specs.Counted.{within}
 use Rattle.words.specs.Places.{wiped}
-use Rattle.words.proofs.Tests.{false-of, and-l, and-r, and-i, or-l, or-r, not-true, eqb-eq, eqb-same, eqb-ne}
+use Rattle.words.proofs.Tests.{false-of, or-l, or-r, eqb-eq, eqb-ne}
 use Rattle.words.proofs.Tests.{eqb-false, lt-of, not-lt, of-le, of-lt, within-in, within-low, within-high, within-of}
-use Rattle.words.proofs.ListLaws.{all-append, all-append-l, all-append-r}
 use Rattle.words.proofs.PlaceLaws.{length-wiped, wiped-in, wiped-out}
 use Rattle.ledger.specs.Runs.{Run, run, covered, Gapped}
 use Rattle.ledger.specs.Runs.{addRun}
-use Rattle.ledger.proofs.RunLaws.{gapped-weaken, gapped-below, runs-unique, runs-after-release}
-use Rattle.stored_forms.specs.Tree.{Tree, leaf, node, inorder, treeOf, formOne, lengthAt}
+use Rattle.ledger.proofs.RunLaws.{runs-unique, runs-after-release}
+use Rattle.stored_forms.specs.Tree.{treeOf, formOne, lengthAt}
 use Rattle.stored_forms.proofs.TreeLaws.{inorder-treeOf}
-use Rattle.stored_forms.specs.Blocks.{Within, In, NotFirst, Zeros}
-use Rattle.stored_forms.proofs.NodeLaws.{readable-one, in-range, covered-in, in-covered}
-use Rattle.stored_forms.proofs.NodeLaws.{nodeWord-zero, holds-stored, stored-holds}
+use Rattle.stored_forms.specs.Blocks.{Zeros}
 use Rattle.tree_nodes.specs.Nodes.{links, cells, NodeCleared}
-use Rattle.free_tree.specs.Shapes.{putRun, dropRun, endsAt, beginsAt, linkTo}
+use Rattle.free_tree.specs.Shapes.{putRun, endsAt, beginsAt, linkTo}
 use Rattle.free_tree.specs.Links.{linkOf}
-use Rattle.free_tree.specs.Held.{At, Became, NoNode, NoNodeNor, Apart, Room, Inserted, Deleted, Clear, TouchFound}
-use Rattle.free_tree.proofs.RunOrder.{beginsElsewhere}
-use Rattle.free_tree.proofs.ChangeLaws.{insert-tree, delete-tree}
-use Rattle.free_tree.proofs.CellLaws.{outside-first, apart-of}
-use Rattle.free_tree.proofs.StepLaws.{at-length, at-left, at-right}
+use Rattle.free_tree.specs.Held.{Became, NoNodeNor, Room, Inserted, Deleted, Clear, TouchFound}
+use Rattle.free_tree.proofs.ChangeLaws.{insert-tree}
+use Rattle.free_tree.proofs.CellLaws.{apart-of}
 use Rattle.free_blocks.specs.Blocks.{Lies, Changed, Gives}
 use Rattle.free_blocks.specs.Giving.{Removed, TakenOut, HeldCell, MergedBelow, MergedAbove}
-
--- cell u lies in the run
-abbrev has : Run → ℕ → Bool
-has r u = within (r .start) (r .start + r .size) u
+use Rattle.free_blocks.proofs.BlockLaws.{has, without, uncovered, kept, run-length, cell-inside, cell-no-node}
+use Rattle.free_blocks.proofs.BlockLaws.{gone, all-taken}
 
 -- ---- a run put into a list
 
@@ -102,138 +95,6 @@ added e s n rs qs g h filled inside clear cover =
     sym (ap (addRun s n) old)
     ∙ sym (runs-after-release (covered rs) (covered qs) e s n filled inside clear (λ u l. cover u)) ∙ new
 
--- ---- a run taken out of a list
-
--- the run of n cells at cell c, between xs and ys, and the list without it
-record Without (k e : ℕ) (xs : List Run) (c n : ℕ) (ys : List Run) : Type 0 where
-  low : k ≤ c
-  filled : 1 ≤ n
-  high : c + n ≤ e
-  gapped : Gapped k e (xs ++ ys)
-  dropped : dropRun c (xs ++ run c n ∷ ys) ≡ xs ++ ys
-  cover : (u : ℕ) → covered (xs ++ run c n ∷ ys) u ≡ (covered (xs ++ ys) u || within c (c + n) u)
-  clear : (u : ℕ) → c ≤ suc u → u ≤ c + n → covered (xs ++ ys) u ≡ false
-  inner : (d : ℕ) → c < d → d < c + n → all (beginsElsewhere d) (xs ++ run c n ∷ ys) ≡ true
-
-elsewhere-above : (d k e : ℕ) (rs : List Run) → Gapped k e rs → d < k → all (beginsElsewhere d) rs ≡ true
-elsewhere-above d k e [] g h = refl
-elsewhere-above d k e (r ∷ rs) g h =
-    and-i (beginsElsewhere d r) (all (beginsElsewhere d) rs) (ap not (eqb-ne (r .start) d (λ z. omega arith)))
-    (elsewhere-above d (suc (r .start + r .size)) e rs (g .3) (omega arith))
-
-without : (k e : ℕ) (xs : List Run) (c n : ℕ) (ys : List Run) → Gapped k e (xs ++ run c n ∷ ys)
-    → Without k e xs c n ys
-without k e [] c n ys g = record {
-  low = g .0;
-  filled = g .1;
-  high = g .2;
-  gapped = gapped-weaken k (suc (c + n)) e ys (omega arith) (g .3);
-  dropped = rw (eqb-same c);
-  cover = λ u. or-comm (within c (c + n) u) (covered ys u);
-  clear = λ u x y. gapped-below (suc (c + n)) e ys (g .3) u (omega arith);
-  inner = λ d x y.
-      and-i (beginsElsewhere d (run c n)) (all (beginsElsewhere d) ys) (ap not (eqb-ne c d (λ z. omega arith)))
-      (elsewhere-above d (suc (c + n)) e ys (g .3) (omega arith));
-}
-without k e (r ∷ xs) c n ys g =
-    let end = r .start + r .size in
-    let w = without (suc end) e xs c n ys (g .3) in
-    let low = w .low in
-    record {
-      low = omega arith;
-      filled = w .filled;
-      high = w .high;
-      gapped = (g .0, g .1, g .2, w .gapped);
-      dropped = rw (eqb-ne (r .start) c (λ z. omega arith)) (ap (λ (l : List Run). r ∷ l) (w .dropped));
-      cover = λ u. rw (w .cover u) (sym (or-assoc (has r u) (covered (xs ++ ys) u) (within c (c + n) u)));
-      clear = λ u x y. rw (within-high (r .start) end u (omega arith)) (w .clear u x y);
-      inner = λ d x y.
-          and-i (beginsElsewhere d r) (all (beginsElsewhere d) (xs ++ run c n ∷ ys))
-          (ap not (eqb-ne (r .start) d (λ z. omega arith))) (w .inner d x y);
-    }
-
--- ---- the list and its tree
-
-covered-tree : (rs : List Run) (u : ℕ) → covered rs u ≡ true → In u (treeOf rs)
-covered-tree rs u h = covered-in (treeOf rs) u (rw (inorder-treeOf rs) h)
-
-tree-covered : (rs : List Run) (u : ℕ) → In u (treeOf rs) → covered rs u ≡ true
-tree-covered rs u i = ap (λ l. covered l u) (sym (inorder-treeOf rs)) ∙ in-covered (treeOf rs) u i
-
-uncovered : (rs : List Run) (u : ℕ) → covered rs u ≡ false → In u (treeOf rs) → ⊥
-uncovered rs u h i = true≢false (sym (tree-covered rs u i) ∙ h)
-
-begins-elsewhere : (c : ℕ) (t : Tree) → all (beginsElsewhere c) (inorder t) ≡ true → NotFirst c t
-begins-elsewhere c leaf h = tt
-begins-elsewhere c (node a q b) h =
-    let f = beginsElsewhere c in
-    let rest = all-append-r f (inorder a) (q ∷ inorder b) h in (
-      begins-elsewhere c a (all-append-l f (inorder a) (q ∷ inorder b) h),
-      (λ z. eqb-false (q .start) c (not-true (beginsAt c q) (and-l (f q) (all f (inorder b)) rest)) (sym z)),
-      begins-elsewhere c b (and-r (f q) (all f (inorder b)) rest),
-    )
-
--- ---- words of the free runs
-
--- runs of which no word has changed still lie
-kept : {m m′ : Words} {root : ℕ} {rs : List Run} → Lies m root rs → length m′ ≡ length m
-    → ((i : ℕ) → covered rs (i / 2) ≡ true → getD m′ i 0 ≡ getD m i 0)
-    → Lies m′ root rs
-unfolding formOne
-kept {m} {m′} {root} {rs} p long same =
-    let t = treeOf rs in
-    let here = p .tree in
-    let place : Within 0 (length m′ / 2) t = rw long (here .within) in
-    record {
-      tree = record {
-        at = here .at;
-        holds = stored-holds formOne links readable-one m′ t 0 (length m′ / 2) place (omega arith)
-            (λ i x. same i (tree-covered rs (i / 2) x)
-            ∙ holds-stored formOne links readable-one m t 0 (length m / 2) (here .within) (here .holds) i x);
-        within = place;
-        small = rw long (here .small);
-      };
-      gapped = rw long (p .gapped);
-    }
-
-abbrev readsBack : Words → Run → Bool
-readsBack m q = eqb (lengthAt formOne m (q .start)) (q .size)
-
-module _ {m : Words} where
-  all-read-back : {l : ℕ} (t : Tree) → At formOne links m l t → all (readsBack m) (inorder t) ≡ true
-  all-read-back leaf p = refl
-  all-read-back (node a q b) p =
-      all-append (readsBack m) (inorder a) (q ∷ inorder b) (all-read-back a (at-left readable-one p refl))
-      (and-i (readsBack m q) (all (readsBack m) (inorder b)) (rw (at-length readable-one p) (eqb-same (q .size)))
-      (all-read-back b (at-right readable-one p refl)))
-
-  -- the length of a run is its node's
-  run-length : {root : ℕ} (xs : List Run) (c n : ℕ) (ys : List Run) → Lies m root (xs ++ run c n ∷ ys)
-      → lengthAt formOne m c ≡ n
-  run-length xs c n ys p =
-      let rs = xs ++ run c n ∷ ys in
-      let f = readsBack m in
-      let each : all f rs ≡ true = rw (inorder-treeOf rs) at (all-read-back (treeOf rs) (p .tree)) in
-      eqb-eq (lengthAt formOne m c) n (and-l (f (run c n)) (all f ys) (all-append-r f xs (run c n ∷ ys) each))
-
-  module _ {root : ℕ} {rs : List Run} (p : Lies m root rs) where
-    -- a free cell lies in the arena
-    cell-inside : (u : ℕ) → covered rs u ≡ true → u < cells formOne m
-    cell-inside u h = in-range (treeOf rs) 0 (cells formOne m) u (p .tree .within) (covered-tree rs u h) .1
-
-    cell-no-node : (u : ℕ) → covered rs u ≡ false → NotFirst u (treeOf rs)
-    cell-no-node u h = outside-first (treeOf rs) 0 (cells formOne m) u (p .tree .within) (uncovered rs u h)
-
-    -- a word of a run beyond its first cell
-    inner-zero : (i : ℕ) → covered rs (i / 2) ≡ true → NotFirst (i / 2) (treeOf rs) → getD m i 0 ≡ 0
-    unfolding formOne
-    inner-zero i h n =
-        let t = treeOf rs in
-        let place = p .tree in
-        holds-stored formOne links readable-one m t 0 (cells formOne m) (place .within) (place .holds) i
-        (covered-tree rs (i / 2) h)
-        ∙ nodeWord-zero formOne links readable-one t i n
-
 -- ---- a run taken out of the arena
 
 -- a search by another cell does not see it
@@ -242,62 +103,19 @@ begins-other : (z c n : ℕ) → z ≢ c → (xs ys : List Run)
 begins-other z c n h [] ys = rw (eqb-ne c z (λ e. h (sym e)))
 begins-other z c n h (x ∷ xs) ys = ap (cond (beginsAt z x) (some x)) (begins-other z c n h xs ys)
 
-module _ {m m₁ m′ : Words} {root c k : ℕ} (deleted : Deleted formOne links m m₁ root c k)
-    (cleared : NodeCleared formOne m₁ m′ c) (xs : List Run) (n : ℕ) (ys : List Run)
-    (p : Lies m root (xs ++ run c n ∷ ys)) where
-  abbrev old : List Run
-  old = xs ++ run c n ∷ ys
-
-  abbrev rest : List Run
-  rest = xs ++ ys
-
-  gone : Without 0 (cells formOne m) xs c n ys
-  gone = without 0 (cells formOne m) xs c n ys (p .gapped)
-
-  cut : Became formOne links m m₁ (NoNode (treeOf old)) k (treeOf rest)
-  cut =
-      rw (delete-tree c old 0 (cells formOne m) (p .tree .within), gone .dropped) at (deleted (treeOf old) (p .tree))
-
-  in-run : (d : ℕ) → c ≤ d → d < c + n → covered old d ≡ true
-  in-run d x y = gone .cover d ∙ rw (within-in c (c + n) d x y) (or-true (covered rest d))
-
-  out-changed : Changed m m′ old rest k
-  unfolding formOne
-  out-changed =
-      let w = gone in
-      let filled = w .filled in
-      let lies : Lies m₁ k rest = record { tree = cut .tree; gapped = rw (cut .long) (w .gapped) } in
-      record {
-        lies = kept lies (cleared .long)
-            (λ i h. cleared .frame (i / 2)
-            (λ z. true≢false (sym h ∙ w .clear (i / 2) (omega arith) (omega arith))) i refl);
-        frame = λ i h h′.
-            cleared .frame (i / 2) (λ z. true≢false (sym (in-run (i / 2) (omega arith) (omega arith)) ∙ h)) i refl
-            ∙ cut .frame (i / 2) (cell-no-node p (i / 2) h) i refl;
-        long = cleared .long ∙ cut .long;
-      }
-
-  out-zeros : Zeros m′ (2 * c) (2 * (c + n))
-  unfolding formOne
-  out-zeros i x y = go (ℕ-discrete (i / 2) c)
-    where
-      go : Dec (i / 2 ≡ c) → getD m′ i 0 ≡ 0
-      go (yes z) = cleared .zero i z
-      go (no z) =
-          let inner = begins-elsewhere (i / 2) (treeOf old)
-          (rw (inorder-treeOf old) (gone .inner (i / 2) (omega arith) (omega arith))) in
-          cleared .frame (i / 2) z i refl ∙ cut .frame (i / 2) inner i refl
-          ∙ inner-zero p i (in-run (i / 2) (omega arith) (omega arith)) inner
-
-  pub take-out : Removed m m′ old rest c (c + n) k
-  take-out = record {
-    change = out-changed;
-    order = omega arith;
-    cover = gone .cover;
-    clear = gone .clear;
-    zeros = out-zeros;
-    others = λ z h. sym (begins-other z c n h xs ys);
-  }
+pub take-out : {m m₁ m′ : Words} {root c k : ℕ} → Deleted formOne links m m₁ root c k → NodeCleared formOne m₁ m′ c
+    → TakenOut m m′ root c k
+take-out {c = c} del cleared xs n ys p =
+    let (change, zeros) = all-taken xs c n ys p del cleared in
+    let w = gone xs c n ys p in
+    record {
+      change = change;
+      order = omega arith;
+      cover = w .cover;
+      clear = w .clear;
+      zeros = zeros;
+      others = λ z h. sym (begins-other z c n h xs ys);
+    }
 
 -- where a block that lies in the tree begins and ends
 pub block-end : {m : Words} {root c : ℕ}

@@ -12,7 +12,7 @@ use Rattle.stored_forms.specs.Tree.{Tree, leaf, node, link}
 use Rattle.stored_forms.specs.Blocks.{Within, NotFirst}
 use Rattle.stored_forms.proofs.NodeLaws.{within-le}
 use Rattle.tree_nodes.specs.Nodes.{differ}
-use Rattle.tree_nodes.proofs.LinkLaws.{same-link, other-link, differ-few}
+use Rattle.tree_nodes.proofs.LinkLaws.{same-link, differ-few}
 use Rattle.free_tree.specs.Shapes.{nodes, below, above, splitTop}
 use Rattle.free_tree.specs.Links.{leftIn, rightIn, sonsChanged, linksChanged, partsChanged}
 use Rattle.free_tree.proofs.PartLaws.{within-below, within-above}

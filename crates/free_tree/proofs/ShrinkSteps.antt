@@ -16,7 +16,7 @@ use Rattle.tree_nodes.specs.Nodes.{cells, NodePut}
 use Rattle.free_tree.specs.Shapes.{join, standsAbove, standsOver, shrink, Stops, beginsAt}
 use Rattle.free_tree.specs.Links.{linkOf}
 use Rattle.free_tree.specs.Held.{At, Became, NoNodeNor, Beside, BothJoined, Placed, Room, Inserted, OverRoot}
-use Rattle.free_tree.specs.Held.{Between, NoNodeOfNor, Settled, Longer}
+use Rattle.free_tree.specs.Held.{Between, Settled, Longer}
 use Rattle.free_tree.proofs.RunOrder.{wider}
 use Rattle.free_tree.proofs.CellLaws.{no-node-below, no-node-above, same-zeros}
 use Rattle.free_tree.proofs.StepLaws.{rooted-length, at-none, at-left, at-right}

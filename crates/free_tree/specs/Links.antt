@@ -2,7 +2,6 @@
 use Prim.Native.Nat.{ℕ, _+_, _/_, _%_}
 use mathlib.Core.Bool.{cond}
 use lib.Dec.{ltb}
-use Rattle.ledger.specs.Runs.{Run}
 use Rattle.stored_forms.specs.Tree.{Tree, leaf, node, link}
 use Rattle.tree_nodes.specs.Nodes.{differ, most}
 use Rattle.free_tree.specs.Shapes.{below, above}

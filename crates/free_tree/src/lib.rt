@@ -1,5 +1,5 @@
 // The free tree of a tree pool: the free blocks in a lent arena, each with its node in its first cell (01, "Stored
-// form of the tree pool"). How a node lies in words is left to tree_nodes, through which every function here goes.
+// form of the tree pool"). How a node lies in words is left to tree_nodes: no function here reads or writes a word.
 use tree_nodes::left_of;
 use tree_nodes::length_of;
 use tree_nodes::put_first;

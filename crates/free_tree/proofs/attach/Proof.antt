@@ -1,7 +1,6 @@
 -- `free_tree::attach` meets its contract. Assumes nothing.
 -- In a need, `b3` is the place three before its own.
 use borrow.Author.Needs.{needs}
-use native.Mathlib.Omega.{arith}
 use mathlib.Core.Path.{_∙_}
 use denote.Ref.{now}
 use Rattle.stored_forms.specs.Tree.{formOne}

@@ -1,7 +1,7 @@
 -- `insert_counts::turns` meets its contract. The invariant: the map is the arena's. Assumes nothing.
 use Prim.Native.Nat.{_-_, _≤_}
 use native.Mathlib.Omega.{arith}
-use mathlib.Core.Path.{_≡_, _∙_}
+use mathlib.Core.Path.{_≡_}
 use lib.ListN.{length}
 use Rattle.insert_counts.specs.Map.{Mapped}
 use borrow.Author.Needs.{needs}

@@ -4,7 +4,7 @@ use native.Mathlib.Omega.{arith}
 use native.Mathlib.Decide.{ℕ-discrete}
 use mathlib.Core.Path.{_≡_, refl, sym, ap, _∙_, subst}
 use mathlib.Core.Logic.{_≢_, _⊎_, inl, inr}
-use mathlib.Core.Bool.{Bool, true, false, cond, not, _&&_, _||_, false≢true, or-true}
+use mathlib.Core.Bool.{Bool, true, false, cond, not, _&&_, _||_, false≢true, true≢false, or-true}
 use mathlib.Core.List.{List, [], _∷_}
 use mathlib.Core.Option.{Option, none, some}
 use lib.Dec.{eqb}
@@ -17,20 +17,24 @@ use Rattle.ledger.specs.Records.{Member, member, planFor, settle}
 use Rattle.ledger.proofs.RecordLaws.{has-ticket, record-zero, record-gone, record-kept, table-records}
 use Rattle.ledger.proofs.RecordLaws.{length-table-settle, length-table-enter}
 use Rattle.calls.specs.Pool.{Head, Pool, ledger, Engine, nextAfter, store}
-use Rattle.calls.specs.Step.{Call, format, single, look, list, accepted, Act, ask, give, query, bad, Outcome}
+use Rattle.calls.specs.Step.{Call, format, single, look, list, accepted, Act, ask, give, query, bad, Counted, Outcome}
 use Rattle.calls.specs.Step.{numberOf, newRow, carry, grant, answerTo, poolAfter, countedOf, poolAfterAll}
 use Rattle.calls.specs.Step.{actsOf, fills, blank, refusedBy, actsDone, perform, step}
 use Rattle.calls.specs.Lent.{Buffer, inArena, inTable, inIndex, Spot, own, other, isAllOf, see, leaveAt, leave}
 use Rattle.calls.specs.Lent.{leaveAll, Event, mapCall, headBrought, brought, sameHead, ownTable, headReturns}
 use Rattle.calls.specs.Lent.{writtenBy, outcome, after, Later, calls, writes, laterPool}
 use Rattle.calls.specs.Demand1.{Refused}
+use Rattle.calls.specs.Demand3.{elsewhere}
 use Rattle.calls.specs.Restart.{ticketOf, ticketNamed, offTable, ownHead, asLeft, allowed, allAllowed, Always}
+use Rattle.calls.specs.Restart.{requestsRefused}
 use Rattle.calls.specs.Restart.{RefusedBelow, NoneBelow, Restart}
 use Rattle.calls.proofs.StoreLaws.{ledger-store, whole-records, blank-long}
 use Rattle.calls.proofs.ActLaws.{Asked, named-none, act-refused, act-by}
 use Rattle.calls.proofs.GateLaws.{Way, stops, runs, way, perform-acts, format-done}
 use Rattle.calls.proofs.GrantLaws.{over, record-enter, entered, zeroed, grant-store}
 use Rattle.calls.proofs.LentLaws.{leave-all, own-table, fills-seen, outcome-is, quiet-after}
+use Rattle.calls.proofs.LentLaws.{returned-head}
+use Rattle.calls.proofs.CallLaws.{act-kept}
 use Rattle.calls.proofs.Demand1.{refused-step}
 
 -- No ticket below n is live, none is given any more, and the table has its length.
@@ -187,6 +191,63 @@ module _ (E : Engine) where
         by o (stops x g z e) = subst (λ (y : Outcome). RefusedBelow E n (y .counted)) (sym e) (stopped x z c)
         by o (runs g e) = subst (λ (y : Outcome). RefusedBelow E n (y .counted)) (sym e) (ran c)
 
+-- ---- a call all of whose acts are refused
+
+abbrev refusedOne : Counted → Bool
+refusedOne c = not (accepted (c .answer))
+
+-- it leaves memory as it was; if it is accepted all the same, as a list is, it hands back the head that it got
+record Kept (c : Call Words) (m : Pool) (o : Outcome) : Type 0 where
+  arena : o .pool .arena ≡ m .arena
+  table : o .pool .table ≡ m .table
+  index : o .pool .index ≡ m .index
+  head : accepted (o .answer) ≡ true → (fills c ≡ false) × (o .pool .head ≡ m .head)
+
+module _ (E : Engine) where
+  refused-acts : (more : List Act) (m : Pool) → all refusedOne (countedOf E m more) ≡ true → poolAfterAll E m more ≡ m
+  refused-acts [] m h = refl
+  refused-acts (a ∷ more) m h =
+      let rest = all refusedOne (countedOf E (poolAfter E m a) more) in
+      let f = not-true (accepted (answerTo E m a)) (and-l (not (accepted (answerTo E m a))) rest h) in
+      refused-acts more (poolAfter E m a) (and-r (not (accepted (answerTo E m a))) rest h) ∙ act-kept E m a f
+
+  refused-call : (c : Call Words) (m : Pool) → all refusedOne (step E c m .counted) ≡ true → Kept c m (step E c m)
+  unfolding perform actsDone
+  refused-call c m h = by (step E c m) (way E c m) h
+    where
+      filled : (c : Call Words) → fills c ≡ true → all refusedOne (perform E c m .counted) ≡ true → ⊥
+      filled (format first) f h = false≢true h
+      filled (single a) f h = false≢true f
+      filled (look r hold) f h = false≢true f
+      filled (list rs bs) f h = false≢true f
+
+      done : fills c ≡ false → all refusedOne (actsDone E c m .counted) ≡ true → Kept c m (actsDone E c m)
+      done f h =
+          let k = refused-acts (actsOf c) m h in
+          record {
+            arena = ap (λ (z : Pool). z .arena) k;
+            table = ap (λ (z : Pool). z .table) k;
+            index = ap (λ (z : Pool). z .index) k;
+            head = λ _. (f, ap (λ (z : Pool). z .head) k);
+          }
+
+      acts : (f : Bool) → fills c ≡ f → all refusedOne (perform E c m .counted) ≡ true → Kept c m (perform E c m)
+      acts true f h = absurd (filled c f h)
+      acts false f h =
+          let e = perform-acts E c m f in
+          subst (Kept c m) (sym e) (done f (subst (λ (z : Outcome). all refusedOne (z .counted) ≡ true) e h))
+
+      by : (o : Outcome) → Way E c m o → all refusedOne (o .counted) ≡ true → Kept c m o
+      by o (stops n g z e) h = subst (Kept c m) (sym e) (record {
+        arena = refl;
+        table = refl;
+        index = refl;
+        head = λ y. absurd (false≢true (sym (eqb-ne n 0 z) ∙ y));
+      })
+      by o (runs g e) h =
+          subst (Kept c m) (sym e)
+          (acts (fills c) refl (subst (λ (z : Outcome). all refusedOne (z .counted) ≡ true) e h))
+
 -- ---- what a call leaves of the table
 
 leave-off : (l : Buffer) (x : Words) (q : Pool) → all offTable l ≡ true → leave l x q .table ≡ q .table
@@ -260,6 +321,25 @@ module _ (E : Engine) (q : Pool) (e : Event) where
         buffers = λ _. k .buffers;
       })
 
+  -- a list of which each request was refused leaves the pool, where its answers were written outside
+  requests-after : all refusedOne (outcome E q e .counted) ≡ true → elsewhere (e .call) ≡ true → after E q e ≡ q
+  requests-after h out =
+      let c = mapCall (see q) (e .call) in
+      let is = outcome-is E q e in
+      let k = refused-call E c (brought q e) (ap (λ (z : Outcome). all refusedOne (z .counted)) (sym is) ∙ h) in
+      quiet-after E q e (record {
+        arena = ap (λ (z : Outcome). z .pool .arena) is ∙ k .arena;
+        table = ap (λ (z : Outcome). z .pool .table) is ∙ k .table;
+        index = ap (λ (z : Outcome). z .pool .index) is ∙ k .index;
+        head = λ a.
+            let (f, back) = k .head (ap (λ (z : Outcome). accepted (z .answer)) (sym is)
+            ∙ and-l (accepted (outcome E q e .answer)) (headReturns q e) a) in
+            ap (λ (z : Outcome). z .pool .head) is ∙ back
+            ∙ returned-head q e (and-r (accepted (outcome E q e .answer)) (headReturns q e) a)
+            (sym (fills-seen (see q) (e .call)) ∙ f);
+        buffers = λ inside. absurd (true≢false (sym out ∙ inside));
+      })
+
 -- ---- all along
 
 module _ (E : Engine) (n long : ℕ) (whole : long % recordWords ≡ 0) where
@@ -285,12 +365,20 @@ module _ (E : Engine) (n long : ℕ) (whole : long % recordWords ≡ 0) where
           fresh-same n long (outcome E q e .pool) (after E q e) (ap (λ (z : Head). z .next) (head-after E q e g a))
           (table-after E q e g (left .table ∙ sym (f .table))) left
 
-      go : (b : Bool) → accepted (outcome E q e .answer) ≡ b
-          → (not b || (asLeft q e && not (fills (e .call)))) ≡ true → Fresh n long (after E q e)
-      go false a h = subst (Fresh n long) (sym (refused-after E q e a)) f
-      go true a h =
+      ran : accepted (outcome E q e .answer) ≡ true → (b : Bool) → requestsRefused E q e ≡ b
+          → (b || (asLeft q e && not (fills (e .call)))) ≡ true → Fresh n long (after E q e)
+      ran a true r h =
+          subst (Fresh n long) (sym (requests-after E q e
+          (and-l (all refusedOne (outcome E q e .counted)) (elsewhere (e .call)) r)
+          (and-r (all refusedOne (outcome E q e .counted)) (elsewhere (e .call)) r))) f
+      ran a false r h =
           took a (and-l (asLeft q e) (not (fills (e .call))) h)
           (not-true (fills (e .call)) (and-r (asLeft q e) (not (fills (e .call))) h))
+
+      go : (b : Bool) → accepted (outcome E q e .answer) ≡ b
+          → (not b || requestsRefused E q e || (asLeft q e && not (fills (e .call)))) ≡ true → Fresh n long (after E q e)
+      go false a h = subst (Fresh n long) (sym (refused-after E q e a)) f
+      go true a h = ran a (requestsRefused E q e) refl h
 
   later-fresh : (q : Pool) (l : Later) → allowed E q l ≡ true → Fresh n long q → Fresh n long (laterPool E q l)
   later-fresh q (calls e) h f = event-fresh q e h f

@@ -14,6 +14,7 @@ use Rattle.calls.specs.Step.{Call, format, single, look, list, accepted,
 use Rattle.calls.specs.Step.{fills, step}
 use Rattle.calls.specs.Lent.{inArena, inTable, inIndex, Spot, own, other, Event, headBrought, sameHead, ownTable}
 use Rattle.calls.specs.Lent.{writtenBy, outcome, Later, calls, writes, laterPool}
+use Rattle.calls.specs.Demand3.{elsewhere}
 
 -- ---- the ticket that an act names, and a call that is one act
 
@@ -52,10 +53,16 @@ asLeft q e =
     && all offTable (e .arena) && all offTable (e .index) && all (all offTable) (writtenBy (e .call))
 
 module _ (E : Engine) where
+  -- A list that runs counts as its requests (01): refused are those of which each is, with the answers written outside
+  -- the pool.
+  abbrev pub requestsRefused : Pool → Event → Bool
+  requestsRefused q e = all (λ c. not (accepted (c .answer))) (outcome E q e .counted) && elsewhere (e .call)
+
   -- A call is refused, or gets both as they were left and fills nothing anew. A caller writes anywhere but into the
   -- table.
   abbrev pub allowed : Pool → Later → Bool
-  allowed q (calls e) = not (accepted (outcome E q e .answer)) || (asLeft q e && not (fills (e .call)))
+  allowed q (calls e) =
+      not (accepted (outcome E q e .answer)) || requestsRefused q e || (asLeft q e && not (fills (e .call)))
   allowed q (writes part i v) = offTable (own part i)
 
   abbrev pub allAllowed : Pool → List Later → Bool

@@ -11,7 +11,7 @@ use Rattle.words.proofs.Tests.{and-l, and-r, and-i, eqb-eq, eqb-same, eqb-ne, e
 use Rattle.words.proofs.Tests.{not-lt}
 use Rattle.words.proofs.ListLaws.{all-imp, all-append, all-append-l, all-append-r}
 use Rattle.ledger.specs.Runs.{Run}
-use Rattle.stored_forms.specs.Tree.{Tree, leaf, node, inorder, Heaped, shorter, noLonger, treeOf}
+use Rattle.stored_forms.specs.Tree.{Tree, leaf, node, inorder, Heaped, shorterThan, noLongerThan, treeOf}
 use Rattle.stored_forms.proofs.TreeLaws.{tree-unique, inorder-treeOf, heaped-treeOf}
 use Rattle.stored_forms.specs.Blocks.{Within, NotFirst}
 use Rattle.free_tree.specs.Shapes.{below, above, standsAbove, insert, join, delete, putRun, dropRun}
@@ -92,20 +92,20 @@ all-insert f r t e h =
 
 -- a run that stands above the root: what begins below it is shorter
 below-shorter : (r : Run) (a : Tree) (q : Run) (b : Tree) → standsAbove r q ≡ true → Heaped (node a q b)
-    → all (shorter r) (inorder (below (r .start) (node a q b))) ≡ true
+    → all (shorterThan r) (inorder (below (r .start) (node a q b))) ≡ true
 below-shorter r a q b e h = go (ltb (q .start) (r .start)) refl
   where
-    go : (d : Bool) → ltb (q .start) (r .start) ≡ d → all (shorter r) (inorder (below (r .start) (node a q b))) ≡ true
+    go : (d : Bool) → ltb (q .start) (r .start) ≡ d → all (shorterThan r) (inorder (below (r .start) (node a q b))) ≡ true
     go true f =
         let low = lt-of (q .start) (r .start) f in
         let less = stands-true r q e .1 (omega arith) in
-        all-below (shorter r) (r .start) (node a q b)
-        (all-top (shorter r) (node a q b) h (λ p u. of-lt (p .size) (r .size) (omega arith)))
+        all-below (shorterThan r) (r .start) (node a q b)
+        (all-top (shorterThan r) (node a q b) h (λ p u. of-lt (p .size) (r .size) (omega arith)))
     go false f =
         let long = stands-true r q e .0 in
         rw f
-        (all-below (shorter r) (r .start) a
-        (all-imp (shorter q) (shorter r)
+        (all-below (shorterThan r) (r .start) a
+        (all-imp (shorterThan q) (shorterThan r)
         (λ p u. of-lt (p .size) (r .size) (omega (arith, lt-of (p .size) (q .size) u))) (inorder a) (h .0)))
 
 pub heaped-insert : (r : Run) (t : Tree) → NotFirst (r .start) t → Heaped t → Heaped (insert r t)
@@ -126,13 +126,13 @@ heaped-insert r (node a q b) n h =
     go true e d f i j =
         let long = stands-true r q e .0 in (
           below-shorter r a q b e h,
-          all-above (noLonger r) x t (all-top (noLonger r) t h (λ p u. of-le (p .size) (r .size) (omega arith))),
+          all-above (noLongerThan r) x t (all-top (noLongerThan r) t h (λ p u. of-le (p .size) (r .size) (omega arith))),
           heaped-below x t h,
           heaped-above x t h,
         )
     go false e true f i j = (
       h .0,
-      all-insert (noLonger q) r b (of-le (r .size) (q .size) (stands-false r q e .0)) (h .1),
+      all-insert (noLongerThan q) r b (of-le (r .size) (q .size) (stands-false r q e .0)) (h .1),
       h .2,
       j,
     )
@@ -140,7 +140,7 @@ heaped-insert r (node a q b) n h =
         let high = not-lt (q .start) x f in
         let other = n .1 in
         let less = stands-false r q e .1 (omega arith) in
-        (all-insert (shorter q) r a (of-lt (r .size) (q .size) less) (h .0), h .1, i, h .3)
+        (all-insert (shorterThan q) r a (of-lt (r .size) (q .size) less) (h .0), h .1, i, h .3)
 
 pub within-insert : (r : Run) (t : Tree) (lo hi : ℕ) → Apart r t → Within lo hi t → 1 ≤ r .size → lo ≤ r .start
     → r .start + r .size ≤ hi → Within lo hi (insert r t)
@@ -196,8 +196,8 @@ heaped-delete x (node a q b) h =
   where
     go : (c d : Bool) → Heaped (delete x a) → Heaped (delete x b)
         → Heaped (cond c (node (delete x a) q b) (cond d (node a q (delete x b)) (join a b)))
-    go true d i j = (all-delete (shorter q) x a (h .0), h .1, i, h .3)
-    go false true i j = (h .0, all-delete (noLonger q) x b (h .1), h .2, j)
+    go true d i j = (all-delete (shorterThan q) x a (h .0), h .1, i, h .3)
+    go false true i j = (h .0, all-delete (noLongerThan q) x b (h .1), h .2, j)
     go false false i j = heaped-join a b (h .2) (h .3)
 
 pub within-delete : (x : ℕ) (t : Tree) (lo hi : ℕ) → Within lo hi t → Within lo hi (delete x t)

@@ -9,7 +9,7 @@ use Rattle.words.specs.Lists.{all}
 use Rattle.words.proofs.Tests.{and-i, le-of, of-le, lt-of, of-lt, not-le, of-gt}
 use Rattle.words.proofs.ListLaws.{all-imp, all-append}
 use Rattle.ledger.specs.Runs.{Run}
-use Rattle.stored_forms.specs.Tree.{Tree, leaf, node, inorder, Heaped, shorter, noLonger}
+use Rattle.stored_forms.specs.Tree.{Tree, leaf, node, inorder, Heaped, shorterThan, noLongerThan}
 use Rattle.stored_forms.specs.Blocks.{Within}
 use Rattle.free_tree.specs.Shapes.{top, joinOver, join}
 use Rattle.free_tree.proofs.RunOrder.{wider}
@@ -20,9 +20,9 @@ pub all-top : (f : Run → Bool) (t : Tree) → Heaped t → ((r : Run) → r .s
 all-top f leaf h g = refl
 all-top f (node a q b) h g =
     all-append f (inorder a) (q ∷ inorder b)
-    (all-imp (shorter q) f (λ r e. g r (omega (arith, lt-of (r .size) (q .size) e))) (inorder a) (h .0))
+    (all-imp (shorterThan q) f (λ r e. g r (omega (arith, lt-of (r .size) (q .size) e))) (inorder a) (h .0))
     (and-i (f q) (all f (inorder b)) (g q (omega arith))
-    (all-imp (noLonger q) f (λ r e. g r (le-of (r .size) (q .size) e)) (inorder b) (h .1)))
+    (all-imp (noLongerThan q) f (λ r e. g r (le-of (r .size) (q .size) e)) (inorder b) (h .1)))
 
 -- ---- by which root stays on top
 
@@ -76,8 +76,8 @@ is-join =
       heap = λ x y. (
         x .0,
         rw (i .order)
-            (all-append (noLonger q) (inorder b) (inorder t) (x .1)
-            (all-top (noLonger q) t y (λ r l. of-le (r .size) (q .size) (omega arith)))),
+            (all-append (noLongerThan q) (inorder b) (inorder t) (x .1)
+            (all-top (noLongerThan q) t y (λ r l. of-le (r .size) (q .size) (omega arith)))),
         x .2,
         i .heap (x .3) y,
       );
@@ -87,8 +87,8 @@ is-join =
           ap (λ (l : List Run). l ++ q ∷ inorder b) (i .order) ∙ append-assoc (inorder t) (inorder a) (q ∷ inorder b);
       heap = λ x y. (
         rw (i .order)
-            (all-append (shorter q) (inorder t) (inorder a)
-            (all-top (shorter q) t x (λ r l. of-lt (r .size) (q .size) (omega arith))) (y .0)),
+            (all-append (shorterThan q) (inorder t) (inorder a)
+            (all-top (shorterThan q) t x (λ r l. of-lt (r .size) (q .size) (omega arith))) (y .0)),
         y .1,
         i .heap x (y .2),
         y .3,

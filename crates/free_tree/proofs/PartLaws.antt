@@ -10,7 +10,7 @@ use Rattle.words.specs.Lists.{all}
 use Rattle.words.proofs.Tests.{and-i, lt-of, of-lt, not-lt, of-ge}
 use Rattle.words.proofs.ListLaws.{all-append, all-append-l, all-append-r}
 use Rattle.ledger.specs.Runs.{Run}
-use Rattle.stored_forms.specs.Tree.{Tree, leaf, node, inorder, Heaped, noLonger, shorter}
+use Rattle.stored_forms.specs.Tree.{Tree, leaf, node, inorder, Heaped, noLongerThan, shorterThan}
 use Rattle.stored_forms.specs.Blocks.{Within}
 use Rattle.stored_forms.proofs.NodeLaws.{within-le}
 use Rattle.free_tree.specs.Shapes.{below, above}
@@ -46,7 +46,7 @@ heaped-below x leaf h = tt
 heaped-below x (node a q b) h = go (ltb (q .start) x) (heaped-below x a (h .2)) (heaped-below x b (h .3))
   where
     go : (low : Bool) → Heaped (below x a) → Heaped (below x b) → Heaped (cond low (node a q (below x b)) (below x a))
-    go true i j = (h .0, all-below (noLonger q) x b (h .1), h .2, j)
+    go true i j = (h .0, all-below (noLongerThan q) x b (h .1), h .2, j)
     go false i j = i
 
 pub heaped-above : (x : ℕ) (t : Tree) → Heaped t → Heaped (above x t)
@@ -55,7 +55,7 @@ heaped-above x (node a q b) h = go (ltb (q .start) x) (heaped-above x a (h .2)) 
   where
     go : (low : Bool) → Heaped (above x a) → Heaped (above x b) → Heaped (cond low (above x b) (node (above x a) q b))
     go true i j = j
-    go false i j = (all-above (shorter q) x a (h .0), h .1, i, h .3)
+    go false i j = (all-above (shorterThan q) x a (h .0), h .1, i, h .3)
 
 -- ---- where the parts lie
 

@@ -11,7 +11,7 @@ use Rattle.words.specs.Lists.{all, firstThat}
 use Rattle.words.proofs.Tests.{false-of, and-l, and-r, and-i, eqb-same, eqb-ne, le-of, of-le, lt-of, of-lt, not-lt}
 use Rattle.words.proofs.Tests.{of-ge, absurd-some}
 use Rattle.ledger.specs.Runs.{Run, run}
-use Rattle.stored_forms.specs.Tree.{Tree, leaf, node, inorder, Heaped, shorter, noLonger}
+use Rattle.stored_forms.specs.Tree.{Tree, leaf, node, inorder, Heaped, shorterThan, noLongerThan}
 use Rattle.stored_forms.proofs.TreeLaws.{tree-unique}
 use Rattle.stored_forms.specs.Blocks.{Within, NotFirst}
 use Rattle.stored_forms.proofs.NodeLaws.{within-le}
@@ -66,18 +66,18 @@ not-first-join c =
 
 -- a run that stands above a tree's root: of what begins below it all is shorter, of what begins above it none longer
 over-shorter : (r : Run) (t : Tree) (lo : ℕ) → Within lo (r .start) t → Heaped t → standsOver r t ≡ true
-    → all (shorter r) (inorder t) ≡ true
+    → all (shorterThan r) (inorder t) ≡ true
 over-shorter r leaf lo w h e = refl
 over-shorter r (node a q b) lo w h e =
     let high = within-le b (q .start + q .size) (r .start) (w .2) in
     let less = stands-true r q e .1 (omega arith) in
-    all-top (shorter r) (node a q b) h (λ p u. of-lt (p .size) (r .size) (omega arith))
+    all-top (shorterThan r) (node a q b) h (λ p u. of-lt (p .size) (r .size) (omega arith))
 
-over-noLonger : (r : Run) (t : Tree) → Heaped t → standsOver r t ≡ true → all (noLonger r) (inorder t) ≡ true
+over-noLonger : (r : Run) (t : Tree) → Heaped t → standsOver r t ≡ true → all (noLongerThan r) (inorder t) ≡ true
 over-noLonger r leaf h e = refl
 over-noLonger r (node a q b) h e =
     let long = stands-true r q e .0 in
-    all-top (noLonger r) (node a q b) h (λ p u. of-le (p .size) (r .size) (omega arith))
+    all-top (noLongerThan r) (node a q b) h (λ p u. of-le (p .size) (r .size) (omega arith))
 
 module _ (r : Run) (a b : Tree) (lo hi : ℕ) (under : Within lo (r .start) a) (filled : 1 ≤ r .size)
     (over : Within (r .start + r .size) hi b) where
@@ -238,7 +238,7 @@ module _ (x k n : ℕ) (more : k < n) where
       go true e d g i j =
           let in-left = sym (found-left x a q b lo hi w (lt-of x (q .start) e)) ∙ f in
           let less =
-          lt-of n (q .size) (firstThat-all (shorter q) (beginsAt x) (inorder a) (run x n) (h .0) in-left) in
+          lt-of n (q .size) (firstThat-all (shorterThan q) (beginsAt x) (inorder a) (run x n) (h .0) in-left) in
           let end = found-within x n a lo (q .start) (w .0) in-left .1 in
           let sinks = false-of (standsAbove rest q) (λ s. omega (arith, stands-true rest q s .0)) in
           rw (sinks, of-ge (q .start) (x + k) (omega arith)) (ap (λ (t : Tree). node t q b) (i in-left))
@@ -246,7 +246,7 @@ module _ (x k n : ℕ) (more : k < n) where
           let past = lt-of (q .start) x g in
           let in-right = sym (found-right x a q b lo hi w past) ∙ f in
           let less =
-          le-of n (q .size) (firstThat-all (noLonger q) (beginsAt x) (inorder b) (run x n) (h .1) in-right) in
+          le-of n (q .size) (firstThat-all (noLongerThan q) (beginsAt x) (inorder b) (run x n) (h .1) in-right) in
           let sinks =
           false-of (standsAbove rest q) (λ s. omega (arith, stands-true rest q s .1 (omega arith))) in
           rw (sinks, of-lt (q .start) (x + k) (omega arith)) (ap (node a q) (j in-right))

@@ -1,9 +1,9 @@
--- The links of a tree that differ in another: what an insertion is to store. 02, request 4. Assumes nothing.
+-- The links of a tree that differ in another: what an insertion is to store. 02, ticket 4. Assumes nothing.
 use Prim.Native.Nat.{ℕ, _+_, _/_, _%_}
 use mathlib.Core.Bool.{cond}
 use lib.Dec.{ltb}
 use Rattle.stored_forms.specs.Tree.{Tree, leaf, node, link}
-use Rattle.tree_nodes.specs.Nodes.{differ, most}
+use Rattle.tree_nodes.specs.Nodes.{differ, countBase}
 use Rattle.free_tree.specs.Shapes.{below, above}
 
 -- the two links of the tree's node at cell c, 0 where it has none there
@@ -32,7 +32,7 @@ partsChanged x t = sonsChanged t (below x t) + sonsChanged t (above x t)
 -- ---- a link and a count in one number
 
 abbrev pub linkOf : ℕ → ℕ
-linkOf k = k % most
+linkOf k = k % countBase
 
 abbrev pub countOf : ℕ → ℕ
-countOf k = k / most
+countOf k = k / countBase

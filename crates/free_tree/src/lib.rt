@@ -13,7 +13,7 @@ ghost use mathlib.Core.Logic.{_≢_};
 ghost use Prim.Native.Nat.{ℕ, _+_, _-_, _≤_, _<_};
 ghost use Rattle.ledger.specs.Runs.{run};
 ghost use Rattle.stored_forms.specs.Tree.{Tree, formOne, lengthAt};
-ghost use Rattle.tree_nodes.specs.Nodes.{links, most, cells};
+ghost use Rattle.tree_nodes.specs.Nodes.{links, countBase, cells};
 ghost use Rattle.free_tree.specs.Shapes.{standsAbove, beginsAt};
 ghost use Rattle.free_tree.specs.Links.{linkOf, countOf};
 ghost use Rattle.free_tree.specs.Held.{At, Beside, LeftWins, RightWins, LeftJoined, RightJoined, BothJoined};
@@ -85,7 +85,7 @@ pub fn join_trees(arena: &mut [u32], a: usize, b: usize) -> usize
 // through memory
 
 fn with_count(l: usize, stored: u64) -> u64
-    requires { ⌜ (l < most) × (stored < most) ⌝ }
+    requires { ⌜ (l < countBase) × (stored < countBase) ⌝ }
     ensures { λ k. ⌜ (linkOf k ≡ l) × (countOf k ≡ stored) ⌝ }
 {
     l as u64 + 4294967296 * stored
@@ -209,7 +209,7 @@ fn place_of(arena: &[u32], l: usize, x: usize) -> Place
 // or the root link. The nodes above keep their links, so none is written.
 fn attach(arena: &mut [u32], root: usize, over: usize, x: usize, q: usize, stored: u64) -> u64
     requires { ⌜ over ≤ cells formOne (now arena) ⌝ }
-    requires { ⌜ (q < links) × (root < links) × (stored + 1 < most) ⌝ }
+    requires { ⌜ (q < links) × (root < links) × (stored + 1 < countBase) ⌝ }
     ensures { λ k. ⌜ Attached formOne (now (arena .entry)) (now (arena .exit)) root over x q (linkOf k) ⌝ }
     ensures { λ k. ⌜ countOf k ≡ stored + 1 ⌝ }
 {
@@ -245,7 +245,7 @@ fn put_over(arena: &mut [u32], l: usize, x: usize, n: u32) -> u64
 }
 
 // Inserts the block of `n` cells at cell `x`, whose words are zero already, into the tree at the link `l`. Returns the
-// link to the whole, and how many links were stored, the root link among them. 02, request 4.
+// link to the whole, and how many links were stored, the root link among them. 02, ticket 4.
 pub fn insert(arena: &mut [u32], l: usize, x: usize, n: u32) -> u64
     requires { ⌜ ((t : Tree) × Room formOne links (now arena) l (run x n) t) ⌝ }
     ensures { λ k. ⌜ Inserted formOne links (now (arena .entry)) (now (arena .exit)) l (run x n) k ⌝ }

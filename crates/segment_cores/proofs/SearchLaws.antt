@@ -16,7 +16,7 @@ use Rattle.ledger.specs.Records.{Ledger}
 use Rattle.ledger.specs.Units.{free, lowestFit}
 use Rattle.stored_forms.specs.Segments.{segmentRule, weight, segmentSize, startsAt, depth, controlWord, mostWords}
 use Rattle.stored_forms.specs.declared.Steps.{Steps}
-use Rattle.stored_forms.specs.Search.{logOf, blockCount, segmentStart, placesTo, steps, stepsTo, goDown, scan, searched}
+use Rattle.stored_forms.specs.Search.{logOf, blockCount, segmentBegin, placesTo, steps, stepsTo, goDown, scan, searched}
 use Rattle.stored_forms.proofs.SearchLaws.{count-few, count-none, count-add, log-power}
 use Rattle.stored_forms.proofs.SegmentLaws.{largest-above, largest-at}
 use Rattle.segment_index.specs.Index.{indexOf, Agree}
@@ -34,7 +34,7 @@ use Rattle.segment_cores.specs.Views.{word}
 use Rattle.segment_cores.specs.Cores.{Searching}
 
 -- the places by the readings of a ledger
-places-view : (S W : ℕ) (L : Ledger) (k : ℕ) → let start = segmentStart k (segmentSize W S) in
+places-view : (S W : ℕ) (L : Ledger) (k : ℕ) → let start = segmentBegin k (segmentSize W S) in
     placesTo S W L k ≡ 1 + logOf S depth + blockCount (controls L W) start (suc k - start)
 unfolding placesTo controlWord word
 places-view S W L k = refl
@@ -206,7 +206,7 @@ module _ (L : Ledger) (v : List ℤ) (t : Words) (s d n : ℕ) (K : Searching L 
             let all : blockCount c (k * g) (suc q - k * g) ≡ places =
             ap (blockCount c (k * g)) parts ∙ count-add c (k * g) (first - k * g) (suc q - first)
             ∙ rw (none, mid) (zero-add (blockCount c first (suc q - first)) ∙ sym (F .counted)) in
-            let here : 1 + logOf s depth + blockCount c (segmentStart q g) (suc q - segmentStart q g) ≡ 1 + d + places
+            let here : 1 + logOf s depth + blockCount c (segmentBegin q g) (suc q - segmentBegin q g) ≡ 1 + d + places
             = rw (segment, log) (ap (λ (x : ℕ). 1 + d + x) all) in
             sym (places-view s W L q ∙ here)
 

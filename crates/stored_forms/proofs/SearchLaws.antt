@@ -11,7 +11,7 @@ use lib.Pow.{pow-lt}
 use Rattle.words.proofs.Tests.{eqb-same, eqb-ne, of-lt, of-ge}
 use Rattle.ledger.specs.Records.{Ledger}
 use Rattle.stored_forms.specs.Segments.{controlWord, weight, segmentSize, depth, mostWords}
-use Rattle.stored_forms.specs.Search.{logOf, blockCount, segmentStart, placesTo, mostPlaces}
+use Rattle.stored_forms.specs.Search.{logOf, blockCount, segmentBegin, placesTo, mostPlaces}
 use Rattle.stored_forms.proofs.SegmentLaws.{weight-zero}
 
 -- ---- blocks of a range
@@ -80,7 +80,7 @@ log-few S (suc d) = go (eqb S (2 ^ suc d)) (log-few S d)
 pub places-most : (S W : ℕ) (L : Ledger) (k : ℕ) → 0 < segmentSize W S → placesTo S W L k ≤ mostPlaces S W
 unfolding placesTo mostPlaces
 places-most S W L k some =
-    let start = segmentStart k (segmentSize W S) in
+    let start = segmentBegin k (segmentSize W S) in
     omega (arith, count-few (controlWord W L) start (suc k - start), lt-div-mul-add {a = k} some)
 
 -- so it takes 16 bits

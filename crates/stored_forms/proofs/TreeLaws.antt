@@ -15,17 +15,17 @@ use Rattle.ledger.specs.Records.{Ledger}
 use Rattle.ledger.specs.Units.{free, lowestFit}
 use Rattle.ledger.specs.Runs.{Run, freeRuns}
 use Rattle.ledger.proofs.FitLaws.{firstFit, startOf, fit-first}
-use Rattle.stored_forms.specs.Tree.{Tree, leaf, node, addLeft, treeOf, inorder, shorter, noLonger, Heaped}
+use Rattle.stored_forms.specs.Tree.{Tree, leaf, node, addLeft, treeOf, inorder, shorterThan, noLongerThan, Heaped}
 use Rattle.stored_forms.specs.Tree.{IsTreeOf, formOne, formRule, cellRun, freeTree}
 use Rattle.stored_forms.specs.Blocks.{rootFits, leftmost}
 
 -- ---- the runs of the tree, from left to right
 
 -- a run no shorter than all of a tree stands on top
-addLeft-top : (q : Run) (t : Tree) → all (noLonger q) (inorder t) ≡ true → addLeft q t ≡ node leaf q t
+addLeft-top : (q : Run) (t : Tree) → all (noLongerThan q) (inorder t) ≡ true → addLeft q t ≡ node leaf q t
 addLeft-top q leaf h = refl
 addLeft-top q (node a r b) h =
-    rw (and-l (noLonger q r) (all (noLonger q) (inorder b)) (all-append-r (noLonger q) (inorder a) (r ∷ inorder b) h))
+    rw (and-l (noLongerThan q r) (all (noLongerThan q) (inorder b)) (all-append-r (noLongerThan q) (inorder a) (r ∷ inorder b) h))
 
 inorder-addLeft : (r : Run) (t : Tree) → inorder (addLeft r t) ≡ r ∷ inorder t
 inorder-addLeft r leaf = refl
@@ -43,14 +43,14 @@ inorder-treeOf (r ∷ rs) = inorder-addLeft r (treeOf rs) ∙ ap (λ (l : List R
 -- ---- no other tree
 
 -- a longest run, the first of these, is the root, and the runs on its two sides are its sons' trees
-pub treeOf-split : (xs : List Run) (q : Run) (ys : List Run) → all (shorter q) xs ≡ true → all (noLonger q) ys ≡ true
+pub treeOf-split : (xs : List Run) (q : Run) (ys : List Run) → all (shorterThan q) xs ≡ true → all (noLongerThan q) ys ≡ true
     → treeOf (xs ++ q ∷ ys) ≡ node (treeOf xs) q (treeOf ys)
 treeOf-split [] q ys h k = addLeft-top q (treeOf ys) (rw (inorder-treeOf ys) k)
 treeOf-split (x ∷ xs) q ys h k =
-    rw (treeOf-split xs q ys (and-r (shorter q x) (all (shorter q) xs) h) k, below)
+    rw (treeOf-split xs q ys (and-r (shorterThan q x) (all (shorterThan q) xs) h) k, below)
   where
     below : leb (q .size) (x .size) ≡ false
-    below = of-gt (q .size) (x .size) (lt-of (x .size) (q .size) (and-l (shorter q x) (all (shorter q) xs) h))
+    below = of-gt (q .size) (x .size) (lt-of (x .size) (q .size) (and-l (shorterThan q x) (all (shorterThan q) xs) h))
 
 treeOf-inorder : (t : Tree) → Heaped t → treeOf (inorder t) ≡ t
 treeOf-inorder leaf h = refl
@@ -64,10 +64,10 @@ tree-unique rs t h = sym (treeOf-inorder t (h .heap)) ∙ ap treeOf (h .order)
 -- ---- fathers and sons
 
 -- what is shorter, or no longer, than a run is no longer than one that is no shorter
-shorter-noLonger : (q r : Run) → q .size ≤ r .size → (x : Run) → shorter q x ≡ true → noLonger r x ≡ true
+shorter-noLonger : (q r : Run) → q .size ≤ r .size → (x : Run) → shorterThan q x ≡ true → noLongerThan r x ≡ true
 shorter-noLonger q r h x e = of-le (x .size) (r .size) (omega (arith, lt-of (x .size) (q .size) e))
 
-noLonger-noLonger : (q r : Run) → q .size ≤ r .size → (x : Run) → noLonger q x ≡ true → noLonger r x ≡ true
+noLonger-noLonger : (q r : Run) → q .size ≤ r .size → (x : Run) → noLongerThan q x ≡ true → noLongerThan r x ≡ true
 noLonger-noLonger q r h x e = of-le (x .size) (r .size) (omega (arith, le-of (x .size) (q .size) e))
 
 heaped-addLeft : (r : Run) (t : Tree) → Heaped t → Heaped (addLeft r t)
@@ -79,16 +79,16 @@ heaped-addLeft r (node a q b) h = go (leb (q .size) (r .size)) refl (heaped-addL
     go true e ih =
         let l = le-of (q .size) (r .size) e in (
           refl,
-          all-append (noLonger r) (inorder a) (q ∷ inorder b)
-              (all-imp (shorter q) (noLonger r) (shorter-noLonger q r l) (inorder a) (h .0))
-              (and-i (noLonger r q) (all (noLonger r) (inorder b)) e
-              (all-imp (noLonger q) (noLonger r) (noLonger-noLonger q r l) (inorder b) (h .1))),
+          all-append (noLongerThan r) (inorder a) (q ∷ inorder b)
+              (all-imp (shorterThan q) (noLongerThan r) (shorter-noLonger q r l) (inorder a) (h .0))
+              (and-i (noLongerThan r q) (all (noLongerThan r) (inorder b)) e
+              (all-imp (noLongerThan q) (noLongerThan r) (noLonger-noLonger q r l) (inorder b) (h .1))),
           tt,
           h,
         )
     go false e ih = (
       rw (inorder-addLeft r a)
-          (and-i (shorter q r) (all (shorter q) (inorder a))
+          (and-i (shorterThan q r) (all (shorterThan q) (inorder a))
           (of-lt (r .size) (q .size) (not-le (q .size) (r .size) e)) (h .0)),
       h .1,
       ih,
@@ -140,9 +140,9 @@ unfolding tooShort
 root-longest m leaf h e = refl
 root-longest m (node a q b) h e =
     all-append (tooShort m) (inorder a) (q ∷ inorder b)
-    (all-imp (shorter q) (tooShort m) (λ r x. short r (omega (arith, lt-of (r .size) (q .size) x))) (inorder a) (h .0))
+    (all-imp (shorterThan q) (tooShort m) (λ r x. short r (omega (arith, lt-of (r .size) (q .size) x))) (inorder a) (h .0))
     (and-i (tooShort m q) (all (tooShort m) (inorder b)) (ap not e)
-    (all-imp (noLonger q) (tooShort m) (λ r x. short r (le-of (r .size) (q .size) x)) (inorder b) (h .1)))
+    (all-imp (noLongerThan q) (tooShort m) (λ r x. short r (le-of (r .size) (q .size) x)) (inorder b) (h .1)))
   where
     short : (r : Run) → r .size ≤ q .size → tooShort m r ≡ true
     short r l = ap not (of-gt m (r .size) (omega (arith, not-le m (q .size) e)))

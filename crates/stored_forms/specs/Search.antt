@@ -24,14 +24,14 @@ blockCount c u zero = 0
 blockCount c u (suc n) = cond (ltb 0 (weight (c u))) (suc (blockCount c (suc u) n)) (blockCount c (suc u) n)
 
 -- the first word of k's segment, of z words
-abbrev pub segmentStart : ℕ → ℕ → ℕ
-segmentStart k z = k / z * z
+abbrev pub segmentBegin : ℕ → ℕ → ℕ
+segmentBegin k z = k / z * z
 
 -- 02, where the block at k is chosen: "1, plus the base-two logarithm of S, plus the number of blocks, free or held,
 -- that begin in the chosen segment at or below the chosen one".
 unfoldable pub placesTo : ℕ → ℕ → Ledger → ℕ → ℕ
 placesTo S W L k =
-    let start = segmentStart k (segmentSize W S) in
+    let start = segmentBegin k (segmentSize W S) in
     1 + logOf S depth + blockCount (controlWord W L) start (suc k - start)
 
 -- 02: "at most 1 + log S + words per segment"

@@ -35,16 +35,16 @@ inorder leaf = []
 inorder (node a q b) = inorder a ++ q ∷ inorder b
 
 -- r is shorter than q, and r is no longer than q
-abbrev pub shorter : Run → Run → Bool
-shorter q r = ltb (r .size) (q .size)
+abbrev pub shorterThan : Run → Run → Bool
+shorterThan q r = ltb (r .size) (q .size)
 
-abbrev pub noLonger : Run → Run → Bool
-noLonger q r = leb (r .size) (q .size)
+abbrev pub noLongerThan : Run → Run → Bool
+noLongerThan q r = leb (r .size) (q .size)
 
 abbrev pub Heaped : Tree → Type 0
 Heaped leaf = Unit {0}
 Heaped (node a q b) =
-    (all (shorter q) (inorder a) ≡ true) × (all (noLonger q) (inorder b) ≡ true) × Heaped a × Heaped b
+    (all (shorterThan q) (inorder a) ≡ true) × (all (noLongerThan q) (inorder b) ≡ true) × Heaped a × Heaped b
 
 pub record IsTreeOf (rs : List Run) (t : Tree) : Type 0 where
   pub order : inorder t ≡ rs

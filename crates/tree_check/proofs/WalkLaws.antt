@@ -14,7 +14,7 @@ use Rattle.words.proofs.Tests.{and-l, or-l, or-r, le-of, lt-of, of-lt, within-i
 use Rattle.words.proofs.ListLaws.{all-imp, all-append-r}
 use Rattle.ledger.specs.Runs.{Run, run, Gapped, covered}
 use Rattle.ledger.proofs.RunLaws.{covered-append}
-use Rattle.stored_forms.specs.Tree.{Tree, leaf, node, link, inorder, noLonger, formOne}
+use Rattle.stored_forms.specs.Tree.{Tree, leaf, node, link, inorder, noLongerThan, formOne}
 use Rattle.stored_forms.specs.Tree.{lengthAt, leftAt, rightAt}
 use Rattle.stored_forms.proofs.NodeLaws.{readable-one, holds-reads}
 use Rattle.record_table.specs.Partition.{total}
@@ -158,7 +158,7 @@ module _ (map : Words) where
 -- ---- a tree that lies at a link
 
 -- "no longer" is "shorter than one more"
-longer-under : (q r : Run) → noLonger q r ≡ true → under (q .size + 1) r ≡ true
+longer-under : (q r : Run) → noLongerThan q r ≡ true → under (q .size + 1) r ≡ true
 longer-under q r e = of-lt (r .size) (q .size + 1) (omega (arith, le-of (r .size) (q .size) e))
 
 -- it has the node at cell c
@@ -253,7 +253,7 @@ module _ {m map : Words} {N : ℕ} (ready : Ready m map N) where
             linked = reads .1;
             holds = x .holds .3;
             heaped = x .heaped .3;
-            short = all-imp (noLonger (run c z)) (under (z + 1)) (longer-under (run c z)) (inorder b) (x .heaped .1);
+            short = all-imp (noLongerThan (run c z)) (under (z + 1)) (longer-under (run c z)) (inorder b) (x .heaped .1);
             runs = behind x .3;
             inside = omega (arith, end-is x);
           }

@@ -16,9 +16,9 @@ links = 65536
 abbrev pub differ : ℕ → ℕ → ℕ
 differ x y = cond (eqb x y) 0 1
 
--- what a count of stored links stays below
-abbrev pub most : ℕ
-most = 4294967296
+-- a link and a count of stored links in one number: both are below this, and the count is taken times it
+abbrev pub countBase : ℕ
+countBase = 4294967296
 
 -- how many cells the arena has
 abbrev pub cells : Form → Words → ℕ

@@ -4,7 +4,7 @@ ghost use mathlib.Core.Path.{_≡_};
 ghost use Prim.Native.Nat.{suc, _+_, _*_, _<_};
 ghost use Rattle.stored_forms.specs.Tree.{formOne, lengthAt, leftAt, rightAt};
 ghost use Rattle.stored_forms.specs.Blocks.{Zeros};
-ghost use Rattle.tree_nodes.specs.Nodes.{links, most, cells, differ, NodePut, LeftSet, RightSet, NodeCleared};
+ghost use Rattle.tree_nodes.specs.Nodes.{links, countBase, cells, differ, NodePut, LeftSet, RightSet, NodeCleared};
 
 // The length of the node at cell `c`.
 pub fn length_of(arena: &[u32], c: usize) -> u32
@@ -77,7 +77,7 @@ pub fn clear_node(arena: &mut [u32], c: usize)
 // Sets the left link of the node at cell `c`, and returns one more than `stored`.
 pub fn store_left(arena: &mut [u32], c: usize, l: usize, stored: u64) -> u64
     requires { ⌜ c < cells formOne (now arena) ⌝ }
-    requires { ⌜ (l < links) × (stored < most) ⌝ }
+    requires { ⌜ (l < links) × (stored < countBase) ⌝ }
     ensures { λ k. ⌜ LeftSet formOne (now (arena .entry)) (now (arena .exit)) c l × (k ≡ stored + 1) ⌝ }
 {
     set_left(arena, c, l);
@@ -87,7 +87,7 @@ pub fn store_left(arena: &mut [u32], c: usize, l: usize, stored: u64) -> u64
 // Sets the right link of the node at cell `c`, and returns one more than `stored`.
 pub fn store_right(arena: &mut [u32], c: usize, r: usize, stored: u64) -> u64
     requires { ⌜ c < cells formOne (now arena) ⌝ }
-    requires { ⌜ (r < links) × (stored < most) ⌝ }
+    requires { ⌜ (r < links) × (stored < countBase) ⌝ }
     ensures { λ k. ⌜ RightSet formOne (now (arena .entry)) (now (arena .exit)) c r × (k ≡ stored + 1) ⌝ }
 {
     set_right(arena, c, r);

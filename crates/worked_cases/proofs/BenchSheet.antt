@@ -6,10 +6,10 @@ use Rattle.calls.specs.Step.{format, step}
 use Rattle.calls.specs.Engines.{treeEngine, segmentEngine}
 use Rattle.calls.specs.Computing.{treeMachine, segmentMachine}
 use Rattle.worked_cases.specs.BenchSheet.{trace, treeMemory, treeCalls, treeStates, segmentMemory}
-use Rattle.worked_cases.specs.BenchSheet.{segmentCalls, segmentStates, placesIn, segmentPlaces}
+use Rattle.worked_cases.specs.BenchSheet.{segmentCalls, segmentStates, placesReported, segmentPlaces}
 
 pub bench-sheet : (trace treeEngine treeMemory treeCalls ≡ treeStates)
     × (trace segmentEngine segmentMemory segmentCalls ≡ segmentStates)
-    × (placesIn (step segmentEngine (format 1) segmentMemory .pool) (3 ∷ 12 ∷ 11 ∷ []) ≡ segmentPlaces)
+    × (placesReported (step segmentEngine (format 1) segmentMemory .pool) (3 ∷ 12 ∷ 11 ∷ []) ≡ segmentPlaces)
 unfolding treeMachine segmentMachine
 bench-sheet = (refl, refl, refl)

@@ -1,4 +1,4 @@
--- The pools of specs/FreerPools are such as request 14 speaks of, and a request is granted in the first: its condition
+-- The pools of specs/FreerPools are such as 02's ticket 14 speaks of, and a request is granted in the first: its condition
 -- is not empty. Assumes nothing.
 use Prim.Native.Nat.{ℕ}
 use mathlib.Core.Path.{_≡_, refl, sym, _∙_}

@@ -33,9 +33,9 @@ trace E p [] = []
 trace E p (c ∷ cs) = let o = step E c p in stateOf o ∷ trace E (o .pool) cs
 
 -- the places that allocations report, each on the pool that the one before left (02, ticket 5)
-abbrev pub placesIn : Pool → List ℕ → List ℕ
-placesIn p [] = []
-placesIn p (n ∷ ns) = placesOf p n ∷ placesIn (step segmentEngine (allocate n) p .pool) ns
+abbrev pub placesReported : Pool → List ℕ → List ℕ
+placesReported p [] = []
+placesReported p (n ∷ ns) = placesOf p n ∷ placesReported (step segmentEngine (allocate n) p .pool) ns
 
 -- memory before the format, with any contents: 24 words or 16, 4 records, S 4
 abbrev pub treeMemory : Pool

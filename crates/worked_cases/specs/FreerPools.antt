@@ -1,4 +1,4 @@
--- For each engine two pools such as request 14 speaks of: in the first a block is held, in the second all is free.
+-- For each engine two pools such as 02's ticket 14 speaks of: in the first a block is held, in the second all is free.
 -- Assumes nothing.
 use mathlib.Core.List.{[], _∷_}
 use lib.ListN.{replicate}

@@ -20,12 +20,12 @@ use Rattle.text.specs.declared.Pair.the-variants as pair
 use Rattle.text.specs.declared.Triple.{Triple}
 use Rattle.text.specs.declared.Triple.the-variants as triple
 use Rattle.text.specs.Numbers.{Bytes}
-use Rattle.text.specs.Fields.{lineOf, Wrote}
+use Rattle.text.specs.Fields.{pairOf, tripleOf, lineOf, Wrote}
 use Rattle.text.specs.Lines.{Served, Fed, also, feed, finish, keep, Run, run}
 use Rattle.text.proofs.WriteLaws.{sets-after}
 use Rattle.text.proofs.CutLaw.{feed-run}
 use Rattle.pool_text.specs.Meaning.{Standing, before, serving, stopped, served, serve, fresh, opening, opened}
-use Rattle.pool_text.specs.Meaning.{longLine, firstLine, sizesOf, sizesAndFirstOf, requestOf, answerLine}
+use Rattle.pool_text.specs.Meaning.{begins, badFirst, threeNumbers, twoNumbers, firstLine, requestOf, answerLine}
 use Rattle.pool_text.specs.Meaning.{refusalLine, mostWords}
 use Rattle.pool_text.specs.Session.{landed}
 use Rattle.pool_text.proofs.RoomLaws.{choice-long, line-room}
@@ -55,17 +55,23 @@ opened-long w k first ns few =
     (served stopped (refusalLine (o .answer .number))) (line-room 80 ns few) (refusal-long (o .answer .number)))
     (refusal-long 8)
 
-long-long : (t : Triple) → length (longLine t .said) ≤ 35
-long-long (triple.Three w k first) = opened-long w k first (w ∷ k ∷ first ∷ []) (omega arith)
-long-long triple.Bad = refusal-long 9
+three-long : (t : Triple) → length (threeNumbers t .said) ≤ 35
+three-long (triple.Three w k first) = opened-long w k first (w ∷ k ∷ first ∷ []) (omega arith)
+three-long triple.Bad = refusal-long 9
 
-first-long : (p : Pair) (t : Triple) → length (firstLine p t .said) ≤ 35
-first-long (pair.Two w k) t = opened-long w k 1 (w ∷ k ∷ []) (omega arith)
-first-long pair.Bad t = long-long t
+two-long : (p : Pair) (t : Triple) → length (twoNumbers p t .said) ≤ 35
+two-long (pair.Two w k) t = opened-long w k 1 (w ∷ k ∷ []) (omega arith)
+two-long pair.Bad t = three-long t
+
+first-long : (line : Bytes) → length (firstLine line .said) ≤ 35
+unfolding firstLine
+first-long line =
+    either-long (begins line 80) (twoNumbers (pairOf (drop 2 line)) (tripleOf (drop 2 line))) badFirst
+    (two-long (pairOf (drop 2 line)) (tripleOf (drop 2 line))) (refusal-long 9)
 
 pub said-long : (s : Standing) (line : Bytes) → length (serve s line .said) ≤ 35
 unfolding serve
-said-long before line = first-long (sizesOf line) (sizesAndFirstOf line)
+said-long before line = first-long line
 said-long (serving p) line = answer-long (answerTo treeEngine p (actOf (requestOf line)))
 said-long stopped line = omega arith
 

@@ -1,20 +1,19 @@
 -- What a line is read as. Assumes nothing.
 use Prim.Native.Nat.{ℕ, _-_, _≤_}
-use mathlib.Core.Path.{_≡_, ap, _∙_}
+use mathlib.Core.Path.{_≡_, sym, ap, _∙_}
 use mathlib.Core.Bool.{true, false}
 use lib.ListN.{length, take, drop}
 use Rattle.words.proofs.Tests.{and-l, le-of}
 use Rattle.call_parts.specs.declared.Request.{Request}
 use Rattle.call_parts.specs.declared.Request.the-variants as request
 use Rattle.text.specs.declared.Number.{Number}
-use Rattle.text.specs.declared.Pair.{Pair}
 use Rattle.text.specs.declared.Pair.the-variants as pair
 use Rattle.text.specs.declared.Triple.{Triple}
 use Rattle.text.specs.declared.Triple.the-variants as triple
 use Rattle.text.specs.Numbers.{Bytes, valueOf}
 use Rattle.text.specs.Fields.{pairOf, tripleOf}
 use Rattle.text.proofs.FieldLaws.{part-rest}
-use Rattle.pool_text.specs.Meaning.{begins, sizesOf, sizesAndFirstOf, requestOf, askOf, giveOf}
+use Rattle.pool_text.specs.Meaning.{begins, badFirst, twoNumbers, firstLine, requestOf, askOf, giveOf}
 
 -- there is something after the tab to slice
 pub begins-long : (s : Bytes) (letter : ℕ) → begins s letter ≡ true → 2 ≤ length s
@@ -25,21 +24,13 @@ module _ (s : Bytes) where
   abbrev pub rest : Bytes
   rest = take (length s - 2) (drop 2 s)
 
-  pub sizes-in : (r : Pair) → begins s 80 ≡ true → r ≡ pairOf rest → r ≡ sizesOf s
-  unfolding sizesOf
-  sizes-in r b e = rw b (e ∙ ap pairOf (part-rest 2 s))
+  pub first-fields : begins s 80 ≡ true → firstLine s ≡ twoNumbers (pairOf rest) (tripleOf rest)
+  unfolding firstLine
+  first-fields b = rw b (ap (λ (x : Bytes). twoNumbers (pairOf x) (tripleOf x)) (sym (part-rest 2 s)))
 
-  pub three-in : (r : Triple) → begins s 80 ≡ true → r ≡ tripleOf rest → r ≡ sizesAndFirstOf s
-  unfolding sizesAndFirstOf
-  three-in r b e = rw b (e ∙ ap tripleOf (part-rest 2 s))
-
-  pub no-three : begins s 80 ≡ false → triple.Bad ≡ sizesAndFirstOf s
-  unfolding sizesAndFirstOf
-  no-three b = rw b
-
-  pub no-sizes : begins s 80 ≡ false → pair.Bad ≡ sizesOf s
-  unfolding sizesOf
-  no-sizes b = rw b
+  pub first-bad : begins s 80 ≡ false → firstLine s ≡ badFirst
+  unfolding firstLine
+  first-bad b = rw b
 
   pub ask-line : (n : Number) (r : Request) → begins s 65 ≡ true → n ≡ valueOf rest → r ≡ askOf n → r ≡ requestOf s
   unfolding requestOf

@@ -32,13 +32,6 @@ unfoldable pub begins : Bytes → ℕ → Bool
 begins s letter =
     leb 2 (length s) && leb (length s) mostBytes && eqb (getD s 0 0) letter && eqb (getD s 1 0) 9
 
--- "First line P, words, slots"; 02, ticket 2: "The text P line takes the first ticket as an optional third number"
-unfoldable pub sizesOf : Bytes → Pair
-sizesOf s = cond (begins s 80) (pairOf (drop 2 s)) pair.Bad
-
-unfoldable pub sizesAndFirstOf : Bytes → Triple
-sizesAndFirstOf s = cond (begins s 80) (tripleOf (drop 2 s)) triple.Bad
-
 -- "Then A, words or R, ticket, address, words."
 abbrev pub askOf : Number → Request
 askOf (number.Value n) = request.Ask n
@@ -89,14 +82,21 @@ opened w s first numbers =
     cond (leb w mostWords) (opening (fresh w s first) numbers) (served stopped (refusalLine 8))
 
 -- "If it is not a readable P line the answer is N 9"
-abbrev pub longLine : Triple → Served Standing
-longLine (triple.Three w s first) = opened w s first (w ∷ s ∷ first ∷ [])
-longLine triple.Bad = served stopped (refusalLine 9)
+abbrev pub badFirst : Served Standing
+badFirst = served stopped (refusalLine 9)
 
--- the first ticket is "echoed if given; without it, 1"
-abbrev pub firstLine : Pair → Triple → Served Standing
-firstLine (pair.Two w s) t = opened w s 1 (w ∷ s ∷ [])
-firstLine pair.Bad t = longLine t
+-- "First line P, words, slots"; 02, ticket 2: "The text P line takes the first ticket as an optional third number,
+-- echoed if given; without it, 1."
+abbrev pub threeNumbers : Triple → Served Standing
+threeNumbers (triple.Three w s first) = opened w s first (w ∷ s ∷ first ∷ [])
+threeNumbers triple.Bad = badFirst
+
+abbrev pub twoNumbers : Pair → Triple → Served Standing
+twoNumbers (pair.Two w s) t = opened w s 1 (w ∷ s ∷ [])
+twoNumbers pair.Bad t = threeNumbers t
+
+unfoldable pub firstLine : Bytes → Served Standing
+firstLine s = cond (begins s 80) (twoNumbers (pairOf (drop 2 s)) (tripleOf (drop 2 s))) badFirst
 
 -- "Answers: K, ticket, address, words or N, number."
 unfoldable pub answerLine : Answer → Bytes
@@ -108,7 +108,7 @@ actLine p a = served (serving (poolAfter treeEngine p a)) (answerLine (answerTo 
 
 -- a line, by where the program stands
 unfoldable pub serve : Standing → Bytes → Served Standing
-serve before line = firstLine (sizesOf line) (sizesAndFirstOf line)
+serve before line = firstLine line
 serve (serving p) line = actLine p (actOf (requestOf line))
 serve stopped line = served stopped []
 

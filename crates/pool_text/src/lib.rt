@@ -20,10 +20,10 @@ ghost use Rattle.call_parts.specs.Parts.{actOf};
 ghost use Rattle.call_parts.specs.Results.{resultOf, acted};
 ghost use Rattle.tree_check.specs.Gate.{treePool, noHead};
 ghost use Rattle.tree_requests.specs.Outcomes.{handed};
-ghost use Rattle.text.specs.Fields.{Wrote};
+ghost use Rattle.text.specs.Fields.{pairOf, tripleOf, Wrote};
 ghost use Rattle.text.specs.Lines.{feed, finish};
-ghost use Rattle.pool_text.specs.Meaning.{begins, sizesOf, sizesAndFirstOf, askOf, giveOf, requestOf};
-ghost use Rattle.pool_text.specs.Meaning.{opened, longLine, firstLine, refusalLine, answerLine, serve};
+ghost use Rattle.pool_text.specs.Meaning.{begins, askOf, giveOf, requestOf, opened, threeNumbers, twoNumbers};
+ghost use Rattle.pool_text.specs.Meaning.{firstLine, refusalLine, answerLine, serve};
 ghost use Rattle.pool_text.specs.Session.{begun, standingOf, Lent, Became, Going, ahead, landed, mostAnswer};
 
 // ---- what a line asks
@@ -37,28 +37,6 @@ fn begins(s: &[u8], letter: u8) -> bool
         return false;
     }
     (n <= 64) & (s[0] == letter) & (s[1] == 9)
-}
-
-// The two numbers of a P line.
-fn sizes_of(s: &[u8]) -> Pair
-    ensures { λ r. ⌜ r ≡ sizesOf (now (s .entry)) ⌝ }
-{
-    if begins(s, 80) {
-        let two = 2;
-        return text::read_pair(&s[two..]);
-    }
-    Pair::Bad
-}
-
-// The three numbers of a P line that names the first ticket too.
-fn sizes_and_first_of(s: &[u8]) -> Triple
-    ensures { λ r. ⌜ r ≡ sizesAndFirstOf (now (s .entry)) ⌝ }
-{
-    if begins(s, 80) {
-        let two = 2;
-        return text::read_triple(&s[two..]);
-    }
-    Triple::Bad
 }
 
 fn ask_of(n: Number) -> Request
@@ -203,15 +181,21 @@ fn open_pool(
     }
 }
 
-// The first line, if it does not name two numbers.
-fn serve_long(line: &[u8], arena: &mut [u32], table: &mut [u32], out: &mut [u8], at: usize) -> Line
+// The fields of a P line that are not two numbers.
+fn open_three(
+    fields: &[u8],
+    arena: &mut [u32],
+    table: &mut [u32],
+    out: &mut [u8],
+    at: usize,
+) -> Line
     requires { ⌜ (length (now arena) ≡ 8192) × (length (now table) ≡ 768)
         × (at + mostAnswer ≤ length (now out)) ⌝ }
     ensures { λ r. ⌜ Became (r .stage) (now (arena .exit)) (now (table .exit))
-        (longLine (sizesAndFirstOf (now (line .entry))))
+        (threeNumbers (tripleOf (now (fields .entry))))
         (now (out .entry)) (now (out .exit)) at (r .at) ⌝ }
 {
-    match sizes_and_first_of(line) {
+    match text::read_triple(fields) {
         Triple::Three(words, slots, first) => {
             let numbers = [words, slots, first];
             open_pool(arena, table, out, at, words, slots, first, &numbers)
@@ -220,21 +204,36 @@ fn serve_long(line: &[u8], arena: &mut [u32], table: &mut [u32], out: &mut [u8],
     }
 }
 
+// The fields of a P line: two numbers, with first ticket 1, or three.
+fn open_two(fields: &[u8], arena: &mut [u32], table: &mut [u32], out: &mut [u8], at: usize) -> Line
+    requires { ⌜ (length (now arena) ≡ 8192) × (length (now table) ≡ 768)
+        × (at + mostAnswer ≤ length (now out)) ⌝ }
+    ensures { λ r. ⌜ Became (r .stage) (now (arena .exit)) (now (table .exit))
+        (twoNumbers (pairOf (now (fields .entry))) (tripleOf (now (fields .entry))))
+        (now (out .entry)) (now (out .exit)) at (r .at) ⌝ }
+{
+    match text::read_pair(fields) {
+        Pair::Two(words, slots) => {
+            let numbers = [words, slots];
+            open_pool(arena, table, out, at, words, slots, 1, &numbers)
+        }
+        Pair::Bad => open_three(fields, arena, table, out, at),
+    }
+}
+
 // The first line.
 fn serve_first(line: &[u8], arena: &mut [u32], table: &mut [u32], out: &mut [u8], at: usize) -> Line
     requires { ⌜ (length (now arena) ≡ 8192) × (length (now table) ≡ 768)
         × (at + mostAnswer ≤ length (now out)) ⌝ }
     ensures { λ r. ⌜ Became (r .stage) (now (arena .exit)) (now (table .exit))
-        (firstLine (sizesOf (now (line .entry))) (sizesAndFirstOf (now (line .entry))))
+        (firstLine (now (line .entry)))
         (now (out .entry)) (now (out .exit)) at (r .at) ⌝ }
 {
-    match sizes_of(line) {
-        Pair::Two(words, slots) => {
-            let numbers = [words, slots];
-            open_pool(arena, table, out, at, words, slots, 1, &numbers)
-        }
-        Pair::Bad => serve_long(line, arena, table, out, at),
+    if !begins(line, 80) {
+        return stop(out, at, 9);
     }
+    let two = 2;
+    open_two(&line[two..], arena, table, out, at)
 }
 
 // A request on the pool in the first n words of the arena and the first t words of the table.

@@ -1,13 +1,13 @@
--- `pool_text::serve_long` meets its contract: a P line of three numbers opens a pool, any other stops. Assumes nothing.
+-- `pool_text::open_three` meets its contract: three numbers open a pool, other fields stop. Assumes nothing.
 use mathlib.Core.Path.{_∙_, sym, ap}
 use borrow.Author.Needs.{needs}
-use Rattle.pool_text.specs.Meaning.{longLine}
+use Rattle.pool_text.specs.Meaning.{threeNumbers}
 use Rattle.pool_text.proofs.StandLaws.{became-as, became-stopped}
-use Rattle.pool_text.proofs.serve_long.Statement.{statement}
-use Rattle.pool_text.proofs.serve_long.Tie as tie
+use Rattle.pool_text.proofs.open_three.Statement.{statement}
+use Rattle.pool_text.proofs.open_three.Tie as tie
 
-sizes-and-first-of-requires : tie.Need-sizes-and-first-of-requires
-sizes-and-first-of-requires c κs = search needs
+read-triple-requires : tie.Need-read-triple-requires
+read-triple-requires c κs = search needs
 
 enum-known-words : tie.Need-enum-known-words
 enum-known-words c = search needs
@@ -39,7 +39,7 @@ returns c =
     let g = p .before .before .before .before .before .before in
     let z = g .before .before in
     let s = z .before .before .before .before .before in
-    let e = ap longLine (sym (z .sizes-and-first-of .ensures) ∙ g .words .given .1) in
+    let e = ap threeNumbers (sym (z .read-triple .ensures) ∙ g .words .given .1) in
     let r = p .open-pool in
     became-as (sym e) (r .result .stage) (r .last .0) (r .last .1 .0) (s .args .out .now) (r .last .1 .1 .0)
     (s .args .at) (r .result .at) (r .ensures)
@@ -55,16 +55,16 @@ returns-2 c =
     let s = z .before .before .before .before .before in
     let a = s .args .arena .now in
     let t = s .args .table .now in
-    let e = ap longLine (sym (z .sizes-and-first-of .ensures) ∙ g .enum-told .given .1) in
+    let e = ap threeNumbers (sym (z .read-triple .ensures) ∙ g .enum-told .given .1) in
     let r = p .stop in
     became-as (sym e) (r .result .stage) a t (s .args .out .now) (r .last .0) (s .args .at) (r .result .at)
     (became-stopped _ a t _ _ _ _ 9 (r .ensures .0) (s .pre .0) (s .pre .1) (r .ensures .1))
 
-pub serve-long-spec : {M : Type 1} → statement M
-serve-long-spec =
+pub open-three-spec : {M : Type 1} → statement M
+open-three-spec =
     tie.close
     (tie.spec
-    sizes-and-first-of-requires
+    read-triple-requires
     enum-known-words
     slice-aggregate-open-pool
     open-pool-requires

@@ -79,7 +79,7 @@ extern "C" {
 #define LF_NO_RECORD 3u      /* the table is full */
 #define LF_NO_TICKET 4u      /* no ticket is left */
 #define LF_NO_ROOM 5u        /* no free run is long enough */
-#define LF_UNKNOWN_TICKET 6u /* nothing is held under this ticket: released already, never given out, or 0 */
+#define LF_UNKNOWN_TICKET 6u /* no run has this ticket: released, never given out, or 0; to a format: first is 0 */
 #define LF_MISMATCH 7u       /* the ticket is live, but address or words are not its own */
 #define LF_BAD_LENGTHS 8u    /* a length or the number of segments is out of range, or a list's lengths don't suit */
 #define LF_BAD_REQUEST 9u    /* in a list: a request of unknown kind, or with spare words that are not zero */
@@ -189,7 +189,8 @@ lf_segment_outcome lf_segment_format(int32_t *arena, size_t arena_len, uint32_t 
 
 /* `places` is 1 with LF_NO_ROOM, 0 with any other refusal, else 1, plus log2(segments), plus the number of blocks, free
  * or held, that begin in the segment of the granted one at or below it. These are the steps of the search; they are at
- * most 1 + log2(segments) + words per segment, so an installer can promise 73 for 16,384 words and 256 segments. */
+ * most 1 + log2(segments) + arena_len / segments rounded up, so an installer can promise 73 for 16,384 words and 256
+ * segments. */
 lf_segment_allocation lf_segment_allocate(uint32_t next, int32_t *arena, size_t arena_len, uint32_t *table,
                                           size_t table_len, uint32_t segments, uint32_t *index, size_t index_len,
                                           uint32_t words);

@@ -1,5 +1,5 @@
--- The laws of both engines, what row 8 says of each one's lengths, and the three demands and the claim on restarts for
--- each. 01, "The pool and its two engines": "Both engines are held to the ledger." Assumes nothing.
+-- The laws of both engines, what row 8 says of each one's lengths, and the three demands and the claims on restarts and on
+-- freeing early for each. 01, "The pool and its two engines": "Both engines are held to the ledger." Assumes nothing.
 use Prim.Native.Nat.{ℕ, _+_, _*_, _%_, _^_, _≤_, _<_}
 use native.Mathlib.Nat.{div-one}
 use native.Mathlib.Omega.{arith}

@@ -1,4 +1,4 @@
--- The laws over any engine, the three demands, the claim on restarts, and their instances.
+-- The laws over any engine, the three demands, the claims on restarts and on freeing early, and their instances.
 pub mod StoreLaws
 pub mod ActLaws
 pub mod GateLaws

@@ -1,8 +1,8 @@
 -- Demand 1: any call on any memory gets the number that the table of 01 fixes, and a refused call leaves every word
--- as it stood. 01, "Calls and numbers". Proved in proofs/Demand1; what row 8 says of each engine's lengths is in
--- proofs/Engines. That a call ends, and stays inside what was lent, is shown elsewhere: `step` is a function on any
--- memory, and the code's own proofs (the gate) show that every call of the code ends and stays inside.
--- Assumes nothing.
+-- as it stood. 01, "Calls and numbers"; a format's 6: 02, ticket 2. Proved in proofs/Demand1; what row 8 says of each
+-- engine's lengths is in proofs/Engines. That a call ends, and stays inside what was lent, is shown elsewhere: `step` is
+-- a function on any memory, and the code's own proofs (the gate) show that every call of the code ends and stays
+-- inside. Assumes nothing.
 use Prim.Native.Nat.{ℕ, _+_, _/_, _%_, _≤_, _<_}
 use mathlib.Core.Path.{_≡_}
 use mathlib.Core.Logic.{_≢_, _↔_, _⊎_}
@@ -68,7 +68,7 @@ ActNumbers E p (give r) x = NameNumbers p r x
 ActNumbers E p (query r) x = NameNumbers p r x
 ActNumbers E p bad x = x ≡ 9
 
--- ---- the number of a format, behind 8: its first ticket is 0, or it is accepted
+-- ---- the number of a format, behind 8 (02, ticket 2): 6 for first ticket 0, else it is accepted
 
 pub record FormatNumbers (right : Bool) (first x : ℕ) : Type 0 where
   pub six : (x ≡ 6) ↔ ((right ≡ true) × (first ≡ 0))

@@ -1,4 +1,5 @@
--- The pool as a machine, and the three demands and the claim on restarts stated over it.
+-- The pool as a machine, and stated over it: the three demands, the claims on restarts and on freeing early, and the
+-- places of a search.
 pub mod Pool
 pub mod Step
 pub mod Engines

@@ -1,4 +1,5 @@
--- Calls, answers, numbers in their order, and one total step over an engine. 01, "Calls and numbers". Assumes nothing.
+-- Calls, answers, numbers in their order, and one total step over an engine. 01, "Calls and numbers"; 02,
+-- ticket 2. Assumes nothing.
 use Prim.Native.Nat.{ℕ, _*_, _/_, _%_}
 use mathlib.Core.Path.{_≡_}
 use mathlib.Core.Bool.{Bool, true, false, cond, _&&_, _||_}
@@ -294,7 +295,7 @@ module _ (E : Engine) where
   }
 
   -- "Formatting makes a pool with no records, all words as below"; the next ticket is the first number that it was
-  -- given.
+  -- given (02, ticket 2).
   abbrev pub blank : Pool → Ledger
   blank p = replicate (slots (p .table)) emptyRow
 

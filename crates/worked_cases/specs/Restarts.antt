@@ -22,7 +22,7 @@ firstToday = 100
 abbrev pub today : Engine → Pool → Pool
 today E m = step E (format firstToday) m .pool
 
--- what a call of the sequence answers
+-- what the calls of the sequence answer
 abbrev pub answers : Engine → Pool → List Later → List Answer
 answers E m ls = map (λ (o : Outcome). o .answer) (laterOutcomes E (today E m) ls)
 

@@ -1,1 +1,1 @@
-// Worked cases of document 01.
+// Worked cases of documents 01 and 02.

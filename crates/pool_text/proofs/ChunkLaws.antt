@@ -26,7 +26,7 @@ use Rattle.text.proofs.WriteLaws.{sets-after}
 use Rattle.text.proofs.CutLaw.{feed-run}
 use Rattle.pool_text.specs.Meaning.{Standing, before, serving, stopped, served, serve, fresh, opening, opened}
 use Rattle.pool_text.specs.Meaning.{begins, badFirst, threeNumbers, twoNumbers, firstLine, requestOf, answerLine}
-use Rattle.pool_text.specs.Meaning.{refusalLine, mostWords}
+use Rattle.pool_text.specs.Meaning.{refusalLine, mostTextWords}
 use Rattle.pool_text.specs.Session.{landed}
 use Rattle.pool_text.proofs.RoomLaws.{choice-long, line-room}
 
@@ -50,7 +50,7 @@ opened-long : (w k first : ℕ) (ns : List ℕ) → length ns ≤ 3 → length (
 unfolding opened
 opened-long w k first ns few =
     let o = fresh w k first in
-    either-long (leb w mostWords) (opening o ns) (served stopped (refusalLine 8))
+    either-long (leb w mostTextWords) (opening o ns) (served stopped (refusalLine 8))
     (either-long (accepted (o .answer)) (served (serving (o .pool)) (lineOf 80 ns))
     (served stopped (refusalLine (o .answer .number))) (line-room 80 ns few) (refusal-long (o .answer .number)))
     (refusal-long 8)

@@ -28,7 +28,7 @@ use Rattle.call_parts.specs.Results.{Result, resultOf}
 use Rattle.tree_requests.specs.Outcomes.{handed}
 use Rattle.tree_pool.proofs.FormatLaws.{blank-owned}
 use Rattle.text.specs.Fields.{lineOf}
-use Rattle.pool_text.specs.Meaning.{serving, stopped, served, fresh, opening, opened, refusalLine, mostWords}
+use Rattle.pool_text.specs.Meaning.{serving, stopped, served, fresh, opening, opened, refusalLine, mostTextWords}
 
 abbrev zeroWords : ℕ → Words
 zeroWords n = replicate n 0
@@ -105,7 +105,7 @@ module _ (w s first : ℕ) (ns : List ℕ) where
       by-words : (b : Bool) → ltb 8192 w ≡ b → (b || ltb 256 s) ≡ true
           → opened w s first ns ≡ served stopped (refusalLine 8)
       by-words true e t = rw (of-gt w 8192 (lt-of 8192 w e))
-      by-words false e t = either (leb w mostWords) (many-slots (lt-of 256 s t))
+      by-words false e t = either (leb w mostTextWords) (many-slots (lt-of 256 s t))
 
 -- the code's format of words that lay anywhere
 module _ (a t : Words) (w s first : ℕ) (ns : List ℕ) (ea : length a ≡ w) (et : length t ≡ recordWords * s) (d : Outcome)

@@ -59,8 +59,8 @@ abbrev pub served : Standing → Bytes → Served Standing
 served s said = record { state = s; said = said }
 
 -- "tree pool, here at most 8,192 words"
-abbrev pub mostWords : ℕ
-mostWords = 8192
+abbrev pub mostTextWords : ℕ
+mostTextWords = 8192
 
 -- a new pool of w words and s records, with this first ticket
 unfoldable pub fresh : ℕ → ℕ → ℕ → Outcome
@@ -79,7 +79,7 @@ opening o numbers =
 
 unfoldable pub opened : ℕ → ℕ → ℕ → List ℕ → Served Standing
 opened w s first numbers =
-    cond (leb w mostWords) (opening (fresh w s first) numbers) (served stopped (refusalLine 8))
+    cond (leb w mostTextWords) (opening (fresh w s first) numbers) (served stopped (refusalLine 8))
 
 -- "If it is not a readable P line the answer is N 9"
 abbrev pub badFirst : Served Standing

@@ -382,8 +382,9 @@ fn opened(
     first: u32,
 ) -> Round {
     let formatted = segment_pool::format(segments, arena, table, index, first);
+    let head = formatted.head;
     Round {
-        head: formatted.head,
+        head,
         segments,
         tally: testing::opened(formatted.answer, most, first),
     }

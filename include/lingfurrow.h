@@ -52,7 +52,7 @@
  *                            4,096 words and  64 records   17 KB
  *                           16,384 words and  16 records   13 KB
  *                           16,384 words and 256 records   22 KB
- *       segment pools of any size                         4.5 KB
+ *       segment pools of any size                           5 KB
  *   - Time: it grows with arena and table, since each call checks the whole pool, damaged or not. On damaged memory a
  *     call takes no longer than the slowest on a sound pool of the same lengths was seen to take (docs/benchmark.md).
  *     A list checks the pool once.

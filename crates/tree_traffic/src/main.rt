@@ -277,8 +277,9 @@ fn report(round: Round, arena: &[u32], table: &[u32]) {
 // A formatted pool with this first ticket.
 fn opened(arena: &mut [u32], table: &mut [u32], most: u64, first: u32) -> Round {
     let formatted = tree_pool::format(arena, table, first);
+    let head = formatted.head;
     Round {
-        head: formatted.head,
+        head,
         tally: testing::opened(formatted.answer, most, first),
     }
 }

@@ -13,24 +13,30 @@ static inline link *toward(uint32_t *arena, size_t c, size_t x)
     return x < c ? left_place(arena, c) : right_place(arena, c);
 }
 
-// The tree `from`, none of whose blocks is at cell x, split by address into the places of x's two sons.
+// The tree `from`, none of whose blocks is at cell x, split by address into the places of x's two sons, which are 0. A
+// link is stored only where it differs: on one side of x the path keeps its links, at each turn one changes.
 static void split(uint32_t *arena, size_t from, size_t x)
 {
     link *lo = left_place(arena, x), *hi = right_place(arena, x);
     while (from != 0) {
-        size_t c = from - 1;
-        if (c < x) {
+        if (from - 1 < x) {
             *lo = (link)from;
-            lo = right_place(arena, c);
-            from = *lo;
+            do {
+                lo = right_place(arena, from - 1);
+                from = *lo;
+            } while (from != 0 && from - 1 < x);
         } else {
             *hi = (link)from;
-            hi = left_place(arena, c);
-            from = *hi;
+            do {
+                hi = left_place(arena, from - 1);
+                from = *hi;
+            } while (from != 0 && from - 1 >= x);
         }
     }
-    *lo = 0;
-    *hi = 0;
+    if (*lo != 0)
+        *lo = 0;
+    if (*hi != 0)
+        *hi = 0;
 }
 
 static void insert(uint32_t *arena, link *place, size_t x, uint32_t n)

@@ -1,4 +1,4 @@
-// The benchmark: every row of the table, the two curves of growth, pools out of the ordinary, and the picture.
+// The benchmark: every row of the table, the curves of growth, pools out of the ordinary, and the picture.
 #include <stdlib.h>
 #include <string.h>
 
@@ -20,12 +20,21 @@ typedef struct {
     uint32_t segments;
 } lengths;
 
-static const lengths sizes[] = {{24, 4, 4}, {1024, 16, 16}, {16384, 16, 64}, {16384, 256, 256}};
-enum { SIZES = sizeof sizes / sizeof sizes[0] };
+enum { SIZES_MOST = 6 };
+
+// Of no words: there are no more.
+static const lengths sizes[ENGINES][SIZES_MOST] = {
+    [TREE] = {{24, 4, 0}, {1024, 16, 0}, {16384, 16, 0}, {16384, 256, 0}},
+    [TREE_2] = {{65536, 16, 0}, {65536, 256, 0}, {1048576, 16, 0}, {1048576, 256, 0}},
+    [SEGMENT] = {{24, 4, 4}, {1024, 16, 16}, {16384, 16, 64}, {16384, 256, 256}},
+};
 
 // Of pools out of the ordinary. The tree pool's check has a map of another kind for up to 32 records in many words.
-static const lengths odd_sizes[] = {{24, 4, 4}, {1024, 16, 16}, {16384, 16, 64}, {16384, 32, 64}, {16384, 256, 256}};
-enum { ODD_SIZES = sizeof odd_sizes / sizeof odd_sizes[0] };
+static const lengths odd_sizes[ENGINES][SIZES_MOST] = {
+    [TREE] = {{24, 4, 0}, {1024, 16, 0}, {16384, 16, 0}, {16384, 32, 0}, {16384, 256, 0}},
+    [TREE_2] = {{65536, 256, 0}, {1048576, 32, 0}, {1048576, 256, 0}},
+    [SEGMENT] = {{24, 4, 4}, {1024, 16, 16}, {16384, 16, 64}, {16384, 32, 64}, {16384, 256, 256}},
+};
 
 static bool is_wanted(const measured *m)
 {
@@ -45,13 +54,13 @@ static void plan_row(measured m)
 static void plan_engine(enum engine g)
 {
     for (int c = FIND; c <= FORMAT; c++)
-        for (size_t i = 0; i < SIZES; i++)
+        for (const lengths *l = sizes[g]; l < sizes[g] + SIZES_MOST && l->words != 0; l++)
             for (int s = EMPTY; s <= (c == FORMAT ? EMPTY : c == FIND ? CROWDED : FRAGMENTED); s++)
                 plan_row((measured){.engine = g,
                                     .call = (enum call)c,
-                                    .words = sizes[i].words,
-                                    .records = sizes[i].records,
-                                    .segments = sizes[i].segments,
+                                    .words = l->words,
+                                    .records = l->records,
+                                    .segments = l->segments,
                                     .state = (enum state)s});
 }
 
@@ -79,32 +88,33 @@ static void plan_oddity(enum engine g, const oddity *o)
         return;
     for (size_t words = 512; o->extent == AS_WORDS_GROW && words <= POOL_WORDS; words *= 2)
         plan_odd(g, (lengths){words, 16, 16}, o);
-    for (size_t i = 0; o->extent != AS_WORDS_GROW && i < ODD_SIZES; i++) {
-        lengths l = odd_sizes[i];
-        if ((o->extent != AT_MOST_WORDS || l.words == POOL_WORDS) &&
+    for (size_t i = 0; o->extent != AS_WORDS_GROW && i < SIZES_MOST && odd_sizes[g][i].words != 0; i++) {
+        lengths l = odd_sizes[g][i];
+        if ((o->extent != AT_MOST_WORDS || l.words >= POOL_WORDS) &&
             (o->extent != AT_MOST_RECORDS || l.records == POOL_RECORDS))
             plan_odd(g, l, o);
     }
 }
 
-static void plan_point(growth *g, size_t x, size_t words, size_t records, uint32_t segments)
+static void plan_point(growth *g, enum engine e, size_t x, lengths l)
 {
-    for (int e = TREE; e <= SEGMENT; e++)
-        g->points[e][g->count] = (measured){.engine = (enum engine)e,
-                                            .call = FIND,
-                                            .words = words,
-                                            .records = records,
-                                            .segments = segments,
-                                            .state = CROWDED};
-    g->x[g->count++] = x;
+    curve *c = &g->curves[e];
+    c->points[c->count] = (measured){.engine = e,
+                                     .call = FIND,
+                                     .words = l.words,
+                                     .records = l.records,
+                                     .segments = e == SEGMENT ? l.segments : 0,
+                                     .state = CROWDED};
+    c->x[c->count++] = x;
 }
 
-static void plan_growth(void)
+// Form 2 grows on to its own most words; by records it is measured at the words of the others.
+static void plan_growth(enum engine e)
 {
-    for (size_t words = 64; words <= POOL_WORDS; words *= 2)
-        plan_point(&by_words, words, words, 16, 16);
+    for (size_t words = 64; words <= (e == TREE_2 ? LARGE_WORDS : POOL_WORDS); words *= 2)
+        plan_point(&by_words, e, words, (lengths){words, 16, 16});
     for (size_t records = 1; records <= POOL_RECORDS; records *= 2)
-        plan_point(&by_records, records, POOL_WORDS, records, 64);
+        plan_point(&by_records, e, records, (lengths){POOL_WORDS, records, 64});
 }
 
 // ---- measuring
@@ -134,9 +144,9 @@ static void measure(effort e, measured *m)
 
 static void each_point(growth *g, effort e, void (*act)(effort, measured *))
 {
-    for (int k = TREE; k <= SEGMENT; k++)
-        for (size_t i = 0; i < g->count; i++)
-            act(e, &g->points[k][i]);
+    for (curve *c = g->curves; c < g->curves + ENGINES; c++)
+        for (size_t i = 0; i < c->count; i++)
+            act(e, &c->points[i]);
 }
 
 static void each(effort e, void (*act)(effort, measured *))
@@ -213,13 +223,13 @@ int main(int argc, char **argv)
         return 2;
     }
     only = word_after(argc, argv, "--only");
-    for (int g = TREE; g <= SEGMENT; g++) {
+    for (int g = 0; g < ENGINES; g++) {
         plan_engine((enum engine)g);
         for (size_t i = 0; i < oddity_count; i++)
             plan_oddity((enum engine)g, &oddities[i]);
+        if (only == NULL)
+            plan_growth((enum engine)g);
     }
-    if (only == NULL)
-        plan_growth();
     for (int i = 0; i < e.passes; i++)
         each(e, measure);
     each(e, finish);

@@ -2,12 +2,12 @@
 #include "contestants.h"
 
 #define DECLARE(P, call) __typeof__(lf_##call) P##call;
-#define CONTESTANT(P, group, name) CALLS(DECLARE, P)
+#define CONTESTANT(P, group, trees, name) CALLS(DECLARE, P)
 #include "contestants.inc"
 #undef CONTESTANT
 
 #define NAME(P, call) P##call,
-#define CONTESTANT(P, group, name) {name, group, CALLS(NAME, P)},
+#define CONTESTANT(P, group, trees, name) {name, group, trees, CALLS(NAME, P)},
 const contestant contestants[] = {
 #include "contestants.inc"
 };

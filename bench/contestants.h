@@ -1,8 +1,9 @@
 // Who is measured: the proved library, and its C twins as several compilers build them. The list is written by the
-// script `run`, one line for each: CONTESTANT(prefix, group, "name").
+// script `run`, one line for each: CONTESTANT(prefix, group, trees, "name").
 #ifndef CONTESTANTS_H
 #define CONTESTANTS_H
 
+#include <stdbool.h>
 #include <stddef.h>
 #include <stdint.h>
 
@@ -31,6 +32,7 @@ enum group {
 typedef struct {
     const char *name;
     enum group group;
+    bool trees; // its segment pool is another's too, and only its tree pool is measured
 #define FIELD(P, call) __typeof__(P##call) *call;
     CALLS(FIELD, lf_)
 #undef FIELD

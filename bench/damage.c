@@ -18,24 +18,14 @@ static run last_run(const pool *p)
     return runs[count - 1];
 }
 
-static size_t left_of(const pool *p, size_t link)
-{
-    return p->arena[2 * (link - 1) + 1] & 0xffff;
-}
-
-static size_t right_of(const pool *p, size_t link)
-{
-    return p->arena[2 * (link - 1) + 1] >> 16;
-}
-
 static void set_left(pool *p, size_t link, size_t to)
 {
-    p->arena[2 * (link - 1) + 1] = (uint32_t)(right_of(p, link) << 16 | to);
+    set_links(p, link, to, right_of(p, link));
 }
 
 static void set_right(pool *p, size_t link, size_t to)
 {
-    p->arena[2 * (link - 1) + 1] = (uint32_t)(to << 16 | left_of(p, link));
+    set_links(p, link, left_of(p, link), to);
 }
 
 // The node that a walk in order comes to last.
@@ -62,8 +52,7 @@ static size_t last_without_left(const pool *p)
 static void set_last_free_word(pool *p)
 {
     run r = last_run(p);
-    size_t end = r.first + r.units;
-    p->arena[(p->engine == TREE ? 2 * end : end) - 1] = 1;
+    p->arena[unit_words(p) * (r.first + r.units) - 1] = 1;
 }
 
 // A record inside another, in an empty slot. Blocks still lie side by side; only a sum or a map of all units tells.
@@ -72,7 +61,7 @@ static void nest_record(pool *p)
     size_t slot = 0;
     while (p->table[3 * slot] != 0)
         slot++;
-    uint32_t address = p->named.address + (p->engine == TREE ? 2 : 1);
+    uint32_t address = p->named.address + (uint32_t)unit_words(p);
     if (p->engine == SEGMENT)
         p->arena[address - 1] = -units_for(p, 1);
     memcpy(p->table + 3 * slot, (const uint32_t[3]){p->head.next++, address, 1}, 3 * sizeof address);
@@ -83,7 +72,7 @@ static void nest_record(pool *p)
 static void reach_the_end(pool *p)
 {
     for (uint32_t i = 0; i < p->records; i++) {
-        uint32_t units = (uint32_t)units_of(p) - i, address = p->engine == TREE ? 2 * i : i + 1;
+        uint32_t units = (uint32_t)units_of(p) - i, address = is_tree(p) ? (uint32_t)unit_words(p) * i : i + 1;
         const uint32_t row[3] = {p->head.next++, address, words_for(p, units)};
         memcpy(p->table + 3 * i, row, sizeof row);
         if (p->engine == SEGMENT)
@@ -181,7 +170,7 @@ static void set_index_word_0(pool *p)
 
 static void link_to_held(pool *p)
 {
-    set_right(p, last_node(p), p->named.address / 2 + 1);
+    set_right(p, last_node(p), p->named.address / cell_words(p) + 1);
 }
 
 static void be_own_son(pool *p)
@@ -198,7 +187,7 @@ static void lead_back_to_root(pool *p)
 static void lengthen_last_of_right_chain(pool *p)
 {
     lay_equal_gaps(p);
-    p->arena[2 * (last_node(p) - 1)]++;
+    node_at(p, last_node(p))[0]++;
 }
 
 static void lengthen_first_of_left_chain(pool *p)
@@ -214,38 +203,41 @@ static void add_false_fathers(pool *p)
     strip s = {.held_count = p->records};
     for (size_t i = 0; i < p->records; i++)
         s.free[i] = s.held[i] = 1;
-    uint32_t cell = (uint32_t)(2 * p->records - 1), units = (uint32_t)units_of(p);
-    s.held[p->records - 1] = units - cell;
+    uint32_t unit = (uint32_t)(2 * p->records - 1), units = (uint32_t)units_of(p);
+    s.held[p->records - 1] = units - unit;
     lay(p, &s);
-    for (uint32_t length = 2; cell + length <= units; length++) {
-        p->arena[2 * cell] = length;
-        p->arena[2 * cell + 1] = p->head.root;
+    uint32_t cell = unit_cells(p) * unit, cells = unit_cells(p) * units;
+    for (uint32_t length = unit_cells(p) + 1; cell + length <= cells; length++) {
+        node_at(p, cell + 1)[0] = length;
+        set_links(p, cell + 1, p->head.root, 0);
         p->head.root = cell + 1;
         cell += length + 1;
     }
 }
 
-// A left chain of false nodes below a node of that length, each shorter by one, with a cell between them.
+// A left chain of false nodes below a node of that length in cells, each shorter by one, with a cell between them.
 static void hang_false_sons(pool *p, size_t at, uint32_t length)
 {
     while (--length > 0) {
         size_t son = at - length - 1;
         set_left(p, at, son);
-        p->arena[2 * (son - 1)] = length;
-        p->arena[2 * (son - 1) + 1] = 0;
+        node_at(p, son)[0] = length;
+        set_links(p, son, 0, 0);
         at = son;
     }
 }
 
-static uint32_t cells_of_sons(uint32_t length)
+// Below a node of that length in units.
+static uint32_t units_of_sons(const pool *p, uint32_t length)
 {
-    return length * (length + 1) / 2;
+    uint32_t cells = unit_cells(p) * length;
+    return (cells * (cells + 1) / 2 + unit_cells(p) - 1) / unit_cells(p);
 }
 
-// How many gaps of that length go into the pool, with a held cell between them, and false sons before the last.
+// How many gaps of that length go into the pool, with a held unit between them, and false sons before the last.
 static uint32_t gaps_above_sons(const pool *p, uint32_t length)
 {
-    uint32_t gaps = ((uint32_t)units_of(p) - cells_of_sons(length)) / (length + 1);
+    uint32_t gaps = ((uint32_t)units_of(p) - units_of_sons(p, length)) / (length + 1);
     return gaps <= p->records ? gaps : (uint32_t)p->records + 1;
 }
 
@@ -253,9 +245,9 @@ static uint32_t gaps_above_sons(const pool *p, uint32_t length)
 // that both together are as deep as can be.
 static void add_false_sons(pool *p)
 {
-    uint32_t units = (uint32_t)units_of(p), best = 2;
-    for (uint32_t length = 2; cells_of_sons(length) + 2 * (length + 1) <= units; length++)
-        if (gaps_above_sons(p, length) + length > gaps_above_sons(p, best) + best)
+    uint32_t units = (uint32_t)units_of(p), cells = unit_cells(p), best = 2;
+    for (uint32_t length = 2; units_of_sons(p, length) + 2 * (length + 1) <= units; length++)
+        if (gaps_above_sons(p, length) + cells * length > gaps_above_sons(p, best) + cells * best)
             best = length;
     uint32_t gaps = gaps_above_sons(p, best);
     strip s = {.held_count = gaps - 1};
@@ -265,7 +257,7 @@ static void add_false_sons(pool *p)
         s.held[i] = 1;
     s.held[gaps - 2] = units - gaps * best - (gaps - 2);
     lay(p, &s);
-    hang_false_sons(p, last_node(p), best);
+    hang_false_sons(p, last_node(p), cells * best);
 }
 
 // ---- all of them
@@ -296,7 +288,7 @@ const size_t oddity_count = sizeof oddities / sizeof oddities[0];
 
 bool has_engine(const oddity *o, enum engine e)
 {
-    return o->engines == BOTH || o->engines == (e == TREE ? TREES : SEGMENTS);
+    return o->engines == BOTH || o->engines == (e == SEGMENT ? SEGMENTS : TREES);
 }
 
 void make_odd(pool *p, enum engine e, size_t words, size_t records, uint32_t segments, const oddity *o)

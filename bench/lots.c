@@ -36,8 +36,8 @@ static void strike(const pool *p, uint32_t *words, size_t count)
 static void strike_header(pool *p, const run *runs, size_t count)
 {
     run r = runs[random_below((uint32_t)count)];
-    if (p->engine == TREE)
-        strike(p, p->arena + 2 * r.first, 2);
+    if (is_tree(p))
+        strike(p, p->arena + unit_words(p) * r.first, cell_words(p));
     else
         strike(p, p->arena + (r.first + random_below(2) * r.units) % p->words, 1);
 }
@@ -45,11 +45,14 @@ static void strike_header(pool *p, const run *runs, size_t count)
 // A link to some node, itself and those above it among them, or to some cell.
 static void strike_link(pool *p, const run *runs, size_t count)
 {
-    uint32_t to = (uint32_t)runs[random_below((uint32_t)count)].first + 1;
+    uint32_t cells = unit_cells(p), to = cells * (uint32_t)runs[random_below((uint32_t)count)].first + 1;
     if (random_below(4) == 0)
-        to = random_below((uint32_t)units_of(p)) + 1;
-    uint32_t *links = p->arena + 2 * runs[random_below((uint32_t)count)].first + 1;
-    *links = random_below(2) == 0 ? (*links & 0xffff0000) | to : (*links & 0xffff) | to << 16;
+        to = random_below(cells * (uint32_t)units_of(p)) + 1;
+    size_t link = cells * runs[random_below((uint32_t)count)].first + 1;
+    if (random_below(2) == 0)
+        set_links(p, link, to, right_of(p, link));
+    else
+        set_links(p, link, left_of(p, link), to);
 }
 
 static void strike_once(pool *p, const run *runs, size_t count)
@@ -57,7 +60,7 @@ static void strike_once(pool *p, const run *runs, size_t count)
     uint32_t lot = random_below(16);
     if (lot == 0)
         strike(p, &p->head.next, 1);
-    else if (lot == 1 && p->engine == TREE)
+    else if (lot == 1 && is_tree(p))
         strike(p, &p->head.root, 1);
     else if (lot <= 3)
         strike(p, p->table, 3 * p->records);
@@ -65,7 +68,7 @@ static void strike_once(pool *p, const run *runs, size_t count)
         strike(p, p->arena, p->words);
     else if (lot <= 8 && p->engine == SEGMENT)
         strike(p, p->index, 3 * p->segments);
-    else if (lot <= 11 && p->engine == TREE && count > 0)
+    else if (lot <= 11 && is_tree(p) && count > 0)
         strike_link(p, runs, count);
     else if (count > 0)
         strike_header(p, runs, count);
@@ -76,7 +79,7 @@ void damage_by_lot(pool *p)
 {
     run runs[POOL_RECORDS + 1];
     size_t count = free_runs(p, runs);
-    bool relink = p->engine == TREE && count > 0 && random_below(8) == 0;
+    bool relink = is_tree(p) && count > 0 && random_below(8) == 0;
     for (size_t i = 0; relink && i < 2 * count; i++)
         strike_link(p, runs, count);
     for (uint32_t left = 1 + random_below(4); left > 0; left--)

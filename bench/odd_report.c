@@ -48,7 +48,7 @@ static void print_odd_row(FILE *to, const odd_rows *odd, const measured *m)
     char size[32], segments[16];
     snprintf(size, sizeof size, "%zu / %zu", m->words, m->records);
     snprintf(segments, sizeof segments, "%u", m->segments);
-    fprintf(to, "| %-7s | %-12s | %-3s | %-31s | %-7s |", engine_name(m->engine), size,
+    fprintf(to, "| %-7s | %-13s | %-3s | %-31s | %-7s |", engine_name(m->engine), size,
             m->engine == SEGMENT ? segments : "", pool_name(m), m->odd->sound ? "sound" : "damaged");
     const timed *us = quickest(&m->t, PROVED, PROVED);
     print_proved(to, us);
@@ -65,7 +65,7 @@ void print_odd(FILE *to, const odd_rows *odd)
             "Checked find on damaged memory, which it answers with 1, and on sound pools out of the ordinary; beside "
             "it the slowest find of the same lengths on one of the four usual pools, and on any sound one:\n\n");
     fprintf(to,
-            "| %-7s | %-12s | %-3s | %-31s | %-7s | %-17s | %-36s | %-6s | %-36s | %-6s | %-24s | %-13s | %-24s | "
+            "| %-7s | %-13s | %-3s | %-31s | %-7s | %-17s | %-36s | %-6s | %-36s | %-6s | %-28s | %-13s | %-28s | "
             "%-13s |\n",
             "engine", "words/slots", "S", "pool", "memory", "proved", "slowest usual find", "ratio",
             "slowest sound find", "ratio", "twin that marks units", "proved / twin", "twin that lays tiles",

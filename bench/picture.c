@@ -1,12 +1,12 @@
-// The picture: two curves of growth, and the ratio of every row, as SVG.
+// The picture: curves of growth, and the ratio of every row, as SVG.
 #include <math.h>
 
 #include "report.h"
 
-static const char *const colour[] = {"#1f6fb2", "#c4512d"};
+static const char *const colour[ENGINES] = {[TREE] = "#1f6fb2", [TREE_2] = "#2a8c4a", [SEGMENT] = "#c4512d"};
 static const char *const grey = "#777777";
 
-enum { WIDTH = 860, HEIGHT = 640, PLOT_WIDTH = 340, PLOT_HEIGHT = 230, PLOT_TOP = 48, STRIPS_TOP = 400, STRIP = 24 };
+enum { WIDTH = 860, PLOT_WIDTH = 340, PLOT_HEIGHT = 230, PLOT_TOP = 48, STRIPS_TOP = 420, STRIP = 24 };
 
 // A plot with logarithmic axes.
 typedef struct {
@@ -43,14 +43,13 @@ static double least_of(const timings *t, enum group first, enum group last)
     return best == NULL ? 0 : best->least;
 }
 
-static void curve(FILE *to, const axes *a, const growth *g, int engine, enum group first, enum group last,
-                  const char *stroke, const char *dashes)
+static void draw_curve(FILE *to, const axes *a, const curve *c, enum group first, enum group last, const char *stroke,
+                       const char *dashes)
 {
     fprintf(to, "<polyline fill=\"none\" stroke=\"%s\" stroke-width=\"2\" stroke-dasharray=\"%s\" points=\"", stroke,
             dashes);
-    for (size_t i = 0; i < g->count; i++)
-        fprintf(to, "%.1f,%.1f ", place_x(a, (double)g->x[i]),
-                place_y(a, least_of(&g->points[engine][i].t, first, last)));
+    for (size_t i = 0; i < c->count; i++)
+        fprintf(to, "%.1f,%.1f ", place_x(a, (double)c->x[i]), place_y(a, least_of(&c->points[i].t, first, last)));
     fprintf(to, "\"/>\n");
 }
 
@@ -59,7 +58,8 @@ static void time_axis(FILE *to, const axes *a)
     static const struct {
         double at;
         const char *name;
-    } ticks[] = {{10, "10 ns"}, {100, "100 ns"}, {1000, "1 µs"}, {10000, "10 µs"}, {100000, "100 µs"}};
+    } ticks[] = {{10, "10 ns"},    {100, "100 ns"},    {1000, "1 µs"},
+                 {10000, "10 µs"}, {100000, "100 µs"}, {1000000, "1 ms"}};
     for (size_t i = 0; i < sizeof ticks / sizeof ticks[0]; i++) {
         double y = place_y(a, ticks[i].at);
         line(to, a->left, y, a->left + a->width, y, "#dddddd", "");
@@ -69,54 +69,73 @@ static void time_axis(FILE *to, const axes *a)
 
 static void grouped(char *out, size_t room, size_t n)
 {
-    if (n >= 1000)
+    if (n >= 1000000)
+        snprintf(out, room, "%zu,%03zu,%03zu", n / 1000000, n / 1000 % 1000, n % 1000);
+    else if (n >= 1000)
         snprintf(out, room, "%zu,%03zu", n / 1000, n % 1000);
     else
         snprintf(out, room, "%zu", n);
 }
 
+// The one that goes furthest.
+static const curve *longest(const growth *g)
+{
+    const curve *most = g->curves;
+    for (const curve *c = g->curves; c < g->curves + ENGINES; c++)
+        if (c->count > most->count)
+            most = c;
+    return most;
+}
+
 static void growth_plot(FILE *to, const growth *g, double left)
 {
-    axes a = {left, PLOT_TOP, PLOT_WIDTH, PLOT_HEIGHT, (double)g->x[0], (double)g->x[g->count - 1], 5, 100000};
+    const curve *whole = longest(g);
+    axes a = {left, PLOT_TOP, PLOT_WIDTH, PLOT_HEIGHT, (double)whole->x[0], (double)whole->x[whole->count - 1],
+              5,    1000000};
     char label[128];
     snprintf(label, sizeof label, "Checked find as %s grow (%s)", g->along, g->at);
     text(to, left, PLOT_TOP - 12, "start", label);
     time_axis(to, &a);
-    for (size_t i = 0; i < g->count; i += 2) {
-        double x = place_x(&a, (double)g->x[i]);
+    for (size_t i = 0; i < whole->count; i += whole->count > 10 ? 4 : 2) {
+        double x = place_x(&a, (double)whole->x[i]);
         line(to, x, a.top, x, a.top + a.height, "#eeeeee", "");
-        grouped(label, sizeof label, g->x[i]);
+        grouped(label, sizeof label, whole->x[i]);
         text(to, x, a.top + a.height + 16, "middle", label);
     }
     snprintf(label, sizeof label, "%s", g->along);
     text(to, a.left + a.width / 2, a.top + a.height + 32, "middle", label);
-    curve(to, &a, g, TREE, LIMIT, LIMIT, grey, "2 3");
-    for (int e = TREE; e <= SEGMENT; e++) {
-        curve(to, &a, g, e, MARKS_UNITS, LAYS_TILES, colour[e], "6 4");
-        curve(to, &a, g, e, PROVED, PROVED, colour[e], "none");
+    draw_curve(to, &a, whole, LIMIT, LIMIT, grey, "2 3");
+    for (int e = 0; e < ENGINES; e++) {
+        draw_curve(to, &a, &g->curves[e], MARKS_UNITS, LAYS_TILES, colour[e], "6 4");
+        draw_curve(to, &a, &g->curves[e], PROVED, PROVED, colour[e], "none");
     }
     line(to, a.left, a.top + a.height, a.left + a.width, a.top + a.height, "#333333", "");
     line(to, a.left, a.top, a.left, a.top + a.height, "#333333", "");
 }
 
-static void legend(FILE *to, double y)
+static void legend_entry(FILE *to, double x, double y, const char *stroke, const char *dashes, const char *name)
 {
-    static const struct {
-        double x;
-        int colour;
-        const char *dashes, *name;
-    } entries[] = {{40, TREE, "none", "tree, proved"},
-                   {175, TREE, "6 4", "tree, best C twin"},
-                   {335, SEGMENT, "none", "segment, proved"},
-                   {495, SEGMENT, "6 4", "segment, best C twin"},
-                   {680, -1, "2 3", "memcmp of the arena"}};
-    for (size_t i = 0; i < sizeof entries / sizeof entries[0]; i++) {
-        char more[64];
-        snprintf(more, sizeof more, "stroke-width=\"2\" stroke-dasharray=\"%s\"", entries[i].dashes);
-        line(to, entries[i].x, y - 4, entries[i].x + 26, y - 4,
-             entries[i].colour < 0 ? grey : colour[entries[i].colour], more);
-        text(to, entries[i].x + 32, y, "start", entries[i].name);
+    char more[64];
+    snprintf(more, sizeof more, "stroke-width=\"2\" stroke-dasharray=\"%s\"", dashes);
+    line(to, x, y - 4, x + 26, y - 4, stroke, more);
+    text(to, x + 32, y, "start", name);
+}
+
+// A column for each engine that has a curve, and one for the limit.
+static void legend(FILE *to, const growth *g, double y)
+{
+    char name[64];
+    double x = 40;
+    for (int e = 0; e < ENGINES; e++) {
+        if (g->curves[e].count == 0)
+            continue;
+        snprintf(name, sizeof name, "%s, proved", engine_name((enum engine)e));
+        legend_entry(to, x, y, colour[e], "none", name);
+        snprintf(name, sizeof name, "%s, best C twin", engine_name((enum engine)e));
+        legend_entry(to, x, y + 18, colour[e], "6 4", name);
+        x += 190;
     }
+    legend_entry(to, x, y, grey, "2 3", "memcmp of the arena");
 }
 
 // ---- ratios
@@ -146,20 +165,30 @@ static void ratio_dot(FILE *to, const axes *a, double y, const measured *m, enum
             fill, colour[m->engine]);
 }
 
+// The strip of a row: those of one engine and call have one, in the order in which they are measured.
+static size_t strip_of(const measured *rows, const measured *m)
+{
+    size_t strips = 0;
+    for (const measured *r = rows; r->engine != m->engine || r->call != m->call; r++)
+        strips += r[1].engine != r->engine || r[1].call != r->call;
+    return strips;
+}
+
 static void ratio_plot(FILE *to, const measured *rows, size_t count)
 {
-    axes a = {190, STRIPS_TOP, 620, 8 * STRIP, 0.5, 40, 0, 0};
+    size_t strips = strip_of(rows, &rows[count - 1]) + 1;
+    axes a = {190, STRIPS_TOP, 620, (double)(strips * STRIP), 0.5, 40, 0, 0};
     text(to, 70, STRIPS_TOP - 22, "start",
          "Time of the proved code / time of the best C twin, a dot for each pool (full: the one that lays tiles, "
          "as the proved code does; hollow: the one that marks units)");
     ratio_axis(to, &a);
-    for (int k = 0; k < 8; k++) {
-        char label[64];
-        snprintf(label, sizeof label, "%s: %s", engine_name((enum engine)(k / 4)), call_name((enum call)(k % 4)));
-        text(to, a.left - 8, a.top + STRIP * (k + 0.5) + 4, "end", label);
-    }
     for (size_t i = 0; i < count; i++) {
-        double y = a.top + STRIP * ((double)rows[i].engine * 4 + (double)rows[i].call + 0.5);
+        size_t strip = strip_of(rows, &rows[i]);
+        double y = a.top + STRIP * ((double)strip + 0.5);
+        char label[64];
+        snprintf(label, sizeof label, "%s: %s", engine_name(rows[i].engine), call_name(rows[i].call));
+        if (i == 0 || strip_of(rows, &rows[i - 1]) != strip)
+            text(to, a.left - 8, y + 4, "end", label);
         ratio_dot(to, &a, y, &rows[i], MARKS_UNITS, "none");
         ratio_dot(to, &a, y, &rows[i], LAYS_TILES, colour[rows[i].engine]);
     }
@@ -167,13 +196,14 @@ static void ratio_plot(FILE *to, const measured *rows, size_t count)
 
 void draw(FILE *to, const measured *rows, size_t count, const growth *by_words, const growth *by_records)
 {
+    size_t height = STRIPS_TOP + (strip_of(rows, &rows[count - 1]) + 1) * STRIP + 48;
     fprintf(to,
-            "<svg xmlns=\"http://www.w3.org/2000/svg\" viewBox=\"0 0 %d %d\" font-family=\"sans-serif\" "
-            "font-size=\"12\" fill=\"#222222\">\n<rect width=\"%d\" height=\"%d\" fill=\"white\"/>\n",
-            WIDTH, HEIGHT, WIDTH, HEIGHT);
+            "<svg xmlns=\"http://www.w3.org/2000/svg\" viewBox=\"0 0 %d %zu\" font-family=\"sans-serif\" "
+            "font-size=\"12\" fill=\"#222222\">\n<rect width=\"%d\" height=\"%zu\" fill=\"white\"/>\n",
+            WIDTH, height, WIDTH, height);
     growth_plot(to, by_words, 70);
     growth_plot(to, by_records, 490);
-    legend(to, 345);
+    legend(to, by_words, 345);
     ratio_plot(to, rows, count);
     fprintf(to, "</svg>\n");
 }

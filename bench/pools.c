@@ -6,7 +6,39 @@
 
 const char *engine_name(enum engine e)
 {
-    return e == TREE ? "tree" : "segment";
+    static const char *const names[] = {"tree", "tree 2", "segment"};
+    return names[e];
+}
+
+uint32_t form_of(enum engine e)
+{
+    return (uint32_t)e + 1;
+}
+
+size_t most_words(enum engine e)
+{
+    return e == TREE_2 ? LARGE_WORDS : POOL_WORDS;
+}
+
+bool is_tree(const pool *p)
+{
+    return p->engine != SEGMENT;
+}
+
+size_t unit_words(const pool *p)
+{
+    static const size_t words[] = {2, 4, 1};
+    return words[p->engine];
+}
+
+size_t cell_words(const pool *p)
+{
+    return p->engine == TREE_2 ? 4 : 2;
+}
+
+uint32_t unit_cells(const pool *p)
+{
+    return (uint32_t)(unit_words(p) / cell_words(p));
 }
 
 const char *state_name(enum state s)
@@ -19,7 +51,7 @@ const char *state_name(enum state s)
 
 lf_answer ask_for(const contestant *c, pool *p, uint32_t words)
 {
-    if (p->engine == TREE) {
+    if (is_tree(p)) {
         lf_tree_outcome o = c->tree_allocate(p->head, p->arena, p->words, p->table, 3 * p->records, words);
         p->head = o.head;
         return o.answer;
@@ -32,7 +64,7 @@ lf_answer ask_for(const contestant *c, pool *p, uint32_t words)
 
 lf_answer give_back(const contestant *c, pool *p, lf_answer b)
 {
-    if (p->engine == TREE) {
+    if (is_tree(p)) {
         lf_tree_outcome o =
             c->tree_release(p->head, p->arena, p->words, p->table, 3 * p->records, b.ticket, b.address, b.words);
         p->head = o.head;
@@ -46,7 +78,7 @@ lf_answer give_back(const contestant *c, pool *p, lf_answer b)
 
 lf_answer find_in(const contestant *c, const pool *p, lf_answer b)
 {
-    if (p->engine == TREE)
+    if (is_tree(p))
         return c->tree_find(p->head, p->arena, p->words, p->table, 3 * p->records, b.ticket, b.address, b.words);
     return c->segment_find(p->head.next, (const int32_t *)p->arena, p->words, p->table, 3 * p->records, p->segments,
                            p->index, 3 * p->segments, b.ticket, b.address, b.words);
@@ -54,7 +86,7 @@ lf_answer find_in(const contestant *c, const pool *p, lf_answer b)
 
 lf_answer run_list(const contestant *c, pool *p, const uint32_t *requests, size_t n, uint32_t *answers)
 {
-    if (p->engine == TREE) {
+    if (is_tree(p)) {
         lf_tree_outcome o =
             c->tree_list(p->head, p->arena, p->words, p->table, 3 * p->records, requests, 4 * n, answers, 4 * n);
         p->head = o.head;
@@ -68,8 +100,8 @@ lf_answer run_list(const contestant *c, pool *p, const uint32_t *requests, size_
 
 lf_answer format_pool(const contestant *c, pool *p)
 {
-    if (p->engine == TREE) {
-        lf_tree_outcome o = c->tree_format(p->arena, p->words, p->table, 3 * p->records, 1);
+    if (is_tree(p)) {
+        lf_tree_outcome o = c->tree_format(form_of(p->engine), p->arena, p->words, p->table, 3 * p->records, 1);
         p->head = o.head;
         return o.answer;
     }
@@ -100,19 +132,19 @@ void fail(const pool *p, const char *what)
 
 size_t units_of(const pool *p)
 {
-    return p->engine == TREE ? p->words / 2 : p->words;
+    return p->words / unit_words(p);
 }
 
 uint32_t words_for(const pool *p, size_t units)
 {
-    if (p->engine == TREE)
-        return (uint32_t)(2 * units);
+    if (is_tree(p))
+        return (uint32_t)(unit_words(p) * units);
     return units < 2 ? 1 : (uint32_t)(units - 1);
 }
 
 size_t units_for(const pool *p, uint32_t words)
 {
-    return p->engine == TREE ? (words + 1) / 2 : words + 1;
+    return is_tree(p) ? (words + unit_words(p) - 1) / unit_words(p) : words + 1;
 }
 
 // Asks, and as the holder writes into every word. Many tickets were given and spent before, so those that live
@@ -154,7 +186,7 @@ static void crowd(pool *p, lf_answer *blocks)
 {
     for (size_t i = 0; i < p->records; i += 2) {
         size_t gap = units_for(p, blocks[i].words);
-        size_t least = p->engine == TREE ? 1 : 2;
+        size_t least = is_tree(p) ? 1 : 2;
         blocks[i] = take(p, words_for(p, gap > least ? gap - 1 : gap));
     }
 }
@@ -175,9 +207,11 @@ static bool add_request(pool *p, traffic *l, const uint32_t request[4])
     return true;
 }
 
+// Of a share of the pool at most, and of no more than a share of the smaller pools, since a release wipes its words.
 static bool add_ask(pool *p, traffic *l)
 {
     size_t share = units_of(p) / p->records;
+    share = share < LIST_UNITS ? share : LIST_UNITS;
     uint32_t words = words_for(p, 1 + random_below((uint32_t)share));
     return add_request(p, l, (const uint32_t[4]){1, words, 0, 0});
 }
@@ -224,14 +258,16 @@ void make_lists(pool *p)
 void make_pool(pool *p, enum engine e, size_t words, size_t records, uint32_t segments, enum state s)
 {
     static lf_answer blocks[POOL_RECORDS];
-    memset(p, 0xa5, sizeof *p);
+    memset(p->arena, 0xa5, words * sizeof p->arena[0]);
+    memset(p->table, 0xa5, sizeof p->table);
+    memset(p->index, 0xa5, sizeof p->index);
     p->engine = e;
     p->state = s;
     p->name = state_name(s);
     p->words = words;
     p->records = records;
     p->segments = segments;
-    p->head = (lf_tree_head){0, 0};
+    p->head = (lf_tree_head){0, 0, 0};
     seed = 88172645463325252u;
     if (format_pool(&contestants[0], p).number != 0)
         fail(p, "format was refused");

@@ -6,7 +6,8 @@
 
 #include "contestants.h"
 
-enum engine { TREE, SEGMENT };
+// The tree pool in each of its forms, and the segment pool.
+enum engine { TREE, TREE_2, SEGMENT, ENGINES };
 
 enum state {
     EMPTY,      // formatted
@@ -15,7 +16,18 @@ enum state {
     CROWDED,    // fragmented, then each gap filled but for a unit: every slot live, and gaps
 };
 
-enum { POOL_WORDS = 16384, POOL_RECORDS = 256, POOL_SEGMENTS = 256, LIST_LENGTH = 512, LIST_MOST = 1024, LISTS = 8 };
+// POOL_WORDS is the most of form 1 and of the segment pool, LARGE_WORDS that of form 2.
+enum {
+    POOL_WORDS = 16384,
+    LARGE_WORDS = 1048576,
+    LARGE_UNITS = LARGE_WORDS / 4,
+    POOL_RECORDS = 256,
+    POOL_SEGMENTS = 256,
+    LIST_LENGTH = 512,
+    LIST_UNITS = 512,
+    LIST_MOST = 1024,
+    LISTS = 8,
+};
 
 // A list of requests that leaves the pool as it was, with the answers to them. For each release `granted_by` has the
 // request that was granted its block.
@@ -33,8 +45,8 @@ typedef struct {
     uint32_t segments;
 
     lf_tree_head head; // the segment pool has no root
-    uint32_t arena[POOL_WORDS], table[3 * POOL_RECORDS], index[3 * POOL_SEGMENTS];
-    uint32_t copy[POOL_WORDS]; // the arena once more, to compare it with
+    uint32_t arena[LARGE_WORDS], table[3 * POOL_RECORDS], index[3 * POOL_SEGMENTS];
+    uint32_t copy[LARGE_WORDS]; // the arena once more, to compare it with
 
     lf_answer named;      // what find names, and the number that it answers
     uint32_t ask;         // the words that a pair asks for and gives back
@@ -44,6 +56,20 @@ typedef struct {
 } pool;
 
 const char *engine_name(enum engine e);
+
+// The number of a tree pool's form.
+uint32_t form_of(enum engine e);
+
+// The most words of an arena.
+size_t most_words(enum engine e);
+
+bool is_tree(const pool *p);
+
+// Words to a unit of the ledger; words to a cell of the tree pool, and cells to a unit.
+size_t unit_words(const pool *p);
+size_t cell_words(const pool *p);
+uint32_t unit_cells(const pool *p);
+
 const char *state_name(enum state s);
 
 // A number below n, the same ones in every run.

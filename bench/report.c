@@ -37,7 +37,9 @@ void print_conditions(FILE *to, effort e)
           "- Pools. Half full: half of the slots and words held, from the low end. Fragmented: all slots were filled, "
           "then every other record released. Crowded: then all gaps filled but for a unit, so every slot is live.\n"
           "- Twins. One marks units: a byte for each, all pairs of tickets. One lays tiles, as the proved code does: "
-          "first units alone, tickets by residue. Each is the quickest of all compilers and loop shapes.\n",
+          "first units alone, tickets by residue. Each is the quickest of all compilers and loop shapes; of the tree "
+          "pool, of those too that have the code once for each form, and (\"passed\") once for all.\n"
+          "- \"tree\" is the tree pool in form 1, \"tree 2\" in form 2.\n",
           to);
     fprintf(to, "- Processor: %s. Load average when it ended: %.14s.\n\n", processor, load);
 }
@@ -55,12 +57,12 @@ double ratio(double a, double b)
 void print_against(FILE *to, const timed *us, const timed *other)
 {
     if (other == NULL) {
-        fprintf(to, " %24s | %13s |", "-", "-");
+        fprintf(to, " %28s | %13s |", "-", "-");
         return;
     }
     char cell[64];
     snprintf(cell, sizeof cell, "%.0f %s", other->least, other->name);
-    fprintf(to, " %-24s | %5.2f (%5.2f) |", cell, ratio(us->least, other->least), other->by_round);
+    fprintf(to, " %-28s | %5.2f (%5.2f) |", cell, ratio(us->least, other->least), other->by_round);
 }
 
 // Times under 100 are printed with a decimal.
@@ -74,7 +76,7 @@ void print_proved(FILE *to, const timed *us)
 
 void print_rows(FILE *to, const measured *rows, size_t count)
 {
-    fprintf(to, "| %-7s | %-18s | %-12s | %-3s | %-10s | %-17s | %-24s | %-13s | %-24s | %-13s | %-24s | %-13s |\n",
+    fprintf(to, "| %-7s | %-18s | %-13s | %-3s | %-10s | %-17s | %-28s | %-13s | %-28s | %-13s | %-28s | %-13s |\n",
             "engine", "call", "words/slots", "S", "pool", "proved", "twin that marks units", "proved / twin",
             "twin that lays tiles", "proved / twin", "limit", "proved/limit");
     fprintf(to, "|---|---|---|---|---|---:|---|---:|---|---:|---|---:|\n");
@@ -84,7 +86,7 @@ void print_rows(FILE *to, const measured *rows, size_t count)
         char size[32], segments[16];
         snprintf(size, sizeof size, "%zu / %zu", m->words, m->records);
         snprintf(segments, sizeof segments, "%u", m->segments);
-        fprintf(to, "| %-7s | %-18s | %-12s | %-3s | %-10s |", engine_name(m->engine), call_name(m->call), size,
+        fprintf(to, "| %-7s | %-18s | %-13s | %-3s | %-10s |", engine_name(m->engine), call_name(m->call), size,
                 m->engine == SEGMENT ? segments : "", m->call == FORMAT ? "any" : pool_name(m));
         print_proved(to, us);
         print_against(to, us, quickest(&m->t, MARKS_UNITS, MARKS_UNITS));
@@ -98,15 +100,15 @@ void print_rows(FILE *to, const measured *rows, size_t count)
 void print_growth(FILE *to, const growth *g)
 {
     fprintf(to, "Checked find on a crowded pool as %s grow, %s:\n\n", g->along, g->at);
-    fprintf(to, "| %-7s | %-7s | %-17s | %-24s | %-13s | %-24s | %-13s | %-24s | %-13s |\n", "engine", g->along,
+    fprintf(to, "| %-7s | %-7s | %-17s | %-28s | %-13s | %-28s | %-13s | %-28s | %-13s |\n", "engine", g->along,
             "proved", "twin that marks units", "proved / twin", "twin that lays tiles", "proved / twin", "limit",
             "proved/limit");
     fprintf(to, "|---|---:|---:|---|---:|---|---:|---|---:|\n");
-    for (int e = 0; e < 2; e++)
-        for (size_t i = 0; i < g->count; i++) {
-            const timings *t = &g->points[e][i].t;
+    for (int e = 0; e < ENGINES; e++)
+        for (size_t i = 0; i < g->curves[e].count; i++) {
+            const timings *t = &g->curves[e].points[i].t;
             const timed *us = quickest(t, PROVED, PROVED);
-            fprintf(to, "| %-7s | %7zu |", engine_name((enum engine)e), g->x[i]);
+            fprintf(to, "| %-7s | %7zu |", engine_name((enum engine)e), g->curves[e].x[i]);
             print_proved(to, us);
             print_against(to, us, quickest(t, MARKS_UNITS, MARKS_UNITS));
             print_against(to, us, quickest(t, LAYS_TILES, LAYS_TILES));
@@ -140,25 +142,25 @@ static void count_in(standing *s, const measured *rows, size_t count, enum group
     }
 }
 
-// Over the rows of the table and the points of both curves.
+// Over the rows of the table and the points of all curves.
 static standing stand(const measured *rows, size_t count, const growth *const curves[2], enum group first,
                       enum group last)
 {
     standing s = {0, 0, 0, 0, 0};
     count_in(&s, rows, count, first, last);
     for (int k = 0; k < 2; k++)
-        for (int e = TREE; e <= SEGMENT; e++)
-            count_in(&s, curves[k]->points[e], curves[k]->count, first, last);
+        for (const curve *c = curves[k]->curves; c < curves[k]->curves + ENGINES; c++)
+            count_in(&s, c->points, c->count, first, last);
     return s;
 }
 
-// The largest ratio to memcmp of a checked find on 16,384 words with so many slots.
+// The largest ratio to memcmp of a checked find on the most words, with so many slots.
 static double find_to_memcmp(const measured *rows, size_t count, enum engine e, size_t records)
 {
     double most = 0;
     for (size_t i = 0; i < count; i++) {
         const measured *m = &rows[i];
-        if (m->engine != e || m->call != FIND || m->words != POOL_WORDS || m->records != records)
+        if (m->engine != e || m->call != FIND || m->words != most_words(e) || m->records != records)
             continue;
         double r = ratio(quickest(&m->t, PROVED, PROVED)->least, quickest(&m->t, LIMIT, LIMIT)->least);
         most = r > most ? r : most;
@@ -176,9 +178,10 @@ void print_summary(FILE *to, const measured *rows, size_t count, const growth *b
             marks.above, marks.rows, marks.most, all.above, all.most);
     fprintf(to, "- The same by the median of the rounds' ratios, to every twin: %zu, at most %.2f times.\n",
             all.above_by_round, all.most_by_round);
-    fprintf(to, "- A checked find on 16,384 words takes at most so many times memcmp of the arena:");
-    for (int e = TREE; e <= SEGMENT; e++)
+    fprintf(to, "- A checked find on 16,384 words, in form 2 on 1,048,576, takes at most so many times memcmp of the "
+                "arena:");
+    for (int e = 0; e < ENGINES; e++)
         fprintf(to, " %s %.1f with 16 slots, %.1f with 256%s", engine_name((enum engine)e),
                 find_to_memcmp(rows, count, (enum engine)e, 16), find_to_memcmp(rows, count, (enum engine)e, 256),
-                e == TREE ? ";" : ".\n");
+                e + 1 < ENGINES ? ";" : ".\n");
 }

@@ -18,14 +18,18 @@ typedef struct {
     timings t;
 } measured;
 
-enum { ROWS_MOST = 128, POINTS_MOST = 16, ODD_MOST = 128, USUAL_MOST = 96 };
+enum { ROWS_MOST = 160, POINTS_MOST = 16, ODD_MOST = 160, USUAL_MOST = 128 };
 
-// A curve for each engine: a checked find on crowded pools.
+// Checked finds on crowded pools of an engine.
 typedef struct {
-    const char *along, *at; // what grows, and what stays
     size_t count;
     size_t x[POINTS_MOST];
-    measured points[2][POINTS_MOST];
+    measured points[POINTS_MOST];
+} curve;
+
+typedef struct {
+    const char *along, *at; // what grows, and what stays
+    curve curves[ENGINES];
 } growth;
 
 // Finds on pools out of the ordinary, and on the usual ones of the same lengths, which they are held to.

@@ -6,12 +6,12 @@
 
 size_t free_runs(const pool *p, run runs[POOL_RECORDS + 1])
 {
-    static uint8_t held[POOL_WORDS];
+    static uint8_t held[LARGE_UNITS];
     size_t units = units_of(p), count = 0;
     memset(held, 0, units);
     for (const uint32_t *r = p->table; r < p->table + 3 * p->records; r += 3)
         if (r[0] != 0)
-            memset(held + (p->engine == TREE ? r[1] / 2 : r[1] - 1), 1, units_for(p, r[2]));
+            memset(held + (is_tree(p) ? r[1] / unit_words(p) : r[1] - 1), 1, units_for(p, r[2]));
     for (size_t k = 0; k < units; k++) {
         if (held[k] != 0)
             continue;
@@ -24,7 +24,7 @@ size_t free_runs(const pool *p, run runs[POOL_RECORDS + 1])
 
 uint32_t least_held(const pool *p)
 {
-    return p->engine == TREE ? 1 : 2;
+    return is_tree(p) ? 1 : 2;
 }
 
 strip equal_gaps(const pool *p)
@@ -57,8 +57,33 @@ strip rising_gaps(const pool *p)
 
 // ---- the tree pool's nodes
 
+uint32_t *node_at(pool *p, size_t link)
+{
+    return p->arena + cell_words(p) * (link - 1);
+}
+
+size_t left_of(const pool *p, size_t link)
+{
+    uint32_t word = p->arena[cell_words(p) * (link - 1) + 1];
+    return cell_words(p) == 4 ? word : word & 0xffff;
+}
+
+size_t right_of(const pool *p, size_t link)
+{
+    const uint32_t *node = p->arena + cell_words(p) * (link - 1);
+    return cell_words(p) == 4 ? node[2] : node[1] >> 16;
+}
+
+void set_links(pool *p, size_t link, size_t left, size_t right)
+{
+    uint32_t *node = node_at(p, link);
+    node[1] = (uint32_t)(cell_words(p) == 4 ? left : left | right << 16);
+    if (cell_words(p) == 4)
+        node[2] = (uint32_t)right;
+}
+
 // The link to the tree of the free blocks from number i up to n, the longest on top, of equal ones the lowest. They
-// begin at the cells `at`.
+// begin at the units `at`.
 static uint32_t tree_of(pool *p, const strip *s, const uint32_t *at, size_t i, size_t n)
 {
     size_t top = i;
@@ -67,10 +92,10 @@ static uint32_t tree_of(pool *p, const strip *s, const uint32_t *at, size_t i, s
             top = k;
     if (i == n || s->free[top] == 0)
         return 0;
-    uint32_t *node = p->arena + 2 * at[top];
-    node[0] = s->free[top];
-    node[1] = tree_of(p, s, at, i, top) | tree_of(p, s, at, top + 1, n) << 16;
-    return at[top] + 1;
+    uint32_t link = unit_cells(p) * at[top] + 1;
+    node_at(p, link)[0] = unit_cells(p) * s->free[top];
+    set_links(p, link, tree_of(p, s, at, i, top), tree_of(p, s, at, top + 1, n));
+    return link;
 }
 
 // ---- the segment pool's index
@@ -106,8 +131,7 @@ static void index_above(pool *p)
 // The tree pool's nodes are written when all places are known.
 static void lay_free(pool *p, size_t at, uint32_t units)
 {
-    size_t unit_words = p->engine == TREE ? 2 : 1;
-    memset(p->arena + unit_words * at, 0, unit_words * units * sizeof p->arena[0]);
+    memset(p->arena + unit_words(p) * at, 0, unit_words(p) * units * sizeof p->arena[0]);
     if (p->engine == SEGMENT && units > 0) {
         p->arena[at] = units;
         index_block(p, at, units);
@@ -116,7 +140,7 @@ static void lay_free(pool *p, size_t at, uint32_t units)
 
 static void lay_held(pool *p, size_t slot, size_t at, uint32_t units)
 {
-    uint32_t address = (uint32_t)(p->engine == TREE ? 2 * at : at + 1);
+    uint32_t address = (uint32_t)(is_tree(p) ? unit_words(p) * at : at + 1);
     uint32_t ticket = p->head.next + random_below(1000), words = words_for(p, units);
     if (p->engine == SEGMENT) {
         p->arena[at] = -units;
@@ -132,7 +156,7 @@ void lay(pool *p, const strip *s)
 {
     uint32_t at[POOL_RECORDS + 1], unit = 0;
     memset(p->table, 0, sizeof p->table);
-    p->head = (lf_tree_head){0, 1};
+    p->head = (lf_tree_head){0, 1, form_of(p->engine)};
     if (p->engine == SEGMENT)
         clear_index(p);
     for (size_t i = 0; i <= s->held_count; i++) {
@@ -146,7 +170,7 @@ void lay(pool *p, const strip *s)
     }
     if (unit != units_of(p))
         fail(p, "blocks were laid past the last unit, or not so far");
-    if (p->engine == TREE)
+    if (is_tree(p))
         p->head.root = tree_of(p, s, at, 0, s->held_count + 1);
     else
         index_above(p);

@@ -18,6 +18,12 @@ typedef struct {
 // The free runs of a sound pool, as its table says; how many.
 size_t free_runs(const pool *p, run runs[POOL_RECORDS + 1]);
 
+// The node of the tree pool that a link leads to, and its links.
+uint32_t *node_at(pool *p, size_t link);
+size_t left_of(const pool *p, size_t link);
+size_t right_of(const pool *p, size_t link);
+void set_links(pool *p, size_t link, size_t left, size_t right);
+
 // The least units that a held block takes.
 uint32_t least_held(const pool *p);
 

@@ -48,7 +48,7 @@ static void do_job(void *given)
 
 static struct {
     lf_tree_head head;
-    uint32_t arena[POOL_WORDS], table[3 * POOL_RECORDS], index[3 * POOL_SEGMENTS];
+    uint32_t arena[LARGE_WORDS], table[3 * POOL_RECORDS], index[3 * POOL_SEGMENTS];
 } kept[2];
 
 static void keep(size_t i, const pool *p)
@@ -90,7 +90,7 @@ static void see(most *m, most now)
 // The call is made on the pool, which then is as before.
 static void meter(seen *s, bool sound, job j)
 {
-    static size_t idle[2][STEPS];
+    static size_t idle[ENGINES][STEPS];
     pool *p = j.p;
     keep(0, p);
     if (idle[p->engine][j.step] == 0) {
@@ -150,7 +150,7 @@ static void try_calls(seen *s, bool sound, pool *p)
     try_list(s, sound, p);
     if (!sound)
         return;
-    for (uint32_t words = 1; words <= POOL_WORDS; words *= 2)
+    for (uint32_t words = 1; words <= p->words; words *= 2)
         meter(s, sound, (job){.p = p, .step = ALLOCATE, .words = words});
     for (size_t i = 0; i < p->records; i++)
         meter(s, sound, (job){.p = p, .step = RELEASE, .block = record_in(p, i)});
@@ -213,29 +213,41 @@ static void print_size(enum engine e, size_t words, size_t records, int lots)
 {
     static const uint32_t segments[] = {4, 16, 64, 256};
     seen s = {{0, FIND, "", 0}, {0, FIND, "", 0}};
-    for (size_t i = 0; i < (e == TREE ? 1 : sizeof segments / sizeof segments[0]); i++)
+    for (size_t i = 0; i < (e == SEGMENT ? sizeof segments / sizeof segments[0] : 1); i++)
         try_pools(&s, e, words, records, segments[i], lots);
     char size[32];
     snprintf(size, sizeof size, "%zu / %zu", words, records);
-    printf("| %-7s | %-12s |", engine_name(e), size);
+    printf("| %-7s | %-13s |", engine_name(e), size);
     print_most(&s.sound, e);
     print_most(&s.any, e);
     printf("\n");
 }
 
+typedef struct {
+    size_t words, records;
+} lengths;
+
+enum { SIZES_MOST = 8 };
+
+// Of no words: there are no more.
+static const lengths sizes[ENGINES][SIZES_MOST] = {
+    [TREE] = {{24, 4}, {128, 8}, {1024, 16}, {4096, 64}, {16384, 16}, {16384, 256}},
+    [TREE_2] = {{128, 8}, {1024, 16}, {4096, 64}, {16384, 256}, {65536, 256}, {1048576, 16}, {1048576, 256}},
+    [SEGMENT] = {{24, 4}, {128, 8}, {1024, 16}, {4096, 64}, {16384, 16}, {16384, 256}},
+};
+
 int main(int argc, char **argv)
 {
-    static const size_t sizes[][2] = {{24, 4}, {128, 8}, {1024, 16}, {4096, 64}, {16384, 16}, {16384, 256}};
     int lots = argc > 1 ? atoi(argv[1]) : 250;
     printf(
         "Stack that a call was seen to need, in bytes, beside its arguments and return address; each sound pool also "
-        "damaged by lot, %d times:\n\n",
-        lots);
-    printf("| %-7s | %-12s | %-6s | %-48s | %-6s | %-48s |\n", "engine", "words/slots", "sound", "call, pool", "any",
+        "damaged by lot, %d times, above %d words a tenth as often:\n\n",
+        lots, POOL_WORDS);
+    printf("| %-7s | %-13s | %-6s | %-48s | %-6s | %-48s |\n", "engine", "words/slots", "sound", "call, pool", "any",
            "call, pool");
     printf("|---|---|---:|---|---:|---|\n");
-    for (int e = TREE; e <= SEGMENT; e++)
-        for (size_t i = 0; i < sizeof sizes / sizeof sizes[0]; i++)
-            print_size((enum engine)e, sizes[i][0], sizes[i][1], lots);
+    for (int e = 0; e < ENGINES; e++)
+        for (const lengths *l = sizes[e]; l < sizes[e] + SIZES_MOST && l->words != 0; l++)
+            print_size((enum engine)e, l->words, l->records, l->words <= POOL_WORDS ? lots : (lots + 9) / 10);
     return 0;
 }

@@ -82,7 +82,7 @@ static uint64_t malloc_once(const contestant *c, pool *p)
 // The bytes that format writes, in buffers of their own.
 static uint64_t set_once(const contestant *c, pool *p)
 {
-    static uint32_t arena[POOL_WORDS], table[3 * POOL_RECORDS], index[3 * POOL_SEGMENTS];
+    static uint32_t arena[LARGE_WORDS], table[3 * POOL_RECORDS], index[3 * POOL_SEGMENTS];
     (void)c;
     set(arena, 0, p->words * sizeof arena[0]);
     set(table, 0, 3 * p->records * sizeof table[0]);

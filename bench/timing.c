@@ -11,13 +11,14 @@ static double now(void)
     return 1e9 * (double)t.tv_sec + (double)t.tv_nsec;
 }
 
-// The time of one repetition.
-static double sample(const contest *c, size_t k, pool *p, size_t repetitions)
+// The time of one repetition. One more goes before, untimed: another contestant, or the limit in buffers of its own, may
+// have taken a large pool out of the caches.
+static double sample(const contest *c, const contestant *who, pool *p, size_t repetitions)
 {
-    bool limit = k == contestant_count;
-    const contestant *who = limit ? NULL : &contestants[k];
+    bool limit = who == NULL;
     task work = limit ? c->limit : c->work;
     uint64_t sum = 0;
+    work(who, p);
     double start = now();
     for (size_t i = 0; i < repetitions; i++)
         sum += work(who, p);
@@ -29,36 +30,42 @@ static double sample(const contest *c, size_t k, pool *p, size_t repetitions)
     return took / (double)repetitions;
 }
 
-static size_t repetitions_for(double nanoseconds, const contest *c, size_t k, pool *p)
+static size_t repetitions_for(double nanoseconds, const contest *c, const contestant *who, pool *p)
 {
     for (size_t n = 1;; n *= 2) {
-        double took = sample(c, k, p, n) * (double)n;
+        double took = sample(c, who, p, n) * (double)n;
         if (took >= nanoseconds / 4)
             return (size_t)(nanoseconds * (double)n / took) + 1;
     }
 }
 
-static void name_entrants(timings *t, const contest *c)
+static void add_entrant(timings *t, const contestant *who, const char *name, enum group group)
 {
-    t->count = contestant_count + 1;
-    for (size_t k = 0; k < contestant_count; k++) {
-        t->by[k].name = contestants[k].name;
-        t->by[k].group = contestants[k].group;
-    }
-    t->by[contestant_count].name = c->limit_name;
-    t->by[contestant_count].group = LIMIT;
+    timed *entrant = &t->by[t->count++];
+    entrant->who = who;
+    entrant->name = name;
+    entrant->group = group;
+}
+
+static void name_entrants(timings *t, const contest *c, const pool *p)
+{
+    t->count = 0;
+    for (const contestant *who = contestants; who < contestants + contestant_count; who++)
+        if (is_tree(p) || !who->trees)
+            add_entrant(t, who, who->name, who->group);
+    add_entrant(t, NULL, c->limit_name, LIMIT);
 }
 
 void time_pass(timings *t, effort e, pool *p, contest c)
 {
     size_t repetitions[ENTRANTS_MOST];
-    name_entrants(t, &c);
+    name_entrants(t, &c, p);
     for (size_t k = 0; k < t->count; k++)
-        repetitions[k] = repetitions_for(e.sample, &c, k, p);
+        repetitions[k] = repetitions_for(e.sample, &c, t->by[k].who, p);
     for (int r = 0; r < e.rounds; r++) {
         for (size_t i = 0; i < t->count; i++) {
             size_t k = (i + t->taken) % t->count;
-            t->by[k].samples[t->taken] = sample(&c, k, p, repetitions[k]) / (double)c.parts;
+            t->by[k].samples[t->taken] = sample(&c, t->by[k].who, p, repetitions[k]) / (double)c.parts;
         }
         t->taken++;
     }

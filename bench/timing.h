@@ -6,7 +6,7 @@
 
 #include "pools.h"
 
-enum { ENTRANTS_MOST = 16, SAMPLES_MOST = 128 };
+enum { ENTRANTS_MOST = 32, SAMPLES_MOST = 128 };
 
 // One repetition. It returns the sum of the numbers answered, so that a wrong answer is seen and no call is dropped.
 typedef uint64_t (*task)(const contestant *, pool *);
@@ -21,6 +21,7 @@ typedef struct {
 } contest;
 
 typedef struct {
+    const contestant *who; // NULL: the limit
     const char *name;
     enum group group;
     double least, median; // nanoseconds

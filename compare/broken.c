@@ -2,6 +2,7 @@
    its kind, slips. Kind 0 is the library as it is. Most slips are those that document 01 lists. */
 #include "lingfurrow.h"
 #include <stdlib.h>
+#include <string.h>
 
 static int broken(int kind)
 {
@@ -24,7 +25,7 @@ static int broken(int kind)
 #define LISTED const uint32_t *requests, size_t requests_len, uint32_t *answers, size_t answers_len
 #define LISTED_PASSED requests, requests_len, answers, answers_len
 
-lf_tree_outcome __real_lf_tree_format(TREE, uint32_t first);
+lf_tree_outcome __real_lf_tree_format(uint32_t form, TREE, uint32_t first);
 lf_tree_outcome __real_lf_tree_allocate(lf_tree_head head, TREE, uint32_t words);
 lf_tree_outcome __real_lf_tree_release(lf_tree_head head, TREE, NAMED);
 lf_answer __real_lf_tree_find(lf_tree_head head, const uint32_t *arena, size_t arena_len, const uint32_t *table,
@@ -34,12 +35,28 @@ lf_segment_outcome __real_lf_segment_format(SEGMENT, uint32_t first);
 lf_segment_allocation __real_lf_segment_allocate(uint32_t next, SEGMENT, uint32_t words);
 lf_segment_outcome __real_lf_segment_release(uint32_t next, SEGMENT, NAMED);
 
-lf_tree_outcome __wrap_lf_tree_format(TREE, uint32_t first)
+static int is_form(uint32_t form)
 {
+    return form == 1 || form == 2;
+}
+
+/* Is 8 due whatever the form is? */
+static int lengths_of_none(size_t arena_len, size_t table_len)
+{
+    return arena_len == 0 || arena_len % 2 || arena_len > LF_FORM_2_ARENA_WORDS_MAX || table_len == 0 ||
+           table_len % 3 || table_len > LF_TABLE_WORDS(LF_RECORDS_MAX);
+}
+
+lf_tree_outcome __wrap_lf_tree_format(uint32_t form, TREE, uint32_t first)
+{
+    if (broken(25) && !is_form(form)) { /* 11, but the head has the form */
+        lf_tree_outcome refused = { { 0, 0, form }, { LF_BAD_FORM, 0, 0, 0 } };
+        return refused;
+    }
     int none = broken(16) && first == 0;
     if (broken(15) && first != 0) /* tickets begin at 1, whatever was given */
         first = 1;
-    lf_tree_outcome done = __real_lf_tree_format(TREE_PASSED, none ? 1 : first);
+    lf_tree_outcome done = __real_lf_tree_format(form, TREE_PASSED, none ? 1 : first);
     if (none) /* 0 accepted, as a pool that has no ticket left */
         done.head.next = 0;
     if (broken(1) && (uintptr_t)(table + table_len) % 4096) /* writes one word behind the table, where it can */
@@ -49,6 +66,12 @@ lf_tree_outcome __wrap_lf_tree_format(TREE, uint32_t first)
 
 lf_tree_outcome __wrap_lf_tree_allocate(lf_tree_head head, TREE, uint32_t words)
 {
+    if (broken(24) && !is_form(head.form) && lengths_of_none(arena_len, table_len)) { /* 8 before 11 */
+        lf_tree_outcome refused = { head, { LF_BAD_LENGTHS, 0, 0, 0 } };
+        return refused;
+    }
+    if (broken(26) && head.form == 2 && words > LF_ARENA_WORDS_MAX) /* the limit of form 1 in form 2 */
+        words = 0;
     if (broken(2)) /* lengths cut to 32 bits */
         arena_len = (uint32_t)arena_len;
     lf_tree_outcome done = __real_lf_tree_allocate(head, TREE_PASSED, words);
@@ -62,7 +85,7 @@ lf_tree_outcome __wrap_lf_tree_allocate(lf_tree_head head, TREE, uint32_t words)
 /* Of equal lengths the later one above: the root and its right son change places. */
 static lf_tree_head turned(lf_tree_head head, uint32_t *arena)
 {
-    uint32_t *root = head.root ? arena + 2 * (head.root - 1) : 0;
+    uint32_t *root = head.form == 1 && head.root ? arena + 2 * (head.root - 1) : 0;
     uint32_t link = root ? root[1] >> 16 : 0;
     uint32_t *son = link ? arena + 2 * (link - 1) : 0;
     if (!son || son[0] != root[0])
@@ -71,6 +94,17 @@ static lf_tree_head turned(lf_tree_head head, uint32_t *arena)
     son[1] = (son[1] & ~65535u) | head.root;
     head.root = link;
     return head;
+}
+
+/* Left and right exchanged in form 2, in the root. */
+static void exchange(lf_tree_head head, uint32_t *arena)
+{
+    uint32_t *root = head.form == 2 && head.root ? arena + 4 * (head.root - 1) : 0;
+    uint32_t left = root ? root[1] : 0;
+    if (root) {
+        root[1] = root[2];
+        root[2] = left;
+    }
 }
 
 /* The ticket of whoever holds this place now. */
@@ -97,9 +131,23 @@ lf_tree_outcome __wrap_lf_tree_release(lf_tree_head head, TREE, NAMED)
     lf_tree_outcome done = __real_lf_tree_release(head, TREE_PASSED, NAMED_PASSED);
     if (broken(8) && done.answer.number == 0)
         done.head = turned(done.head, arena);
+    if (broken(27) && done.answer.number == 0)
+        exchange(done.head, arena);
     if (broken(9) && done.answer.number == 0 && arena[address] == 0) /* an old header inside a merged block */
         arena[address] = 1;
     return done;
+}
+
+/* Find on a copy of the arena in which the root's fourth word is 0. */
+static lf_answer find_without_fourth(lf_tree_head head, const uint32_t *arena, size_t arena_len,
+                                     const uint32_t *table, size_t table_len, NAMED)
+{
+    uint32_t *copy = malloc(arena_len * sizeof copy[0]);
+    memcpy(copy, arena, arena_len * sizeof copy[0]);
+    copy[4 * (head.root - 1) + 3] = 0;
+    lf_answer answer = __real_lf_tree_find(head, copy, arena_len, table, table_len, NAMED_PASSED);
+    free(copy);
+    return answer;
 }
 
 lf_answer __wrap_lf_tree_find(lf_tree_head head, const uint32_t *arena, size_t arena_len, const uint32_t *table,
@@ -109,11 +157,20 @@ lf_answer __wrap_lf_tree_find(lf_tree_head head, const uint32_t *arena, size_t a
         volatile uint32_t read = arena[arena_len];
         (void)read;
     }
+    if (broken(28) && !is_form(head.form)) /* the form not looked at */
+        head.form = 1;
+    int rooted = head.root - 1 < arena_len / 4 && arena_len <= LF_FORM_2_ARENA_WORDS_MAX;
+    if (broken(29) && head.form == 2 && rooted) /* the fourth word not compared */
+        return find_without_fourth(head, arena, arena_len, table, table_len, NAMED_PASSED);
     return __real_lf_tree_find(head, TREE_PASSED, NAMED_PASSED);
 }
 
 lf_tree_outcome __wrap_lf_tree_list(lf_tree_head head, TREE, LISTED)
 {
+    if (broken(30) && (requests_len % 4 || answers_len < requests_len)) { /* a list's lengths before 11 */
+        lf_tree_outcome refused = { head, { LF_BAD_LENGTHS, 0, 0, 0 } };
+        return refused;
+    }
     size_t served = broken(11) && requests_len > 4 && requests_len % 4 == 0 ? 4 : requests_len;
     lf_tree_outcome done = __real_lf_tree_list(head, TREE_PASSED, requests, served, answers, answers_len);
     for (size_t at = 4; served == 4 && done.answer.number == 0 && at < requests_len && at < answers_len; at++)

@@ -3,9 +3,9 @@
 #include "lingfurrow.h"
 
 #define WORDS(size) ((size) / sizeof(uint32_t))
-_Static_assert(WORDS(sizeof(lf_tree_head)) == 2, "head");
+_Static_assert(WORDS(sizeof(lf_tree_head)) == 3, "head");
 _Static_assert(WORDS(sizeof(lf_answer)) == 4, "answer");
-_Static_assert(WORDS(sizeof(lf_tree_outcome)) == 6, "tree outcome");
+_Static_assert(WORDS(sizeof(lf_tree_outcome)) == 7, "tree outcome");
 _Static_assert(WORDS(sizeof(lf_segment_outcome)) == 5, "segment outcome");
 _Static_assert(WORDS(sizeof(lf_segment_allocation)) == 6, "segment allocation");
 
@@ -15,7 +15,7 @@ _Static_assert(WORDS(sizeof(lf_segment_allocation)) == 6, "segment allocation");
 #define READ_SEGMENT const int32_t *, size_t, const uint32_t *, size_t, uint32_t, const uint32_t *, size_t
 #define LISTED const uint32_t *, size_t, uint32_t *, size_t
 
-lf_tree_outcome lf_tree_format(TREE, uint32_t);
+lf_tree_outcome lf_tree_format(uint32_t, TREE, uint32_t);
 lf_tree_outcome lf_tree_allocate(lf_tree_head, TREE, uint32_t);
 lf_tree_outcome lf_tree_release(lf_tree_head, TREE, uint32_t, uint32_t, uint32_t);
 lf_answer lf_tree_find(lf_tree_head, READ_TREE, uint32_t, uint32_t, uint32_t);

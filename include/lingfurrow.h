@@ -11,7 +11,8 @@
  *
  * MEMORY THAT YOU LEND, the same at every call on a pool; lengths count words of 32 bits:
  *   arena     what is handed out.
- *             Tree pool: uint32_t, an even number from 2 to 16,384. Runs begin at even words and take whole pairs.
+ *             Tree pool: uint32_t, a whole number of units, as many words as FORM below says. A run takes whole units,
+ *             and its address is the first word of one.
  *             Segment pool: int32_t, from 2 to 16,384. A run takes one word more, the control word before its address.
  *   table     uint32_t, LF_TABLE_WORDS(n) for at most n runs at a time; n is 1 to 256.
  *   segments  segment pool: a power of two from 1 to 256; the search for room scans one segment.
@@ -20,10 +21,17 @@
  * the pool's. If one of those changes, the next call answers LF_DAMAGED, unless what is there then is again a pool in
  * order.
  *
+ * FORM: how a tree pool is stored. Format is given the number, and the head carries it from then on.
+ *   form  unit     arena, a multiple of it  most words to ask for
+ *     1   2 words  2 to 16,384                 16,384
+ *     2   4 words  4 to 1,048,576           1,048,576
+ * Nothing turns a pool of one form into another. The segment pool has one form only, without a number.
+ *
  * HEAD: the part of the pool that you keep. Format hands back the first one; each later call takes it, and those that
  * can change the pool hand back the next. Keep that one, also when the call was refused (then it is the same). But a
  * refused format hands back zeros, which belong to no pool: one that lay there before goes on with the head it had.
- *   tree pool: lf_tree_head, the link to the tree of free blocks and the next ticket
+ *   tree pool: lf_tree_head, the link to the tree of free blocks, the next ticket and the form. A head of another form
+ *   is a wrong head like any other: it is refused, unless the buffers are a pool in that form too.
  *   segment pool: a uint32_t, the next ticket
  * TICKET: counted up from the number that format is given, each once, never 0. After 4,294,967,295 none is left.
  * ADDRESS: where a run begins, as an index: arena[address] to arena[address + words - 1] are yours.
@@ -71,11 +79,11 @@ extern "C" {
 
 /* ---- numbers that a call answers
  *
- * Where several would fit, the first of this order is given: 8, 1, 9; then 2, 3, 4, 5 to an allocation, 6, 7 to a
- * release or find, 6 to a format. Any call can answer 8, and any but format 1. */
+ * Where several would fit, the first of this order is given: 11, 8, 1, 9; then 2, 3, 4, 5 to an allocation, 6, 7 to a
+ * release or find, 6 to a format. Any call can answer 8, any of the tree pool 11, and any but format 1. */
 #define LF_OK 0u             /* done */
 #define LF_DAMAGED 1u        /* lengths are right, but head and buffers are not a pool in order */
-#define LF_BAD_SIZE 2u       /* words asked are 0 or above 16,384 */
+#define LF_BAD_SIZE 2u       /* words asked are 0, or above the most: 16,384, in form 2 of the tree pool 1,048,576 */
 #define LF_NO_RECORD 3u      /* the table is full */
 #define LF_NO_TICKET 4u      /* no ticket is left */
 #define LF_NO_ROOM 5u        /* no free run is long enough */
@@ -83,9 +91,11 @@ extern "C" {
 #define LF_MISMATCH 7u       /* the ticket is live, but address or words are not its own */
 #define LF_BAD_LENGTHS 8u    /* a length or the number of segments is out of range, or a list's lengths don't suit */
 #define LF_BAD_REQUEST 9u    /* in a list: a request of unknown kind, or with spare words that are not zero */
+#define LF_BAD_FORM 11u      /* the tree pool has no such form */
 
 /* ---- limits and lengths */
-#define LF_ARENA_WORDS_MAX 16384u
+#define LF_ARENA_WORDS_MAX 16384u          /* of tree pools in form 1 and of segment pools */
+#define LF_FORM_2_ARENA_WORDS_MAX 1048576u /* of tree pools in form 2 */
 #define LF_RECORDS_MAX 256u
 #define LF_SEGMENTS_MAX 256u
 #define LF_REQUESTS_MAX 1024u
@@ -105,7 +115,7 @@ extern "C" {
 /* ---- what calls take and hand back */
 
 typedef struct {
-    uint32_t root, next;
+    uint32_t root, next, form;
 } lf_tree_head;
 
 /* number is LF_OK or the reason of the refusal. ticket, address and words are those of the run that was granted,
@@ -133,9 +143,11 @@ typedef struct {
 
 /* ---- the tree pool */
 
-/* Makes a pool in which all is free and the next ticket is `first`, whatever the buffers held; RESTART above says which
- * number to give. Refused, with a head of zeros: LF_BAD_LENGTHS, LF_UNKNOWN_TICKET if `first` is 0. */
-lf_tree_outcome lf_tree_format(uint32_t *arena, size_t arena_len, uint32_t *table, size_t table_len, uint32_t first);
+/* Makes a pool of this form in which all is free and the next ticket is `first`, whatever the buffers held; FORM and
+ * RESTART above say which numbers to give. Refused, with a head of zeros: LF_BAD_FORM, LF_BAD_LENGTHS,
+ * LF_UNKNOWN_TICKET if `first` is 0. */
+lf_tree_outcome lf_tree_format(uint32_t form, uint32_t *arena, size_t arena_len, uint32_t *table, size_t table_len,
+                               uint32_t first);
 
 /* Takes a run of `words` words, at the lowest address where there is room. All its words read zero. Refused:
  * LF_BAD_SIZE, LF_NO_RECORD, LF_NO_TICKET, LF_NO_ROOM. */
@@ -181,8 +193,8 @@ static inline lf_tree_slice lf_tree_look(lf_tree_head head, const uint32_t *aren
 
 /* ---- the segment pool
  *
- * Each call does what the tree pool's call of that name does, and is refused as that is. The head is the next ticket
- * alone. */
+ * Each call does what the tree pool's call of that name does, and is refused as that is, LF_BAD_FORM aside. The head is
+ * the next ticket alone. */
 
 lf_segment_outcome lf_segment_format(int32_t *arena, size_t arena_len, uint32_t *table, size_t table_len,
                                      uint32_t segments, uint32_t *index, size_t index_len, uint32_t first);

@@ -95,6 +95,14 @@ static inline lf_answer succeeded(row r)
     return (lf_answer){DONE, r.ticket, r.address, r.words};
 }
 
+// What a refused format hands back.
+static const lf_tree_head no_head = {0, 0, 0};
+
+static inline lf_tree_outcome tree_refused(lf_tree_head head, uint32_t number)
+{
+    return (lf_tree_outcome){head, refused(number)};
+}
+
 static inline bool list_suits(size_t requests_len, size_t answers_len)
 {
     return requests_len % REQUEST_WORDS == 0 && requests_len <= REQUEST_WORDS * MOST_REQUESTS &&

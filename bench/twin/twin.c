@@ -7,11 +7,18 @@
 #endif
 #include "table.c"
 #include "tickets.c"
-#include "tree_nodes.c"
-#include "tree_map.c"
-#include "tree_walk.c"
-#include "tree_blocks.c"
-#include "tree_calls.c"
 #include "segment_index.c"
 #include "segment_check.c"
 #include "segment_calls.c"
+#if TWIN_TEMPLATE
+#include "tree_names.h"
+#define FORM 1
+#include "tree.c"
+#undef FORM
+#define FORM 2
+#include "tree.c"
+#undef FORM
+#else
+#include "tree.c"
+#endif
+#include "tree_calls.c"

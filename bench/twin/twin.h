@@ -8,6 +8,8 @@
 // TWIN_TILES    0: a map with a byte for each unit, all pairs of tickets compared.
 //               1: the ideas of the proved code: a map of the blocks' first units alone, tickets compared only where
 //                  they share a residue.
+// TWIN_TEMPLATE 0: the tree pool's code is there once, and the form is passed to it.
+//               1: it is there once for each form, with the form as a constant; a call chooses by its form.
 // TWIN_EXIT     0: loops over words run to the end of a block of 256, so that the compiler can take many at a time.
 //               1: loops over words leave at the first wrong one.
 #ifndef TWIN_H
@@ -22,6 +24,9 @@
 
 #ifndef TWIN_TILES
 #define TWIN_TILES 0
+#endif
+#ifndef TWIN_TEMPLATE
+#define TWIN_TEMPLATE 0
 #endif
 #ifndef TWIN_EXIT
 #define TWIN_EXIT 0
@@ -41,11 +46,18 @@
 #define ALWAYS_INLINE inline __attribute__((always_inline))
 
 enum {
+    FORMS = 2, // of the tree pool: 1 up to this
     MOST_WORDS = 16384,
-    MOST_CELLS = MOST_WORDS / 2,
+    MOST_WORDS_IN_FORM_2 = 1048576,
+    MOST_CELLS = MOST_WORDS_IN_FORM_2 / 4,
     MOST_RECORDS = 256,
     MOST_REQUESTS = 1024,
     MOST_SEGMENTS = 256,
+    MARKED_CELLS = 16384, // of arenas where the tree pool's tiles have a mark for each cell
+    TILE_BITS = 9,        // of the places of tiles elsewhere; for few records there are fewer
+    TILE_PLACES = 1 << TILE_BITS,
+    FEW_RECORDS = 32,
+    FEW_TILE_BITS = 6,
     RECORD_WORDS = 3,
     REQUEST_WORDS = 4,
 };
@@ -62,7 +74,15 @@ enum {
     OTHER_BLOCK = 7,
     BAD_LENGTHS = 8,
     BAD_REQUEST = 9,
+    BAD_FORM = 11,
 };
+
+typedef uint16_t __attribute__((may_alias)) half_word;
+
+// A held block of the tree pool, in cells; no block has length 0.
+typedef struct {
+    uint32_t first, length;
+} tile;
 
 // A record: three words of the table.
 typedef struct {

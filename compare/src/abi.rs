@@ -8,6 +8,7 @@ use crate::model::Answer;
 pub struct TreeHead {
     pub root: u32,
     pub next: u32,
+    pub form: u32,
 }
 
 #[derive(Clone, Copy)]
@@ -56,28 +57,37 @@ pub fn word(value: u32) -> Word {
     Word(0xC35A_A53C_0000_0000 | value as u64)
 }
 
+/// A head as it is passed: its third word has a register or stack slot of its own too.
+#[derive(Clone, Copy)]
+#[repr(C)]
+pub struct PassedHead {
+    pub root: u32,
+    pub next: u32,
+    pub form: Word,
+}
+
 #[rustfmt::skip]
 unsafe extern "C" {
     pub fn lf_tree_format(
-        arena: *mut u32, arena_len: usize, table: *mut u32, table_len: usize, first: Word,
+        form: Word, arena: *mut u32, arena_len: usize, table: *mut u32, table_len: usize, first: Word,
     ) -> TreeOutcome;
     pub fn lf_tree_allocate(
-        head: TreeHead, arena: *mut u32, arena_len: usize, table: *mut u32, table_len: usize, words: Word,
+        head: PassedHead, arena: *mut u32, arena_len: usize, table: *mut u32, table_len: usize, words: Word,
     ) -> TreeOutcome;
     pub fn lf_tree_release(
-        head: TreeHead, arena: *mut u32, arena_len: usize, table: *mut u32, table_len: usize,
+        head: PassedHead, arena: *mut u32, arena_len: usize, table: *mut u32, table_len: usize,
         ticket: Word, address: Word, words: Word,
     ) -> TreeOutcome;
     pub fn lf_tree_find(
-        head: TreeHead, arena: *const u32, arena_len: usize, table: *const u32, table_len: usize,
+        head: PassedHead, arena: *const u32, arena_len: usize, table: *const u32, table_len: usize,
         ticket: Word, address: Word, words: Word,
     ) -> Answer;
     pub fn lf_tree_list(
-        head: TreeHead, arena: *mut u32, arena_len: usize, table: *mut u32, table_len: usize,
+        head: PassedHead, arena: *mut u32, arena_len: usize, table: *mut u32, table_len: usize,
         requests: *const u32, requests_len: usize, answers: *mut u32, answers_len: usize,
     ) -> TreeOutcome;
     pub fn compare_tree_look(
-        head: TreeHead, arena: *const u32, arena_len: usize, table: *const u32, table_len: usize,
+        head: PassedHead, arena: *const u32, arena_len: usize, table: *const u32, table_len: usize,
         placeholder: *const u32, placeholder_len: usize, ticket: Word, address: Word, words: Word,
     ) -> TreeSlice;
 

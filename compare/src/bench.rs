@@ -37,7 +37,7 @@ pub struct Stray {
 
 impl Bench {
     pub fn new(seed: u64) -> Bench {
-        let (tally, place) = (Tally::default(), Random::new(seed));
+        let (tally, place) = (Tally::new(), Random::new(seed));
         Bench { section: "", tally, steps: 0, place, library: Library::new(), aside: Lent::new() }
     }
 
@@ -75,7 +75,7 @@ impl Bench {
             self.tally.mismatch(self.section, size, told);
             self.lend(pool);
         }
-        self.tally.case(pool.engine, self.section, call, &outcome);
+        self.tally.case(self.section, call, &outcome);
         situations::note(&mut self.tally, &before, call, &outcome);
         outcome
     }

@@ -1,8 +1,8 @@
-//! The bench sheet of document 01, T1 to T14, with every word it names.
+//! The bench sheet of document 01, T1 to T14, with every word it names; and one of its kind for form 2.
 
 use crate::bench::Bench;
 use crate::ledger::Record;
-use crate::model::{Answer, Call, Engine, Head, Pool};
+use crate::model::{Answer, Call, Engine, Head, Kind, Pool, SEGMENT};
 
 /// Plays one line of the sheet on both sides and holds the answer against the sheet.
 struct Sheet<'a> {
@@ -11,11 +11,11 @@ struct Sheet<'a> {
 }
 
 impl Sheet<'_> {
-    fn new(bench: &mut Bench, engine: Engine, words: usize, segments: u32) -> Sheet<'_> {
+    fn new(bench: &mut Bench, kind: Kind, words: usize, segments: u32) -> Sheet<'_> {
         let junk = |len: usize| vec![0xDEAD_BEEF; len];
-        let head = Head { root: 0, next: 0 };
+        let head = Head { form: kind.form, ..Head::default() };
         let index = junk(3 * segments as usize);
-        let pool = Pool { engine, head, arena: junk(words), table: junk(12), segments, index };
+        let pool = Pool { engine: kind.engine, head, arena: junk(words), table: junk(12), segments, index };
         bench.lend(&pool);
         Sheet { bench, pool }
     }
@@ -28,7 +28,8 @@ impl Sheet<'_> {
     }
 
     fn format(&mut self, line: &str) {
-        let outcome = self.bench.step(&mut self.pool, &Call::Format(1));
+        let form = self.pool.head.form;
+        let outcome = self.bench.step(&mut self.pool, &Call::Format { form, first: 1 });
         self.due(line, outcome.answer, Answer::default());
     }
 
@@ -55,6 +56,10 @@ impl Sheet<'_> {
         self.due(line, self.pool.arena[at], due);
     }
 
+    fn words(&mut self, line: &str, from: usize, due: &[u32]) {
+        self.due(line, self.pool.arena[from..from + due.len()].to_vec(), due.to_vec());
+    }
+
     fn root(&mut self, line: &str, due: u32) {
         self.due(line, self.pool.head.root, due);
     }
@@ -64,16 +69,20 @@ impl Sheet<'_> {
     }
 }
 
-pub fn run(bench: &mut Bench, engine: Engine) {
+pub fn run(bench: &mut Bench, kind: Kind) {
     bench.section = "bench sheet";
-    match engine {
-        Engine::Tree => tree(bench),
-        Engine::Segment => segment(bench),
+    match (kind.engine, kind.form) {
+        (Engine::Tree, 1) => tree_1(bench),
+        (Engine::Tree, _) => {
+            tree_2(bench);
+            tree_2_large(bench);
+        }
+        (Engine::Segment, _) => segment(bench),
     }
 }
 
-fn tree(bench: &mut Bench) {
-    let mut sheet = Sheet::new(bench, Engine::Tree, 24, 0);
+fn tree_1(bench: &mut Bench) {
+    let mut sheet = Sheet::new(bench, Kind::tree(1), 24, 0);
     sheet.format("T1");
     sheet.word("T1", 0, 12);
     sheet.word("T1", 1, 0);
@@ -105,14 +114,65 @@ fn tree_after_t7(sheet: &mut Sheet) {
     sheet.release("T10", [2, 6, 5], 7);
     sheet.release("T11", [2, 6, 4], 0);
     sheet.word("T11", 0, 8);
-    sheet.due("T11", sheet.pool.arena[1..16].to_vec(), vec![0; 15]);
+    sheet.words("T11", 1, &[0; 15]);
     sheet.no_grant("A 0", 0, 2);
     sheet.no_grant("A 16,385", 16_385, 2);
     sheet.no_grant("A 16,384", 16_384, 5);
 }
 
+/// The sheet's own course in cells of four words: length, left link, right link, 0.
+fn tree_2(bench: &mut Bench) {
+    let mut sheet = Sheet::new(bench, Kind::tree(2), 24, 0);
+    sheet.format("form 2, fresh");
+    sheet.words("form 2, fresh", 0, &[6, 0, 0, 0]);
+    sheet.root("form 2, fresh", 1);
+    sheet.grant("form 2, one cell", 1, 1, 0);
+    sheet.grant("form 2, two cells", 5, 2, 4);
+    sheet.grant("form 2, a whole cell", 4, 3, 12);
+    sheet.words("form 2, the rest", 16, &[2, 0, 0, 0]);
+    sheet.root("form 2, the rest", 5);
+    sheet.release("form 2, release", [1, 0, 1], 0);
+    sheet.words("form 2, release", 0, &[1, 0, 0, 0]);
+    sheet.words("form 2, release", 16, &[2, 1, 0, 0]);
+    sheet.release("form 2, again", [1, 0, 1], 6);
+    sheet.grant("form 2, the last two cells", 8, 4, 16);
+    sheet.root("form 2, the last two cells", 1);
+    sheet.release("form 2, equal lengths", [3, 12, 4], 0);
+    sheet.root("form 2, equal lengths", 1);
+    sheet.words("form 2, equal lengths", 0, &[1, 0, 4, 0]);
+    sheet.words("form 2, equal lengths", 12, &[1, 0, 0, 0]);
+    sheet.no_grant("form 2, two cells apart", 5, 5);
+    sheet.release("form 2, other words", [2, 4, 6], 7);
+    sheet.release("form 2, both joined", [2, 4, 5], 0);
+    sheet.words("form 2, both joined", 0, &[4, 0, 0, 0, 0, 0, 0, 0, 0, 0, 0, 0, 0, 0, 0, 0]);
+    sheet.no_grant("form 2, A 0", 0, 2);
+    sheet.no_grant("form 2, A 1,048,577", 1_048_577, 2);
+    sheet.no_grant("form 2, A 1,048,576", 1_048_576, 5);
+    sheet.no_grant("form 2, A 16,385", 16_385, 5);
+}
+
+/// As many words as there can be: links that do not go into half a word.
+fn tree_2_large(bench: &mut Bench) {
+    let mut sheet = Sheet::new(bench, Kind::tree(2), 1_048_576, 0);
+    sheet.format("form 2, large");
+    sheet.words("form 2, large", 0, &[262_144, 0, 0, 0]);
+    sheet.grant("form 2, large", 700_001, 1, 0);
+    sheet.grant("form 2, large", 3, 2, 700_004);
+    sheet.root("form 2, large", 175_003);
+    sheet.release("form 2, large", [1, 0, 700_001], 0);
+    sheet.words("form 2, large", 0, &[175_001, 0, 175_003, 0]);
+    sheet.words("form 2, large", 700_008, &[87_142, 0, 0, 0]);
+    sheet.grant("form 2, large", 700_004, 3, 0);
+    sheet.root("form 2, large", 175_003);
+    sheet.release("form 2, large", [2, 700_004, 3], 0);
+    sheet.words("form 2, large", 700_004, &[87_143, 0, 0, 0, 0]);
+    sheet.root("form 2, large", 175_002);
+    sheet.grant("form 2, large", 348_572, 4, 700_004);
+    sheet.root("form 2, large", 0);
+}
+
 fn segment(bench: &mut Bench) {
-    let mut sheet = Sheet::new(bench, Engine::Segment, 16, 4);
+    let mut sheet = Sheet::new(bench, SEGMENT, 16, 4);
     sheet.format("T12");
     sheet.word("T12", 0, 16);
     sheet.index("T12", [0, 16, 16, 0, 16, 0, 0, 0], [0, 16, 16, 16]);

@@ -1,17 +1,36 @@
 //! Random calls, aimed at a ledger so that every number is reached.
 
 use crate::ledger::{Ledger, Record, UnitRule};
-use crate::model::{Call, Placeholder};
+use crate::model::{Call, Engine, Kind, Placeholder};
 use crate::random::Random;
+use crate::tree_form::FORMS;
 
-pub fn any(ledger: &Ledger, arena_words: usize, random: &mut Random) -> Call {
+pub fn any(kind: Kind, ledger: &Ledger, arena_words: usize, random: &mut Random) -> Call {
     match random.below(32) {
-        0 => Call::Format(first(ledger, random)),
+        0 => format(kind, ledger, random),
         1..12 => Call::Allocate(words(ledger, random)),
         12..19 => Call::Release(named(ledger, random)),
         19..23 => Call::Find(named(ledger, random)),
         23..27 => look(ledger, arena_words, random),
         _ => list(ledger, random),
+    }
+}
+
+/// Mostly in the form that the pool has.
+fn format(kind: Kind, ledger: &Ledger, random: &mut Random) -> Call {
+    let form = if kind.engine == Engine::Tree && random.one_in(3) { form(random) } else { kind.form };
+    Call::Format { form, first: first(ledger, random) }
+}
+
+/// A form number: one that there is, one just outside, one that looks right in 8 or 16 bits, any.
+pub fn form(random: &mut Random) -> u32 {
+    match random.below(8) {
+        0 => 0,
+        1 => FORMS.len() as u32 + 1,
+        2 => random.pick(&[4, 5, 257, 258, 65_537, 65_538, 1 << 31, (1 << 31) + 1]),
+        3 => u32::MAX,
+        4 => random.word(),
+        _ => random.pick(&FORMS),
     }
 }
 
@@ -33,18 +52,16 @@ pub fn words(ledger: &Ledger, random: &mut Random) -> u32 {
     let free = ledger.free_runs();
     let longest = free.iter().map(|run| run.count).max().unwrap_or(0);
     let chosen = if free.is_empty() { 0 } else { free[random.below(free.len())].count };
-    let most = match ledger.rule {
-        UnitRule::Cells => 2 * longest as u32,
-        UnitRule::ControlledWords => (longest as u32).saturating_sub(1),
-    };
+    let UnitRule { unit, limit, .. } = ledger.rule;
+    let most = ledger.rule.most_in(longest);
     match random.below(20) {
         0 => 0,
-        1 => random.pick(&[16_385, 16_386, 32_768, 65_536, u32::MAX, u32::MAX - 1]),
-        2 => 16_384,
+        1 => random.pick(&[limit + 1, limit + 2, limit * 2, 16_385, 65_536, 65_537, u32::MAX, u32::MAX - 1]),
+        2 => limit,
         3 => random.word(),
         4..7 => most + 1,
         7..10 => most,
-        10..13 => (chosen as u32 * 2).saturating_sub(random.below(3) as u32),
+        10..13 => ((chosen * unit.max(2)) as u32).saturating_sub(random.below(unit + 2) as u32),
         13..16 => (chosen as u32).saturating_sub(random.below(3) as u32),
         _ => random.between(1, 8) as u32,
     }
@@ -53,7 +70,11 @@ pub fn words(ledger: &Ledger, random: &mut Random) -> u32 {
 /// A record to name: a live one in half the cases, else one wrong in a word or three.
 pub fn named(ledger: &Ledger, random: &mut Random) -> Record {
     let live: Vec<Record> = ledger.live().collect();
-    let stray = Record { ticket: 0, address: random.below(ledger.units * 2) as u32, words: random.below(9) as u32 };
+    let stray = Record {
+        ticket: 0,
+        address: random.below(ledger.units * ledger.rule.unit.max(2)) as u32,
+        words: random.below(9) as u32,
+    };
     if live.is_empty() {
         return Record { ticket: unknown(ledger, random), ..stray };
     }

@@ -4,7 +4,13 @@
 use crate::ledger::{Ledger, Run};
 use crate::model::{Engine, Pool};
 use crate::random::Random;
-use crate::{segment_form, tree_form};
+use crate::segment_form;
+use crate::tree_form::{self, Form};
+
+/// The form that the pool's head names; forms that there are not are no damage of the kinds below.
+fn form_of(pool: &Pool) -> Form {
+    tree_form::form(pool.head.form).unwrap_or(Form { cell: 2, unit: 2, most: 16_384 })
+}
 
 /// Changes the pool and says what kind of change it was.
 pub fn any(pool: &mut Pool, ledger: &Ledger, random: &mut Random) -> &'static str {
@@ -39,6 +45,10 @@ fn change(pool: &mut Pool, ledger: &Ledger, random: &mut Random) -> &'static str
             change_in(&mut pool.table, at, random);
             "damage seen: table"
         }
+        9 if pool.engine == Engine::Tree && pool.head.form == 2 && random.one_in(2) => {
+            fourth_word(pool, ledger, random);
+            "damage seen: fourth node word"
+        }
         9 if pool.engine == Engine::Tree => {
             pool.head.root = near(pool.head.root, value, random);
             "damage seen: head"
@@ -63,7 +73,17 @@ fn change(pool: &mut Pool, ledger: &Ledger, random: &mut Random) -> &'static str
     }
 }
 
-/// A place in the arena: any word, a block's first two words, a word inside a free run.
+/// The word of a node of form 2 that is 0 in every pool.
+fn fourth_word(pool: &mut Pool, ledger: &Ledger, random: &mut Random) {
+    let runs = ledger.free_runs();
+    if !runs.is_empty() {
+        let at = 4 * random.pick(&runs).first + 3;
+        let any = random.word() | 1;
+        pool.arena[at] = random.pick(&[1, any, 65_536, pool.arena[at - 1], pool.arena[at - 2], pool.arena[at - 3]]);
+    }
+}
+
+/// A place in the arena: any word, a block's first words, a word inside a free run.
 fn arena_word(pool: &Pool, ledger: &Ledger, random: &mut Random) -> usize {
     let mut runs = ledger.free_runs();
     if pool.engine == Engine::Segment && random.one_in(2) {
@@ -75,7 +95,7 @@ fn arena_word(pool: &Pool, ledger: &Ledger, random: &mut Random) -> usize {
     let words = ledger.rule.words_of(random.pick(&runs));
     match random.below(4) {
         0 => random.between(words.start, words.end - 1),
-        1 => (words.start + 1).min(words.end - 1),
+        1 => (words.start + 1 + random.below(ledger.rule.unit / 2)).min(words.end - 1),
         _ => words.start,
     }
 }
@@ -105,28 +125,27 @@ fn near(old: u32, other: u32, random: &mut Random) -> u32 {
 
 /// Turns a node and its right son round: addresses stay in order, lengths may not.
 fn rotate(pool: &mut Pool, ledger: &Ledger, random: &mut Random) {
-    let runs = ledger.free_runs();
-    let cells = pool.arena.len() as u32 / 2;
-    let has_son = |run: &&Run| (1..=cells).contains(&(pool.arena[2 * run.first + 1] / 65_536));
-    let turnable: Vec<Run> = runs.iter().filter(has_son).copied().collect();
+    let form = form_of(pool);
+    let nodes: Vec<usize> = form.free_cells(ledger).iter().map(|run| run.first).collect();
+    let cells = (pool.arena.len() / form.cell) as u32;
+    let links_of = |node: usize| form.links(&pool.arena, node);
+    let turnable: Vec<usize> = nodes.iter().copied().filter(|node| (1..=cells).contains(&links_of(*node)[1])).collect();
     if turnable.is_empty() {
         return;
     }
-    let father = random.pick(&turnable).first;
-    let (father_link, links) = (father as u32 + 1, pool.arena[2 * father + 1]);
-    let son_link = links / 65_536;
-    let son = 2 * (son_link as usize - 1) + 1;
-    let inner = pool.arena[son] % 65_536;
-    for run in &runs {
-        let word = &mut pool.arena[2 * run.first + 1];
-        let turned = |link: u32| if link == father_link { son_link } else { link };
-        *word = turned(*word % 65_536) + 65_536 * turned(*word / 65_536);
+    let father = random.pick(&turnable);
+    let [outer, son_link] = links_of(father);
+    let son = son_link as usize - 1;
+    let [inner, far] = links_of(son);
+    let father_link = father as u32 + 1;
+    let turned = |link: u32| if link == father_link { son_link } else { link };
+    for node in nodes {
+        let links = form.links(&pool.arena, node).map(turned);
+        form.set_links(&mut pool.arena, node, links);
     }
-    pool.arena[2 * father + 1] = links % 65_536 + 65_536 * inner;
-    pool.arena[son] = father_link + pool.arena[son] / 65_536 * 65_536;
-    if pool.head.root == father_link {
-        pool.head.root = son_link;
-    }
+    form.set_links(&mut pool.arena, father, [outer, inner]);
+    form.set_links(&mut pool.arena, son, [father_link, far]);
+    pool.head.root = turned(pool.head.root);
 }
 
 /// A whole form built by a wrong rule.
@@ -154,15 +173,17 @@ fn add_record(pool: &mut Pool, random: &mut Random) {
     for (word, value) in pool.table[3 * slot..].iter_mut().zip(record) {
         *word = value as u32;
     }
-    let read = Ledger::read(pool.engine.rule(), pool.arena.len(), &pool.table, pool.head.next);
+    let kind = pool.kind();
+    let read = kind.rule().and_then(|rule| Ledger::read(rule, pool.arena.len(), &pool.table, pool.head.next));
     if let (Some(ledger), true) = (read, random.one_in(2)) {
-        *pool = Pool::stored(pool.engine, &ledger, pool.segments, &pool.arena);
+        *pool = Pool::stored(kind, &ledger, pool.segments, &pool.arena);
     }
 }
 
 /// Free runs split in two, left out, or stretched, in a tree that is right for them.
 fn plant_wrong(pool: &mut Pool, ledger: &Ledger, random: &mut Random) {
-    let mut runs = ledger.free_runs();
+    let form = form_of(pool);
+    let mut runs = form.free_cells(ledger);
     if runs.is_empty() {
         return;
     }
@@ -174,31 +195,29 @@ fn plant_wrong(pool: &mut Pool, ledger: &Ledger, random: &mut Random) {
             runs[at].count = low;
             runs.insert(at + 1, Run { first: first + low, count: count - low });
         }
-        1 if first + count < ledger.units => runs[at].count += 1,
+        1 if first + count < pool.arena.len() / form.cell => runs[at].count += 1,
         _ => {
             runs.remove(at);
         }
     }
-    pool.head.root = tree_form::plant(&runs, &mut pool.arena);
+    pool.head.root = form.plant(&runs, &mut pool.arena);
 }
 
 /// Links that lead a walk round or along very many ways: sons shared, fathers as sons.
 fn snare(pool: &mut Pool, ledger: &Ledger, random: &mut Random) {
-    let cells = pool.arena.len() / 2;
+    let form = form_of(pool);
+    let cells = pool.arena.len() / form.cell;
     let everywhere = random.one_in(2);
     let style = random.below(3);
     let nodes: Vec<usize> =
-        if everywhere { (0..cells).collect() } else { ledger.free_runs().iter().map(|run| run.first).collect() };
+        if everywhere { (0..cells).collect() } else { form.free_cells(ledger).iter().map(|run| run.first).collect() };
     for (place, &node) in nodes.iter().enumerate() {
         let ahead = nodes[(place + 1) % nodes.len()] as u32 + 1;
         let back = nodes[place.saturating_sub(1)] as u32 + 1;
         let any = nodes[random.below(nodes.len())] as u32 + 1;
-        pool.arena[2 * node] = if everywhere { 1 } else { pool.arena[2 * node] };
-        pool.arena[2 * node + 1] = match style {
-            0 => ahead + 65_536 * ahead,
-            1 => back + 65_536 * ahead,
-            _ => any + 65_536 * ahead,
-        };
+        pool.arena[form.cell * node] = if everywhere { 1 } else { pool.arena[form.cell * node] };
+        let left = [ahead, back, any][style];
+        form.set_links(&mut pool.arena, node, [left, ahead]);
     }
     if everywhere && random.one_in(2) {
         pool.table.fill(0);

@@ -5,7 +5,6 @@ use crate::random::Random;
 use std::ffi::c_void;
 
 const PAGE_BYTES: usize = 4_096;
-const ROOM: usize = 24 * 1_024;
 const GUARDS: usize = 48;
 
 unsafe extern "C" {
@@ -31,6 +30,7 @@ pub struct Words {
 
 pub struct Guarded {
     room: *mut u32,
+    room_words: usize,
     from: usize,
     len: usize,
     /// Where the whole lies while only a part of it is lent.
@@ -42,35 +42,37 @@ fn guard(at: usize) -> u32 {
 }
 
 impl Guarded {
-    pub fn new() -> Guarded {
-        let bytes = ROOM * 4 + 2 * PAGE_BYTES;
+    /// Room for so many words, whole pages.
+    pub fn new(room_words: usize) -> Guarded {
+        let bytes = room_words * 4 + 2 * PAGE_BYTES;
         let base = map(bytes).expect("memory for the buffers");
         for page in [base, base.wrapping_add(bytes - PAGE_BYTES)] {
             // SAFETY: both pages lie inside the mapping made above.
             let done = unsafe { mprotect(page as *mut c_void, PAGE_BYTES, 0) };
             assert_eq!(done, 0, "pages that may not be touched");
         }
-        Guarded { room: base.wrapping_add(PAGE_BYTES) as *mut u32, from: GUARDS, len: 0, whole: None }
+        let room = base.wrapping_add(PAGE_BYTES) as *mut u32;
+        Guarded { room, room_words, from: GUARDS, len: 0, whole: None }
     }
 
     fn room(&self) -> &[u32] {
         // SAFETY: the room is mapped for the program's life, and the library is not running now.
-        unsafe { std::slice::from_raw_parts(self.room, ROOM) }
+        unsafe { std::slice::from_raw_parts(self.room, self.room_words) }
     }
 
     fn room_mut(&mut self) -> &mut [u32] {
         // SAFETY: as above, and self is borrowed alone.
-        unsafe { std::slice::from_raw_parts_mut(self.room, ROOM) }
+        unsafe { std::slice::from_raw_parts_mut(self.room, self.room_words) }
     }
 
     /// Puts these words between guards, at the room's beginning, its end or in its midst.
     pub fn lend(&mut self, words: &[u32], random: &mut Random) {
-        assert!(words.len() + 2 * GUARDS <= ROOM);
+        assert!(words.len() + 2 * GUARDS <= self.room_words);
         self.whole = None;
         self.len = words.len();
         self.from = match random.below(4) {
             0 => 0,
-            1 => ROOM - words.len(),
+            1 => self.room_words - words.len(),
             _ => GUARDS + random.below(8),
         };
         let (from, len) = (self.from, self.len);
@@ -82,7 +84,7 @@ impl Guarded {
 
     fn guarded_places(&self) -> impl Iterator<Item = usize> + use<> {
         let end = self.from + self.len;
-        (self.from.saturating_sub(GUARDS)..self.from).chain(end..ROOM.min(end + GUARDS))
+        (self.from.saturating_sub(GUARDS)..self.from).chain(end..self.room_words.min(end + GUARDS))
     }
 
     /// While a part is lent, the words round it are the whole's and are looked at with it.

@@ -3,11 +3,13 @@
 
 /// What a unit is, and what a request takes.
 #[derive(Clone, Copy, PartialEq, Eq, Debug)]
-pub enum UnitRule {
-    /// Two words to a unit; n words take n/2 units rounded up; the address is the first word.
-    Cells,
-    /// One word to a unit; n words take n + 1; the address is the word after the first.
-    ControlledWords,
+pub struct UnitRule {
+    /// Words to a unit.
+    pub unit: usize,
+    /// Words of a block before its address. They come on top of the words asked, and all are rounded up to units.
+    pub before: usize,
+    /// The most words that can be asked for.
+    pub limit: u32,
 }
 
 #[derive(Clone, Copy, PartialEq, Eq, Debug)]
@@ -40,40 +42,31 @@ impl Run {
 
 impl UnitRule {
     pub fn units_in(self, arena_words: usize) -> usize {
-        match self {
-            UnitRule::Cells => arena_words / 2,
-            UnitRule::ControlledWords => arena_words,
-        }
+        arena_words / self.unit
     }
 
     pub fn units_for(self, words: u32) -> usize {
-        match self {
-            UnitRule::Cells => (words as usize).div_ceil(2),
-            UnitRule::ControlledWords => words as usize + 1,
-        }
+        (words as usize + self.before).div_ceil(self.unit)
     }
 
     /// The unit a block at this address begins with, if one begins so.
     pub fn first_unit(self, address: u32) -> Option<usize> {
-        match self {
-            UnitRule::Cells => (address % 2 == 0).then_some(address as usize / 2),
-            UnitRule::ControlledWords => (address as usize).checked_sub(1),
-        }
+        let word = (address as usize).checked_sub(self.before)?;
+        (word % self.unit == 0).then_some(word / self.unit)
     }
 
     pub fn address_of(self, first: usize) -> u32 {
-        match self {
-            UnitRule::Cells => first as u32 * 2,
-            UnitRule::ControlledWords => first as u32 + 1,
-        }
+        (first * self.unit + self.before) as u32
+    }
+
+    /// The most words that so many units can be asked for.
+    pub fn most_in(self, units: usize) -> u32 {
+        (units * self.unit).saturating_sub(self.before) as u32
     }
 
     /// The words of the arena that these units are.
     pub fn words_of(self, run: Run) -> std::ops::Range<usize> {
-        match self {
-            UnitRule::Cells => 2 * run.first..2 * run.end(),
-            UnitRule::ControlledWords => run.first..run.end(),
-        }
+        self.unit * run.first..self.unit * run.end()
     }
 }
 
@@ -146,7 +139,7 @@ impl Ledger {
 
     /// Grants a request, or says its number: 2, 3, 4, 5 in this order.
     pub fn grant(&mut self, words: u32) -> Result<Record, u32> {
-        if words == 0 || words > 16_384 {
+        if words == 0 || words > self.rule.limit {
             return Err(2);
         }
         let slot = self.slots.iter().position(Option::is_none).ok_or(3u32)?;

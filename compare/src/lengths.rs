@@ -1,5 +1,6 @@
 //! Wrong lengths: lent buffers and S just outside the ranges, or far outside.
 
+use crate::ledger::UnitRule;
 use crate::model::{Engine, Pool};
 use crate::random::Random;
 
@@ -19,7 +20,8 @@ fn misfit_one(pool: &mut Pool, random: &mut Random) {
     match (random.below(6), pool.engine) {
         (0 | 1, _) => {
             let near = (pool.arena.len() + 1).saturating_sub(random.below(3));
-            let len = random.pick(&[0, 1, 3, 16_383, 16_385, 16_386, 16_400, near, near, near]);
+            let outside = outside(pool, near, random);
+            let len = random.pick(&[0, 1, 3, near, near, near, outside, outside]);
             resize(&mut pool.arena, len, random);
         }
         (2 | 3, _) | (_, Engine::Tree) => {
@@ -40,6 +42,17 @@ fn misfit_one(pool: &mut Pool, random: &mut Random) {
             }
         }
     }
+}
+
+/// Just above the most, or below it and no whole number of units. A million words are lent seldom.
+fn outside(pool: &Pool, near: usize, random: &mut Random) -> usize {
+    let Some(UnitRule { unit, limit, .. }) = pool.kind().rule() else { return near };
+    let most = limit as usize;
+    if most > 16_384 && !random.one_in(60) {
+        return random.pick(&[2, 6, 7, 16_385, 16_386]);
+    }
+    let near_cells = pool.arena.len() + 2 * random.between(1, 3);
+    random.pick(&[most - 1, most + 1, most + 2, most + unit, most + 16, near_cells, near_cells])
 }
 
 fn resize(words: &mut Vec<u32>, len: usize, random: &mut Random) {

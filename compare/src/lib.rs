@@ -6,6 +6,7 @@ mod bench_sheet;
 mod calls;
 mod damage;
 mod guarded;
+mod large;
 mod ledger;
 mod lengths;
 mod library;
@@ -26,12 +27,13 @@ mod vast;
 mod watch;
 
 use bench::Bench;
-use model::Engine;
+use model::{Kind, SEGMENT};
 use random::Random;
 use std::process::ExitCode;
 use std::time::Instant;
 
-/// Random cases to an engine; the bench sheet, tiny pools and vast lengths come on top.
+/// Random cases to the segment pool and to each form of the tree pool; the bench sheet, tiny pools and vast lengths
+/// come on top.
 const CASES: u64 = 1_200_000;
 const SEED: u64 = 61;
 
@@ -60,16 +62,25 @@ fn wanted() -> Result<Wanted, String> {
     Ok(wanted)
 }
 
-fn run(bench: &mut Bench, engine: Engine, wanted: &Wanted) {
-    let mut random = Random::new(wanted.seed ^ (engine as u64) << 32);
+/// The tree pool in each of its forms, and the segment pool.
+fn kinds() -> Vec<Kind> {
+    tree_form::FORMS.into_iter().map(Kind::tree).chain([SEGMENT]).collect()
+}
+
+fn run(bench: &mut Bench, kind: Kind, wanted: &Wanted) {
+    let mut random = Random::new(wanted.seed ^ (kind.form as u64) << 32);
+    bench.tally.kind = kind;
     if !wanted.random_only {
-        bench_sheet::run(bench, engine);
-        tiny::run(bench, engine);
+        bench_sheet::run(bench, kind);
+        tiny::run(bench, kind);
     }
-    single_calls::run(bench, engine, wanted.cases / 2, &mut random);
-    long_runs::run(bench, engine, wanted.cases / 5, &mut random);
-    order::run(bench, engine, wanted.cases / 5, &mut random);
-    restart::run(bench, engine, wanted.cases / 10, &mut random);
+    single_calls::run(bench, kind, wanted.cases / 2, &mut random);
+    long_runs::run(bench, kind, wanted.cases / 5, &mut random);
+    order::run(bench, kind, wanted.cases / 5, &mut random);
+    restart::run(bench, kind, wanted.cases / 10, &mut random);
+    if *kind.arena_words().end() > 16_384 {
+        large::run(bench, kind, wanted.cases / 12_000 + 8, &mut random);
+    }
 }
 
 pub fn compare() -> ExitCode {
@@ -83,11 +94,11 @@ pub fn compare() -> ExitCode {
     watch::begin();
     let began = Instant::now();
     let mut bench = Bench::new(wanted.seed);
-    for engine in [Engine::Tree, Engine::Segment] {
-        run(&mut bench, engine, &wanted);
+    for kind in kinds() {
+        run(&mut bench, kind, &wanted);
     }
-    vast::run(&mut bench.tally);
-    let whole = bench.tally.report();
+    vast::run(&mut bench.tally, &kinds());
+    let whole = bench.tally.report(&kinds());
     println!("seed {}, {:.1} s", wanted.seed, began.elapsed().as_secs_f64());
     match (bench.tally.mismatches, whole) {
         (0, true) => ExitCode::SUCCESS,

@@ -1,9 +1,12 @@
 //! The library under comparison: a call on lent words, and the buffers that are lent to it.
 
-use crate::abi::{self, TreeHead, Word, word};
+use crate::abi::{self, PassedHead, Word, word};
 use crate::guarded::{Guarded, Words};
 use crate::model::{Answer, Call, Engine, Head, Placeholder, Pool};
 use crate::random::Random;
+
+const ROOM: usize = 24 * 1_024;
+const ARENA_ROOM: usize = 1_040 * 1_024;
 
 /// What the library handed back; a look only its slice, by place and length; an allocation in the
 /// segment pool also the places looked at.
@@ -42,13 +45,13 @@ pub struct Library {
 
 impl Lent {
     pub fn new() -> Lent {
-        Lent { arena: Guarded::new(), table: Guarded::new(), index: Guarded::new() }
+        Lent { arena: Guarded::new(ARENA_ROOM), table: Guarded::new(ROOM), index: Guarded::new(ROOM) }
     }
 }
 
 impl Library {
     pub fn new() -> Library {
-        let (requests, answers, placeholder) = (Guarded::new(), Guarded::new(), Guarded::new());
+        let (requests, answers, placeholder) = (Guarded::new(ROOM), Guarded::new(ROOM), Guarded::new(ROOM));
         Library { lent: Lent::new(), requests, answers, placeholder }
     }
 
@@ -102,10 +105,10 @@ pub fn play(pool: &Pool, view: &View, call: &Call) -> Played {
     }
 }
 
-/// Ticket, address and words, where the call has them; format's one ticket is the first.
+/// Ticket, address and words, where the call has them. Format has its first ticket, and its form as an address.
 fn numbers_of(call: &Call) -> [Word; 3] {
     let numbers = match call {
-        Call::Format(first) => [*first, 0, 0],
+        Call::Format { form, first } => [*first, *form, 0],
         Call::Allocate(words) => [0, 0, *words],
         Call::Release(named) | Call::Find(named) | Call::Look(named, _) => [named.ticket, named.address, named.words],
         Call::List { .. } => [0; 3],
@@ -114,13 +117,14 @@ fn numbers_of(call: &Call) -> [Word; 3] {
 }
 
 fn play_tree(pool: &Pool, view: &View, call: &Call) -> Played {
-    let head = TreeHead { root: pool.head.root, next: pool.head.next };
+    let Head { root, next, form } = pool.head;
+    let head = PassedHead { root, next, form: word(form) };
     let View { arena: a, table: t, requests: r, answers: w, placeholder: p, .. } = *view;
     let [ticket, address, words] = numbers_of(call);
     // SAFETY: the words are lent as far as said, and none that a call writes overlap.
     let done = unsafe {
         match call {
-            Call::Format(_) => abi::lf_tree_format(a.at, a.len, t.at, t.len, ticket),
+            Call::Format { .. } => abi::lf_tree_format(address, a.at, a.len, t.at, t.len, ticket),
             Call::Allocate(_) => abi::lf_tree_allocate(head, a.at, a.len, t.at, t.len, words),
             Call::Release(_) => abi::lf_tree_release(head, a.at, a.len, t.at, t.len, ticket, address, words),
             Call::List { .. } => abi::lf_tree_list(head, a.at, a.len, t.at, t.len, r.at, r.len, w.at, w.len),
@@ -134,8 +138,8 @@ fn play_tree(pool: &Pool, view: &View, call: &Call) -> Played {
             }
         }
     };
-    let head = Head { root: done.head.root, next: done.head.next };
-    Played { head, answer: done.answer, slice: None, places: None }
+    let abi::TreeHead { root, next, form } = done.head;
+    Played { head: Head { root, next, form }, answer: done.answer, slice: None, places: None }
 }
 
 fn play_segment(pool: &Pool, view: &View, call: &Call) -> Played {
@@ -146,10 +150,10 @@ fn play_segment(pool: &Pool, view: &View, call: &Call) -> Played {
     // SAFETY: the words are lent as far as said, and none that a call writes overlap.
     let done = unsafe {
         match call {
-            Call::Format(_) => abi::lf_segment_format(v, a.len, t.at, t.len, s, i.at, i.len, ticket),
+            Call::Format { .. } => abi::lf_segment_format(v, a.len, t.at, t.len, s, i.at, i.len, ticket),
             Call::Allocate(_) => {
                 let done = abi::lf_segment_allocate(next, v, a.len, t.at, t.len, s, i.at, i.len, words);
-                let head = Head { root: 0, next: done.next };
+                let head = Head { next: done.next, ..Head::default() };
                 return Played { head, answer: done.answer, slice: None, places: Some(done.places) };
             }
             Call::Release(_) => {
@@ -169,7 +173,8 @@ fn play_segment(pool: &Pool, view: &View, call: &Call) -> Played {
             }
         }
     };
-    Played { head: Head { root: 0, next: done.next }, answer: done.answer, slice: None, places: None }
+    let head = Head { next: done.next, ..Head::default() };
+    Played { head, answer: done.answer, slice: None, places: None }
 }
 
 impl Played {

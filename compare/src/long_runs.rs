@@ -2,7 +2,7 @@
 
 use crate::bench::Bench;
 use crate::ledger::{Ledger, Record};
-use crate::model::{Call, Engine, Pool};
+use crate::model::{Call, Kind, Pool};
 use crate::random::Random;
 use crate::{calls, damage, pools};
 
@@ -13,17 +13,17 @@ struct Course {
     most: usize,
 }
 
-pub fn run(bench: &mut Bench, engine: Engine, cases: u64, random: &mut Random) {
+pub fn run(bench: &mut Bench, kind: Kind, cases: u64, random: &mut Random) {
     bench.section = "long runs";
     let mut left = cases;
     while left > 0 {
-        let shape = pools::shape(engine, random);
+        let shape = pools::shape(kind, random);
         let steps = left.min(random.between(50, 2_000) as u64);
-        let mut pool = pools::sound(engine, shape, random);
+        let mut pool = pools::sound(shape, random);
         bench.lend(&pool);
         if random.one_in(2) {
             let first = calls::first(&pool.ledger().expect("a stored form is sound"), random);
-            bench.step(&mut pool, &Call::Format(first));
+            bench.step(&mut pool, &Call::Format { form: kind.form, first });
         }
         let most = random.between(1, (3 * shape.words / shape.slots).max(2));
         let mut course = Course { spent: Vec::new(), filling: true, most };
@@ -56,7 +56,7 @@ fn next_call(pool: &Pool, ledger: &Ledger, course: &mut Course, random: &mut Ran
     }
     let live: Vec<Record> = ledger.live().collect();
     match random.below(20) {
-        0 => calls::any(ledger, pool.arena.len(), random),
+        0 => calls::any(pool.kind(), ledger, pool.arena.len(), random),
         1 if !course.spent.is_empty() => Call::Release(random.pick(&course.spent)),
         2 if !course.spent.is_empty() => Call::Find(random.pick(&course.spent)),
         3 => calls::list(ledger, random),
@@ -70,16 +70,16 @@ fn next_call(pool: &Pool, ledger: &Ledger, course: &mut Course, random: &mut Ran
     }
 }
 
-/// Callers write into blocks they hold, a tree block's odd spare word included.
-fn write_as_callers(bench: &mut Bench, pool: &mut Pool, ledger: &Ledger, random: &mut Random) {
+/// Callers write into blocks they hold, a tree block's spare words included.
+pub fn write_as_callers(bench: &mut Bench, pool: &mut Pool, ledger: &Ledger, random: &mut Random) {
     let live: Vec<Record> = ledger.live().collect();
     if live.is_empty() {
         return;
     }
     for _ in 0..random.below(4) {
         let record = random.pick(&live);
-        let odd = pool.engine == Engine::Tree && record.words % 2 == 1;
-        let at = record.address as usize + random.below(record.words as usize + odd as usize);
+        let room = ledger.rule.most_in(ledger.rule.units_for(record.words));
+        let at = record.address as usize + random.below(room as usize);
         let word = if random.one_in(4) { random.below(9) as u32 } else { random.word() };
         bench.write(pool, at, word);
     }
@@ -92,8 +92,8 @@ fn strike_and_mend(bench: &mut Bench, pool: &mut Pool, ledger: &Ledger, random: 
     if struck.ledger().is_err() {
         bench.lend(&struck);
         for _ in 0..random.between(1, 3) {
-            let call = calls::any(ledger, struck.arena.len(), random);
-            if !matches!(call, Call::Format(_)) {
+            let call = calls::any(pool.kind(), ledger, struck.arena.len(), random);
+            if !matches!(call, Call::Format { .. }) {
                 bench.step(&mut struck, &call);
             }
         }

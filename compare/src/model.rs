@@ -1,6 +1,7 @@
 //! The calls of document 01 on any memory, in its order of numbers: 8, 1, 9, then 2 to 5 or 6, 7; and
 //! format as request 2 of document 02 has it, with the first ticket number: 8, 6; and the places of
-//! request 5, counted from the ledger before the call.
+//! request 5, counted from the ledger before the call; and 11 for a tree pool of no such form, as
+//! request 3 has it: before all else, by the head's form, in format by the one that it is given.
 //! Soundness as 01 says it: read the ledger off the table, compute its stored form over the
 //! callers' words, compare.
 
@@ -13,11 +14,19 @@ pub enum Engine {
     Segment,
 }
 
-/// The segment pool's head has no root link; there it is 0 and stays so.
+/// An engine with a form number; the segment pool has none, there it is 0.
 #[derive(Clone, Copy, PartialEq, Eq, Debug)]
+pub struct Kind {
+    pub engine: Engine,
+    pub form: u32,
+}
+
+/// The segment pool's head has neither root link nor form; there they are 0 and stay so.
+#[derive(Clone, Copy, PartialEq, Eq, Debug, Default)]
 pub struct Head {
     pub root: u32,
     pub next: u32,
+    pub form: u32,
 }
 
 /// All that a call on a pool brings. Sizes may be wrong. The tree pool has no S and no index.
@@ -39,8 +48,11 @@ pub enum Placeholder {
 
 #[derive(Clone, PartialEq, Eq, Debug)]
 pub enum Call {
-    /// With the first ticket number.
-    Format(u32),
+    /// With the first ticket number. Form 0 in the segment pool.
+    Format {
+        form: u32,
+        first: u32,
+    },
     Allocate(u32),
     Release(Record),
     Find(Record),
@@ -77,12 +89,31 @@ pub struct Outcome {
     pub places: Option<u32>,
 }
 
-impl Engine {
-    pub fn rule(self) -> UnitRule {
-        match self {
-            Engine::Tree => UnitRule::Cells,
-            Engine::Segment => UnitRule::ControlledWords,
+pub const SEGMENT: Kind = Kind { engine: Engine::Segment, form: 0 };
+
+impl Kind {
+    pub fn tree(form: u32) -> Kind {
+        Kind { engine: Engine::Tree, form }
+    }
+
+    /// As the form says; in the segment pool one word, and a control word before each block. None where there is
+    /// no such form.
+    pub fn rule(self) -> Option<UnitRule> {
+        match self.engine {
+            Engine::Tree => Some(tree_form::form(self.form)?.rule()),
+            Engine::Segment => Some(UnitRule { unit: 1, before: 1, limit: 16_384 }),
         }
+    }
+
+    /// The rule of a kind that there is.
+    pub fn known_rule(self) -> UnitRule {
+        self.rule().expect("a form that there is")
+    }
+
+    /// The words that an arena can have.
+    pub fn arena_words(self) -> std::ops::RangeInclusive<usize> {
+        let UnitRule { unit, limit, .. } = self.known_rule();
+        unit.max(2)..=limit as usize
     }
 }
 
@@ -100,43 +131,48 @@ impl Answer {
 }
 
 impl Pool {
+    pub fn kind(&self) -> Kind {
+        Kind { engine: self.engine, form: self.head.form }
+    }
+
     /// The stored form of a ledger, held words taken from `words`.
-    pub fn stored(engine: Engine, ledger: &Ledger, segments: u32, words: &[u32]) -> Pool {
+    pub fn stored(kind: Kind, ledger: &Ledger, segments: u32, words: &[u32]) -> Pool {
+        let Kind { engine, form } = kind;
         let (table, next) = (ledger.table(), ledger.next);
         match engine {
             Engine::Tree => {
-                let (root, arena) = tree_form::stored(ledger, words);
-                Pool { engine, head: Head { root, next }, arena, table, segments, index: Vec::new() }
+                let (root, arena) = tree_form::stored(tree_form::form(form).expect("a form"), ledger, words);
+                Pool { engine, head: Head { root, next, form }, arena, table, segments, index: Vec::new() }
             }
             Engine::Segment => {
                 let (arena, index) = segment_form::stored(ledger, segments as usize, words);
-                Pool { engine, head: Head { root: 0, next }, arena, table, segments, index }
+                Pool { engine, head: Head { root: 0, next, form }, arena, table, segments, index }
             }
         }
     }
 
+    /// Do the lengths suit a pool of the head's form?
     pub fn lengths_suit(&self) -> bool {
-        let table_suits = self.table.len() % 3 == 0 && (3..=768).contains(&self.table.len());
-        let arena_suits = (2..=16_384).contains(&self.arena.len());
-        table_suits
-            && arena_suits
-            && match self.engine {
-                Engine::Tree => self.arena.len() % 2 == 0,
-                Engine::Segment => {
-                    let segments_suit = (1..=256).contains(&self.segments) && self.segments.is_power_of_two();
-                    segments_suit && self.index.len() == 3 * self.segments as usize
-                }
-            }
+        self.kind().rule().is_some() && self.lengths_suit_for(self.kind())
     }
 
-    /// The ledger whose stored form this is, or 8, or 1.
+    fn lengths_suit_for(&self, kind: Kind) -> bool {
+        let table_suits = self.table.len() % 3 == 0 && (3..=768).contains(&self.table.len());
+        let units_suit = self.arena.len() % kind.known_rule().unit == 0;
+        let segments_suit = (1..=256).contains(&self.segments) && self.segments.is_power_of_two();
+        let index_suits =
+            self.engine == Engine::Tree || segments_suit && self.index.len() == 3 * self.segments as usize;
+        table_suits && kind.arena_words().contains(&self.arena.len()) && units_suit && index_suits
+    }
+
+    /// The ledger whose stored form this is, or 11, or 8, or 1.
     pub fn ledger(&self) -> Result<Ledger, u32> {
+        let rule = self.kind().rule().ok_or(11u32)?;
         if !self.lengths_suit() {
             return Err(8);
         }
-        let rule = self.engine.rule();
         let ledger = Ledger::read(rule, self.arena.len(), &self.table, self.head.next).ok_or(1u32)?;
-        let form = Pool::stored(self.engine, &ledger, self.segments, &self.arena);
+        let form = Pool::stored(self.kind(), &ledger, self.segments, &self.arena);
         if form == *self { Ok(ledger) } else { Err(1) }
     }
 
@@ -147,7 +183,7 @@ impl Pool {
     }
 
     fn take_form_of(&mut self, ledger: &Ledger) {
-        *self = Pool::stored(self.engine, ledger, self.segments, &self.arena);
+        *self = Pool::stored(self.kind(), ledger, self.segments, &self.arena);
     }
 }
 
@@ -157,7 +193,7 @@ pub fn make(pool: &mut Pool, call: &Call) -> Outcome {
     let mut answers = Vec::new();
     let mut places = None;
     let answer = match call {
-        Call::Format(first) => return format(pool, *first),
+        Call::Format { form, first } => return format(pool, *form, *first),
         Call::Allocate(words) => {
             let (answer, looked_at) = allocate(pool, *words);
             places = looked_at;
@@ -178,17 +214,20 @@ pub fn make(pool: &mut Pool, call: &Call) -> Outcome {
     Outcome { head: pool.head, answer, slice, answers, places }
 }
 
-fn format(pool: &mut Pool, first: u32) -> Outcome {
-    let (head, answer) = (Head { root: 0, next: 0 }, Answer::default());
+fn format(pool: &mut Pool, form: u32, first: u32) -> Outcome {
+    let (head, answer) = (Head::default(), Answer::default());
     let nothing = Outcome { head, answer, slice: None, answers: vec![], places: None };
-    if !pool.lengths_suit() {
-        return Outcome { answer: Answer::refusal(8), ..nothing };
+    let refused = |number| Outcome { answer: Answer::refusal(number), ..nothing.clone() };
+    let kind = Kind { engine: pool.engine, form };
+    let Some(rule) = kind.rule() else { return refused(11) };
+    if !pool.lengths_suit_for(kind) {
+        return refused(8);
     }
     if first == 0 {
-        return Outcome { answer: Answer::refusal(6), ..nothing };
+        return refused(6);
     }
-    let empty = Ledger::empty(pool.engine.rule(), pool.arena.len(), pool.table.len() / 3, first);
-    pool.take_form_of(&empty);
+    let empty = Ledger::empty(rule, pool.arena.len(), pool.table.len() / 3, first);
+    *pool = Pool::stored(kind, &empty, pool.segments, &pool.arena);
     Outcome { head: pool.head, ..nothing }
 }
 
@@ -230,12 +269,11 @@ fn slice_for(found: Answer) -> Slice {
 
 fn list(pool: &mut Pool, requests: &[u32], answers: &mut [u32]) -> Answer {
     let lengths_suit = requests.len() % 4 == 0 && requests.len() <= 4_096 && answers.len() >= requests.len();
-    if !lengths_suit {
-        return Answer::refusal(8);
-    }
     let mut ledger = match pool.ledger() {
-        Ok(ledger) => ledger,
+        Err(11) => return Answer::refusal(11),
+        _ if !lengths_suit => return Answer::refusal(8),
         Err(number) => return Answer::refusal(number),
+        Ok(ledger) => ledger,
     };
     for (request, answer) in requests.chunks_exact(4).zip(answers.chunks_exact_mut(4)) {
         let Answer { number, ticket, address, words } = listed(pool, &mut ledger, request);

@@ -3,7 +3,7 @@
 
 use crate::bench::{Bench, Part, Stray};
 use crate::ledger::{Ledger, Record};
-use crate::model::{self, Answer, Call, Engine, Outcome, Placeholder, Pool};
+use crate::model::{self, Answer, Call, Engine, Kind, Outcome, Placeholder, Pool};
 use crate::random::Random;
 use crate::{calls, damage, lengths, pools};
 
@@ -22,16 +22,16 @@ struct Later {
     call: Call,
 }
 
-pub fn run(bench: &mut Bench, engine: Engine, cases: u64, random: &mut Random) {
+pub fn run(bench: &mut Bench, kind: Kind, cases: u64, random: &mut Random) {
     bench.section = "demand 3";
-    let end = bench.tally.cases_of(engine) + cases;
-    while bench.tally.cases_of(engine) < end {
-        claim(bench, engine, random);
+    let end = bench.tally.cases() + cases;
+    while bench.tally.cases() < end {
+        claim(bench, kind, random);
     }
 }
 
-fn claim(bench: &mut Bench, engine: Engine, random: &mut Random) {
-    let start = pools::sound(engine, pools::shape(engine, random), random);
+fn claim(bench: &mut Bench, kind: Kind, random: &mut Random) {
+    let start = pools::sound(pools::shape(kind, random), random);
     let ledger = start.ledger().expect("a stored form is sound");
     let mut set: Vec<Record> = ledger.live().collect();
     random.shuffle(&mut set);
@@ -40,7 +40,7 @@ fn claim(bench: &mut Bench, engine: Engine, random: &mut Random) {
     for record in &set {
         let _ = after.release(*record);
     }
-    let due = Pool::stored(engine, &after, start.segments, &start.arena);
+    let due = Pool::stored(kind, &after, start.segments, &start.arena);
     let mut first = play(bench, &start, &ledger, &set, random);
     check(bench, &due, first == due && bench.holds(&due), "the first sequence's end is not the form due");
     let (later, answers) = invent_later(bench, &mut first, random);
@@ -49,9 +49,9 @@ fn claim(bench: &mut Bench, engine: Engine, random: &mut Random) {
     check(bench, &due, second == due && bench.holds(&due), "the second sequence's end is not the form due");
     let again = repeat_later(bench, &mut second, &later);
     check(bench, &due, again == answers && second == first && bench.holds(&first), "later calls differ");
-    bench.tally.situation(engine, "demand 3: one ticket or none", set.len() < 2);
-    bench.tally.situation(engine, "demand 3: two to five tickets", (2..6).contains(&set.len()));
-    bench.tally.situation(engine, "demand 3: six tickets or more", set.len() > 5);
+    bench.tally.situation("demand 3: one ticket or none", set.len() < 2);
+    bench.tally.situation("demand 3: two to five tickets", (2..6).contains(&set.len()));
+    bench.tally.situation("demand 3: six tickets or more", set.len() > 5);
 }
 
 fn check(bench: &mut Bench, pool: &Pool, holds: bool, otherwise: &str) {
@@ -158,7 +158,7 @@ fn mix_in(bench: &mut Bench, sequence: &mut Sequence, random: &mut Random) {
             let call = Call::Release(replay(sequence, random));
             let stray = stray(&sequence.pool, &sequence.ledger, true, random);
             let outcome = bench.stray(&sequence.pool, &stray, &call);
-            let refused = matches!(outcome.answer.number, 8 | 1 | 6);
+            let refused = matches!(outcome.answer.number, 11 | 8 | 1 | 6);
             check(bench, &sequence.pool, refused, "a replay that brings the pool's table was not refused");
         }
         2 => {
@@ -178,7 +178,7 @@ fn refused_whole(bench: &mut Bench, sequence: &mut Sequence, random: &mut Random
     let call = match random.below(5) {
         0 | 1 => Call::Allocate(calls::words(&sequence.ledger, random)),
         2 => Call::Release(calls::named(&sequence.ledger, random)),
-        3 => Call::Format(0),
+        3 => Call::Format { form: sequence.pool.head.form, first: 0 },
         _ => calls::list(&sequence.ledger, random),
     };
     if is_refused(&mut sequence.pool.clone(), &call) {
@@ -190,7 +190,7 @@ fn refused_whole(bench: &mut Bench, sequence: &mut Sequence, random: &mut Random
 fn refused_stray(bench: &mut Bench, sequence: &mut Sequence, random: &mut Random) {
     let stray = stray(&sequence.pool, &sequence.ledger, false, random);
     let mut brought = stray.over(&sequence.pool);
-    let call = calls::any(&sequence.ledger, brought.arena.len(), random);
+    let call = calls::any(sequence.pool.kind(), &sequence.ledger, brought.arena.len(), random);
     if is_refused(&mut brought, &call) {
         bench.stray(&sequence.pool, &stray, &call);
     }
@@ -211,8 +211,8 @@ fn is_refused(pool: &mut Pool, call: &Call) -> bool {
 pub fn stray(pool: &Pool, ledger: &Ledger, own_table: bool, random: &mut Random) -> Stray {
     let mut other = if random.one_in(3) {
         let Pool { arena, table, segments, .. } = pool;
-        let shape = pools::Shape { words: arena.len(), slots: table.len() / 3, segments: *segments };
-        pools::sound(pool.engine, shape, random)
+        let shape = pools::Shape { kind: pool.kind(), words: arena.len(), slots: table.len() / 3, segments: *segments };
+        pools::sound(shape, random)
     } else {
         pool.clone()
     };
@@ -222,6 +222,9 @@ pub fn stray(pool: &Pool, ledger: &Ledger, own_table: bool, random: &mut Random)
             damage::any(&mut other, ledger, random);
         }
         _ => {}
+    }
+    if pool.engine == Engine::Tree && random.one_in(6) {
+        other.head.form = calls::form(random);
     }
     Stray {
         head: if random.one_in(2) { pool.head } else { other.head },
@@ -250,7 +253,7 @@ fn invent_later(bench: &mut Bench, pool: &mut Pool, random: &mut Random) -> (Vec
     for _ in 0..random.between(1, 10) {
         let ledger = pool.ledger().expect("accepted calls leave a sound pool");
         let writing = ledger.live().map(|record| (record.address as usize, random.word())).take(3).collect();
-        let call = match calls::any(&ledger, pool.arena.len(), random) {
+        let call = match calls::any(pool.kind(), &ledger, pool.arena.len(), random) {
             Call::Look(named, _) => Call::Look(named, Placeholder::Own(vec![7; 5])),
             call => call,
         };

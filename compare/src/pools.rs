@@ -1,11 +1,12 @@
 //! Sound pools built straight from random ledgers, whether or not traffic could reach them.
 
 use crate::ledger::{Ledger, Record, Run};
-use crate::model::{Engine, Pool};
+use crate::model::{Engine, Kind, Pool};
 use crate::random::Random;
 
 #[derive(Clone, Copy, Debug)]
 pub struct Shape {
+    pub kind: Kind,
     pub words: usize,
     pub slots: usize,
     pub segments: u32,
@@ -15,6 +16,8 @@ pub struct Shape {
 #[derive(Clone, Copy, PartialEq)]
 enum Layout {
     Loose,
+    /// Up to the high end of a large arena.
+    Wide,
     Dense,
     Comb,
     Ties,
@@ -33,16 +36,22 @@ const LAYOUTS: [Layout; 8] = [
     Layout::Falling,
 ];
 
-/// Mostly short, now and then as long as allowed.
-pub fn shape(engine: Engine, random: &mut Random) -> Shape {
+/// Mostly short, now and then as long as form 1 allows, or as many units.
+pub fn shape(kind: Kind, random: &mut Random) -> Shape {
     let (words, slots, segments) = match random.below(64) {
         0..16 => (random.between(2, 8), random.between(1, 3), 1 << random.below(5)),
         16..50 => (random.between(2, 64), random.between(1, 12), 1 << random.below(7)),
         50..61 => (random.between(64, 1_024), random.between(1, 80), 1 << random.below(9)),
         _ => big(random),
     };
-    let words = if engine == Engine::Tree { words.next_multiple_of(2) } else { words };
-    Shape { words, slots, segments: if engine == Engine::Tree { 0 } else { segments } }
+    let most = *kind.arena_words().end();
+    match kind.engine {
+        Engine::Tree => {
+            let words = words.div_ceil(2) * kind.known_rule().unit;
+            Shape { kind, words: words.min(most), slots, segments: 0 }
+        }
+        Engine::Segment => Shape { kind, words, slots, segments },
+    }
 }
 
 fn big(random: &mut Random) -> (usize, usize, u32) {
@@ -51,8 +60,8 @@ fn big(random: &mut Random) -> (usize, usize, u32) {
     (words, slots, 1 << random.below(9))
 }
 
-pub fn ledger(engine: Engine, shape: Shape, random: &mut Random) -> Ledger {
-    let mut ledger = Ledger::empty(engine.rule(), shape.words, shape.slots, 1);
+pub fn ledger(shape: Shape, random: &mut Random) -> Ledger {
+    let mut ledger = Ledger::empty(shape.kind.known_rule(), shape.words, shape.slots, 1);
     let mut blocks = blocks(&ledger, random);
     let tickets = tickets(&mut ledger, blocks.len(), random);
     let mut slots: Vec<usize> = (0..shape.slots).collect();
@@ -68,7 +77,7 @@ pub fn ledger(engine: Engine, shape: Shape, random: &mut Random) -> Ledger {
 
 /// Addresses and words of blocks that lie apart, by address.
 fn blocks(ledger: &Ledger, random: &mut Random) -> Vec<(u32, u32)> {
-    let layout = random.pick(&LAYOUTS);
+    let layout = if ledger.units > 65_535 && !random.one_in(4) { Layout::Wide } else { random.pick(&LAYOUTS) };
     let slots = ledger.slots.len();
     let wanted = if random.one_in(2) { slots } else { random.between(0, slots) };
     let most = if random.one_in(3) { 1 } else { random.between(1, (2 * ledger.units / wanted.max(1)).clamp(1, 64)) };
@@ -92,6 +101,7 @@ fn blocks(ledger: &Ledger, random: &mut Random) -> Vec<(u32, u32)> {
 fn gap(layout: Layout, number: usize, wanted: usize, units: usize, random: &mut Random) -> usize {
     match layout {
         Layout::Loose => random.below(2 + units / (2 * wanted)),
+        Layout::Wide => random.below(2 + 3 * units / (2 * wanted)),
         Layout::Dense => 0,
         Layout::Comb => 1,
         Layout::Ties => random.pick(&[0, 1, 2, 2, 3]),
@@ -105,8 +115,7 @@ fn stretch_last(ledger: &Ledger, blocks: &mut [(u32, u32)], random: &mut Random)
     let Some((address, words)) = blocks.last_mut() else { return };
     let arena_words = ledger.rule.words_of(Run { first: 0, count: ledger.units }).end as u32;
     let room = arena_words - *address;
-    let odd = ledger.rule.units_for(room) == ledger.rule.units_for(room - 1) && room > 1;
-    *words = if odd && random.one_in(2) { room - 1 } else { room };
+    *words = room - random.below(ledger.rule.unit) as u32;
 }
 
 /// As many different tickets, and a next ticket that has passed them.
@@ -133,9 +142,21 @@ fn tickets(ledger: &mut Ledger, count: usize, random: &mut Random) -> Vec<u32> {
 }
 
 /// A sound pool of this shape, its held words filled with anything.
-pub fn sound(engine: Engine, shape: Shape, random: &mut Random) -> Pool {
-    let ledger = ledger(engine, shape, random);
+pub fn sound(shape: Shape, random: &mut Random) -> Pool {
+    let ledger = ledger(shape, random);
     let mut words = vec![0; shape.words];
     random.fill(&mut words);
-    Pool::stored(engine, &ledger, shape.segments, &words)
+    Pool::stored(shape.kind, &ledger, shape.segments, &words)
+}
+
+/// A pool that is sound in every form of the tree pool: all is held, in blocks of whole units of each.
+pub fn of_every_form(kind: Kind, random: &mut Random) -> Pool {
+    let (groups, words) = (random.between(1, 12), 8);
+    let mut ledger = Ledger::empty(kind.known_rule(), groups * words, random.between(groups, 12), 0);
+    for (slot, at) in (0..groups).enumerate() {
+        let record = Record { ticket: slot as u32 + 1, address: (at * words) as u32, words: words as u32 };
+        ledger.slots[slot] = Some(record);
+    }
+    ledger.next = random.pick(&[0, groups as u32 + 1, u32::MAX]);
+    Pool::stored(kind, &ledger, 0, &vec![random.word(); groups * words])
 }

@@ -4,7 +4,7 @@
 
 use crate::bench::Bench;
 use crate::ledger::{Ledger, Record};
-use crate::model::{Answer, Call, Engine, Pool};
+use crate::model::{Answer, Call, Kind, Pool};
 use crate::order;
 use crate::random::Random;
 use crate::{calls, lengths, pools};
@@ -15,11 +15,11 @@ struct Yesterday {
     first: u32,
 }
 
-pub fn run(bench: &mut Bench, engine: Engine, cases: u64, random: &mut Random) {
+pub fn run(bench: &mut Bench, kind: Kind, cases: u64, random: &mut Random) {
     bench.section = "restart";
-    let end = bench.tally.cases_of(engine) + cases;
-    while bench.tally.cases_of(engine) < end {
-        let mut pool = pools::sound(engine, pools::shape(engine, random), random);
+    let end = bench.tally.cases() + cases;
+    while bench.tally.cases() < end {
+        let mut pool = pools::sound(pools::shape(kind, random), random);
         bench.lend(&pool);
         for _ in 0..random.between(1, 3) {
             one_day(bench, &mut pool, random);
@@ -34,7 +34,7 @@ fn one_day(bench: &mut Bench, pool: &mut Pool, random: &mut Random) {
         return;
     }
     let yesterday = Yesterday { held: before.live().collect(), first: above(before.next, random) };
-    let outcome = bench.step(pool, &Call::Format(yesterday.first));
+    let outcome = bench.step(pool, &Call::Format { form: pool.head.form, first: yesterday.first });
     check(bench, pool, outcome.answer == Answer::default(), "a format was not accepted");
     for _ in 0..random.between(4, 40) {
         one(bench, pool, &yesterday, random);
@@ -106,7 +106,7 @@ fn replay(bench: &mut Bench, pool: &mut Pool, ledger: &Ledger, yesterday: &Yeste
     let outcome = bench.step(pool, &call);
     check(bench, pool, outcome.answer == Answer::refusal(6), "a call from before the restart was not refused");
     let fits = ledger.live().any(|record| Record { ticket: named.ticket, ..record } == named);
-    bench.tally.situation(pool.engine, "restart: replay with today's address and words", fits);
+    bench.tally.situation("restart: replay with today's address and words", fits);
 }
 
 /// Today's requests, with yesterday's releases before, between and behind them.
@@ -124,7 +124,7 @@ fn listed_replays(bench: &mut Bench, pool: &mut Pool, ledger: &Ledger, yesterday
     let outcome = bench.step(pool, &Call::List { requests, answers });
     let refused = old.iter().all(|&at| outcome.answers[at..at + 4] == [6, 0, 0, 0]);
     check(bench, pool, refused, "a listed release from before the restart was not refused");
-    bench.tally.situation(pool.engine, "restart: listed replay", !old.is_empty());
+    bench.tally.situation("restart: listed replay", !old.is_empty());
 }
 
 /// Yesterday's release with the pool's own table, but any head, S, arena and index.
@@ -132,9 +132,9 @@ fn stray_replay(bench: &mut Bench, pool: &mut Pool, ledger: &Ledger, yesterday: 
     let stray = order::stray(pool, ledger, true, random);
     let call = Call::Release(earlier(ledger, yesterday, random));
     let outcome = bench.stray(pool, &stray, &call);
-    let refused = matches!(outcome.answer.number, 8 | 1 | 6);
+    let refused = matches!(outcome.answer.number, 11 | 8 | 1 | 6);
     check(bench, pool, refused, "a release from before the restart was not refused with other memory");
-    bench.tally.situation(pool.engine, "restart: replay with other memory", true);
+    bench.tally.situation("restart: replay with other memory", true);
 }
 
 /// A format with 0, with wrong lengths or with both; the pool goes on with the head it had.
@@ -142,29 +142,30 @@ fn refused_format(bench: &mut Bench, pool: &mut Pool, ledger: &Ledger, random: &
     let mut other = pool.clone();
     lengths::misfit(&mut other, random);
     let (outcome, due) = if random.one_in(2) || other.lengths_suit() {
-        (bench.step(pool, &Call::Format(0)), 6)
+        (bench.step(pool, &Call::Format { form: pool.head.form, first: 0 }), 6)
     } else {
-        let outcome = bench.once(&other, &Call::Format(calls::first(ledger, random)));
+        let call = Call::Format { form: pool.head.form, first: calls::first(ledger, random) };
+        let outcome = bench.once(&other, &call);
         bench.lend(pool);
         (outcome, 8)
     };
     check(bench, pool, outcome.answer == Answer::refusal(due), "a format was not refused");
-    bench.tally.situation(pool.engine, "restart: format refused", true);
+    bench.tally.situation("restart: format refused", true);
 }
 
 /// From here on calls bring another arena, of any length that suits head and table, and another S and index.
 fn other_arena(bench: &mut Bench, pool: &mut Pool, ledger: &Ledger, random: &mut Random) {
-    let shape = pools::shape(pool.engine, random);
+    let shape = pools::shape(pool.kind(), random);
     let Some(moved) = Ledger::read(ledger.rule, shape.words, &pool.table, ledger.next) else { return };
     let mut words = vec![0; shape.words];
     random.fill(&mut words);
-    let other = Pool::stored(pool.engine, &moved, shape.segments, &words);
+    let other = Pool::stored(pool.kind(), &moved, shape.segments, &words);
     if other.head == pool.head {
         let length_differs = other.arena.len() != pool.arena.len();
         *pool = other;
         bench.lend(pool);
         let accepted = bench.step(pool, &Call::Allocate(1)).answer.number == 0;
         let situation = "restart: accepted call on another arena";
-        bench.tally.situation(pool.engine, situation, length_differs && accepted);
+        bench.tally.situation(situation, length_differs && accepted);
     }
 }

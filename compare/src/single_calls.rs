@@ -2,20 +2,23 @@
 
 use crate::bench::Bench;
 use crate::ledger::Ledger;
-use crate::model::{Engine, Pool};
+use crate::model::{Call, Engine, Kind, Pool};
 use crate::random::Random;
+use crate::tree_form::FORMS;
 use crate::{calls, damage, lengths, pools};
 
 const CALLS_TO_A_POOL: u64 = 6;
 
-pub fn run(bench: &mut Bench, engine: Engine, cases: u64, random: &mut Random) {
+pub fn run(bench: &mut Bench, kind: Kind, cases: u64, random: &mut Random) {
     bench.section = "single calls";
     for _ in 0..cases / CALLS_TO_A_POOL {
-        let shape = pools::shape(engine, random);
-        let pool = pools::sound(engine, shape, random);
+        let pool = pools::sound(pools::shape(kind, random), random);
         let ledger = pool.ledger().expect("a stored form is sound");
         for _ in 0..CALLS_TO_A_POOL {
             one(bench, &pool, &ledger, random);
+        }
+        if kind.engine == Engine::Tree && random.one_in(20) {
+            other_form(bench, kind, random);
         }
     }
 }
@@ -28,9 +31,27 @@ fn one(bench: &mut Bench, pool: &Pool, ledger: &Ledger, random: &mut Random) {
         6..11 => kind = damage::any(&mut brought, ledger, random),
         _ => lengths::misfit(&mut brought, random),
     }
-    let call = calls::any(ledger, brought.arena.len(), random);
-    let outcome = bench.once(&brought, &call);
-    if !kind.is_empty() {
-        bench.tally.situation(pool.engine, kind, outcome.answer.number == 1);
+    if pool.engine == Engine::Tree && random.one_in(12) {
+        brought.head.form = calls::form(random);
     }
+    let call = calls::any(pool.kind(), ledger, brought.arena.len(), random);
+    let outcome = bench.once(&brought, &call);
+    if brought.head.form != pool.head.form && !matches!(call, Call::Format { .. }) {
+        bench.tally.situation("another form: 8", outcome.answer.number == 8);
+        bench.tally.situation("another form: 1", outcome.answer.number == 1);
+    }
+    if !kind.is_empty() {
+        bench.tally.situation(kind, outcome.answer.number == 1);
+    }
+}
+
+/// A pool that is stored in one form, called with another in which it is sound too.
+fn other_form(bench: &mut Bench, kind: Kind, random: &mut Random) {
+    let mut pool = pools::of_every_form(kind, random);
+    pool.head.form = random.pick(&FORMS);
+    let ledger = pool.ledger().expect("sound in every form");
+    let call = calls::any(pool.kind(), &ledger, pool.arena.len(), random);
+    let outcome = bench.once(&pool, &call);
+    let accepted = outcome.answer.number == 0 && pool.head.form != kind.form;
+    bench.tally.situation("another form: accepted", accepted && !matches!(call, Call::Format { .. }));
 }

@@ -1,25 +1,25 @@
 //! Counts: cases, mismatches, and how often each number came from each call, so that a run which
 //! never reached a number fails too.
 
-use crate::model::{Call, Engine, Outcome};
+use crate::model::{Call, Engine, Kind, Outcome, SEGMENT};
 use std::collections::BTreeMap;
 
-pub const NUMBERS: [u32; 10] = [0, 8, 1, 9, 2, 3, 4, 5, 6, 7];
+pub const NUMBERS: [u32; 11] = [0, 11, 8, 1, 9, 2, 3, 4, 5, 6, 7];
 
-/// Each row of the table and the numbers that can occur in it.
+/// Each row of the table and the numbers that can occur in it, 11 in the tree pool alone.
 pub const ROWS: [(&str, &[u32]); 9] = [
-    ("format", &[0, 8, 6]),
-    ("allocate", &[0, 8, 1, 2, 3, 4, 5]),
-    ("release", &[0, 8, 1, 6, 7]),
-    ("find", &[0, 8, 1, 6, 7]),
-    ("look", &[0, 8, 1, 6, 7]),
-    ("list", &[0, 8, 1]),
+    ("format", &[0, 11, 8, 6]),
+    ("allocate", &[0, 11, 8, 1, 2, 3, 4, 5]),
+    ("release", &[0, 11, 8, 1, 6, 7]),
+    ("find", &[0, 11, 8, 1, 6, 7]),
+    ("look", &[0, 11, 8, 1, 6, 7]),
+    ("list", &[0, 11, 8, 1]),
     ("listed allocate", &[0, 9, 2, 3, 4, 5]),
     ("listed release", &[0, 6, 7]),
     ("listed unknown", &[9]),
 ];
 
-/// Situations each engine must have been in.
+/// Situations each engine must have been in, the tree pool in each of its forms.
 pub const SITUATIONS: [&str; 40] = [
     "grant of a whole run",
     "grant from a longer run",
@@ -31,8 +31,8 @@ pub const SITUATIONS: [&str; 40] = [
     "release that joins both",
     "no free unit at all",
     "equal free runs",
-    "arena of 2 words",
-    "arena of 16,384 words",
+    "shortest arena",
+    "longest arena",
     "1 record",
     "256 records held",
     "257 free runs",
@@ -75,8 +75,28 @@ pub const SEGMENT_SITUATIONS: [&str; 8] = [
     "blocks above the chosen one in its segment",
 ];
 
-#[derive(Default)]
+/// The tree pool alone, in each of its forms.
+pub const TREE_SITUATIONS: [&str; 7] = [
+    "no such form: 0",
+    "no such form: one above the last",
+    "no such form: 4,294,967,295",
+    "no such form, and lengths of none",
+    "another form: 8",
+    "another form: 1",
+    "another form: accepted",
+];
+
+/// And form 2 alone.
+pub const FORM_2_SITUATIONS: [&str; 4] = [
+    "damage seen: fourth node word",
+    "more than 16,384 words granted",
+    "links above 65,535",
+    "damage seen: links above 65,535",
+];
+
 pub struct Tally {
+    /// What the cases are about that are counted now.
+    pub kind: Kind,
     pub mismatches: u64,
     cases: BTreeMap<(&'static str, &'static str), u64>,
     seen: BTreeMap<(&'static str, &'static str, u32), u64>,
@@ -85,16 +105,26 @@ pub struct Tally {
     smallest: Option<(usize, String)>,
 }
 
-pub fn name(engine: Engine) -> &'static str {
-    match engine {
-        Engine::Tree => "tree",
-        Engine::Segment => "segment",
+pub fn name(kind: Kind) -> &'static str {
+    match (kind.engine, kind.form) {
+        (Engine::Segment, _) => "segment",
+        (Engine::Tree, 1) => "tree 1",
+        (Engine::Tree, 2) => "tree 2",
+        (Engine::Tree, _) => "tree",
+    }
+}
+
+fn own_situations(kind: Kind) -> Vec<&'static str> {
+    match (kind.engine, kind.form) {
+        (Engine::Segment, _) => SEGMENT_SITUATIONS.to_vec(),
+        (Engine::Tree, 2) => [&TREE_SITUATIONS[..], &FORM_2_SITUATIONS].concat(),
+        (Engine::Tree, _) => TREE_SITUATIONS.to_vec(),
     }
 }
 
 fn row(call: &Call) -> &'static str {
     match call {
-        Call::Format(_) => "format",
+        Call::Format { .. } => "format",
         Call::Allocate(_) => "allocate",
         Call::Release(_) => "release",
         Call::Find(_) => "find",
@@ -112,28 +142,33 @@ fn listed_row(kind: u32) -> &'static str {
 }
 
 impl Tally {
-    pub fn case(&mut self, engine: Engine, section: &'static str, call: &Call, outcome: &Outcome) {
-        *self.cases.entry((name(engine), section)).or_default() += 1;
-        self.number(engine, row(call), outcome.answer.number);
+    pub fn new() -> Tally {
+        let (cases, seen, situations, mismatches_in) = Default::default();
+        Tally { kind: SEGMENT, mismatches: 0, cases, seen, situations, mismatches_in, smallest: None }
+    }
+
+    pub fn case(&mut self, section: &'static str, call: &Call, outcome: &Outcome) {
+        self.plain_case(section);
+        self.number(row(call), outcome.answer.number);
         if let (Call::List { requests, .. }, 0) = (call, outcome.answer.number) {
             for (request, answer) in requests.chunks_exact(4).zip(outcome.answers.chunks_exact(4)) {
-                self.number(engine, listed_row(request[0]), answer[0]);
+                self.number(listed_row(request[0]), answer[0]);
             }
         }
     }
 
     /// A case whose call is not among the model's.
-    pub fn plain_case(&mut self, engine: Engine, section: &'static str) {
-        *self.cases.entry((name(engine), section)).or_default() += 1;
+    pub fn plain_case(&mut self, section: &'static str) {
+        *self.cases.entry((name(self.kind), section)).or_default() += 1;
     }
 
-    fn number(&mut self, engine: Engine, row: &'static str, number: u32) {
-        *self.seen.entry((name(engine), row, number)).or_default() += 1;
+    fn number(&mut self, row: &'static str, number: u32) {
+        *self.seen.entry((name(self.kind), row, number)).or_default() += 1;
     }
 
-    pub fn situation(&mut self, engine: Engine, situation: &'static str, holds: bool) {
+    pub fn situation(&mut self, situation: &'static str, holds: bool) {
         if holds {
-            *self.situations.entry((name(engine), situation)).or_default() += 1;
+            *self.situations.entry((name(self.kind), situation)).or_default() += 1;
         }
     }
 
@@ -149,18 +184,23 @@ impl Tally {
         }
     }
 
-    pub fn cases_of(&self, engine: Engine) -> u64 {
-        self.cases.iter().filter(|((of, _), _)| *of == name(engine)).map(|(_, count)| count).sum()
+    /// Cases so far of what is counted now.
+    pub fn cases(&self) -> u64 {
+        self.cases_of(self.kind)
+    }
+
+    fn cases_of(&self, kind: Kind) -> u64 {
+        self.cases.iter().filter(|((of, _), _)| *of == name(kind)).map(|(_, count)| count).sum()
     }
 
     /// Prints everything; true if nothing is missing.
-    pub fn report(&self) -> bool {
+    pub fn report(&self, kinds: &[Kind]) -> bool {
         let mut whole = true;
-        for engine in [Engine::Tree, Engine::Segment] {
-            whole &= self.report_numbers(engine) & self.report_situations(engine);
+        for kind in kinds {
+            whole &= self.report_numbers(*kind) & self.report_situations(*kind);
         }
-        for engine in [Engine::Tree, Engine::Segment] {
-            self.report_cases(engine);
+        for kind in kinds {
+            self.report_cases(*kind);
         }
         if let Some((_, told)) = &self.smallest {
             println!("the smallest mismatch:\n{told}");
@@ -170,18 +210,18 @@ impl Tally {
         whole
     }
 
-    fn report_numbers(&self, engine: Engine) -> bool {
+    fn report_numbers(&self, kind: Kind) -> bool {
         let heading: String = NUMBERS.iter().map(|number| format!("{number:>9}")).collect();
-        println!("{:<8} {:<16}{heading}", name(engine), "number:");
-        ROWS.iter().fold(true, |whole, (row, possible)| self.report_row(engine, row, possible) & whole)
+        println!("{:<8} {:<16}{heading}", name(kind), "number:");
+        ROWS.iter().fold(true, |whole, (row, possible)| self.report_row(kind, row, possible) & whole)
     }
 
-    fn report_row(&self, engine: Engine, row: &'static str, possible: &[u32]) -> bool {
+    fn report_row(&self, kind: Kind, row: &'static str, possible: &[u32]) -> bool {
         let mut whole = true;
         let mut line = String::new();
         for number in NUMBERS {
-            let count = self.seen.get(&(name(engine), row, number)).copied().unwrap_or(0);
-            let may = possible.contains(&number);
+            let count = self.seen.get(&(name(kind), row, number)).copied().unwrap_or(0);
+            let may = possible.contains(&number) && (number != 11 || kind.engine == Engine::Tree);
             whole &= may == (count > 0);
             line += &match (may, count) {
                 (false, 0) => format!("{:>9}", "."),
@@ -190,16 +230,16 @@ impl Tally {
                 (true, _) => format!("{count:>9}"),
             };
         }
-        println!("{:<8} {row:<16}{line}", name(engine));
+        println!("{:<8} {row:<16}{line}", name(kind));
         whole
     }
 
-    fn report_situations(&self, engine: Engine) -> bool {
-        let own: &[&str] = if engine == Engine::Segment { &SEGMENT_SITUATIONS } else { &[] };
-        let count = |situation: &&'static str| self.situations.get(&(name(engine), *situation)).copied().unwrap_or(0);
-        let all: Vec<(&str, u64)> = SITUATIONS.iter().chain(own).map(|s| (*s, count(s))).collect();
+    fn report_situations(&self, kind: Kind) -> bool {
+        let count = |situation: &'static str| self.situations.get(&(name(kind), situation)).copied().unwrap_or(0);
+        let all = SITUATIONS.into_iter().chain(own_situations(kind));
+        let all: Vec<(&str, u64)> = all.map(|situation| (situation, count(situation))).collect();
         let told: Vec<String> = all.iter().map(|(situation, count)| format!("{situation} {count}")).collect();
-        println!("{} situations: {}", name(engine), told.join("; "));
+        println!("{} situations: {}", name(kind), told.join("; "));
         let missing: Vec<&str> = all.iter().filter(|(_, count)| *count == 0).map(|(situation, _)| *situation).collect();
         if !missing.is_empty() {
             println!("NEVER: {}", missing.join("; "));
@@ -207,9 +247,9 @@ impl Tally {
         missing.is_empty()
     }
 
-    fn report_cases(&self, engine: Engine) {
-        let of_engine = self.cases.iter().filter(|((of, _), _)| *of == name(engine));
-        let parts: Vec<String> = of_engine.map(|((_, section), count)| format!("{section} {count}")).collect();
-        println!("cases, {}: {} ({})", name(engine), self.cases_of(engine), parts.join(", "));
+    fn report_cases(&self, kind: Kind) {
+        let of_kind = self.cases.iter().filter(|((of, _), _)| *of == name(kind));
+        let parts: Vec<String> = of_kind.map(|((_, section), count)| format!("{section} {count}")).collect();
+        println!("cases, {}: {} ({})", name(kind), self.cases_of(kind), parts.join(", "));
     }
 }

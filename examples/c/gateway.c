@@ -1,6 +1,6 @@
-/* A gateway between dryers and their radio, on each of the two pools: commands are put into runs of words, and the radio
+/* A gateway between dryers and their radio, on each of the pools: commands are put into runs of words, and the radio
  * releases them in any order. One release comes in twice, the second time when a new command lies at its address; and
- * once more after a power loss, when the pool was formatted again. */
+ * once more after a power loss, when the pool was formatted again. Then as large a pool as there can be. */
 #include "lingfurrow.h"
 
 #include <inttypes.h>
@@ -25,53 +25,72 @@ typedef struct {
     void (*show)(lf_answer run);
 } pool;
 
-/* ---- on the tree pool: the head that a call hands back replaces the old one */
+/* ---- on the tree pool, in each of its forms: the head that a call hands back replaces the old one */
 
-static uint32_t tree_arena[ARENA_WORDS];
-static uint32_t tree_table[LF_TABLE_WORDS(RECORDS)];
-static lf_tree_head tree_head;
+typedef struct {
+    uint32_t form;
+    lf_tree_head head;
+    uint32_t arena[ARENA_WORDS];
+    uint32_t table[LF_TABLE_WORDS(RECORDS)];
+} tree_pool;
+
+static tree_pool tree_pools[] = { { .form = 1 }, { .form = 2 } };
+static tree_pool *tree; /* the one that calls are on */
 
 static lf_answer tree_keep(lf_tree_outcome outcome)
 {
-    tree_head = outcome.head;
+    tree->head = outcome.head;
     return outcome.answer;
 }
 
 /* A format that is refused hands back no head to keep. */
 static lf_answer tree_format(uint32_t first)
 {
-    lf_tree_outcome outcome = lf_tree_format(tree_arena, ARENA_WORDS, tree_table, LF_TABLE_WORDS(RECORDS), first);
+    lf_tree_outcome outcome =
+        lf_tree_format(tree->form, tree->arena, ARENA_WORDS, tree->table, LF_TABLE_WORDS(RECORDS), first);
     return outcome.answer.number == LF_OK ? tree_keep(outcome) : outcome.answer;
+}
+
+static lf_answer tree_format_1(uint32_t first)
+{
+    tree = &tree_pools[0];
+    return tree_format(first);
+}
+
+static lf_answer tree_format_2(uint32_t first)
+{
+    tree = &tree_pools[1];
+    return tree_format(first);
 }
 
 static uint32_t tree_next_ticket(void)
 {
-    return tree_head.next;
+    return tree->head.next;
 }
 
 static lf_answer tree_allocate(uint32_t words)
 {
     return tree_keep(
-        lf_tree_allocate(tree_head, tree_arena, ARENA_WORDS, tree_table, LF_TABLE_WORDS(RECORDS), words));
+        lf_tree_allocate(tree->head, tree->arena, ARENA_WORDS, tree->table, LF_TABLE_WORDS(RECORDS), words));
 }
 
 static lf_answer tree_release(lf_answer named)
 {
-    return tree_keep(lf_tree_release(tree_head, tree_arena, ARENA_WORDS, tree_table, LF_TABLE_WORDS(RECORDS),
+    return tree_keep(lf_tree_release(tree->head, tree->arena, ARENA_WORDS, tree->table, LF_TABLE_WORDS(RECORDS),
                                      named.ticket, named.address, named.words));
 }
 
 static lf_answer tree_list(const uint32_t *requests, size_t requests_len, uint32_t *answers, size_t answers_len)
 {
-    return tree_keep(lf_tree_list(tree_head, tree_arena, ARENA_WORDS, tree_table, LF_TABLE_WORDS(RECORDS), requests,
-                                  requests_len, answers, answers_len));
+    return tree_keep(lf_tree_list(tree->head, tree->arena, ARENA_WORDS, tree->table, LF_TABLE_WORDS(RECORDS),
+                                  requests, requests_len, answers, answers_len));
 }
 
 /* A run that was granted is ours to write. */
 static void tree_write(lf_answer run, uint32_t dryer)
 {
     for (uint32_t i = 0; i < run.words; i++) {
-        tree_arena[run.address + i] = 100 * dryer + i;
+        tree->arena[run.address + i] = 100 * dryer + i;
     }
 }
 
@@ -79,7 +98,7 @@ static void tree_write(lf_answer run, uint32_t dryer)
 static void tree_show(lf_answer run)
 {
     static const uint32_t nothing[1] = { 0 };
-    lf_tree_slice slice = lf_tree_look(tree_head, tree_arena, ARENA_WORDS, tree_table, LF_TABLE_WORDS(RECORDS),
+    lf_tree_slice slice = lf_tree_look(tree->head, tree->arena, ARENA_WORDS, tree->table, LF_TABLE_WORDS(RECORDS),
                                        nothing, 1, run.ticket, run.address, run.words);
     for (size_t i = 0; i < slice.len; i++) {
         printf(" %" PRIu32, slice.words[i]);
@@ -161,7 +180,10 @@ static void segment_show(lf_answer run)
 /* ---- the loop */
 
 static const pool pools[] = {
-    { "tree pool", tree_format, tree_next_ticket, tree_allocate, tree_release, tree_list, tree_write, tree_show },
+    { "tree pool, form 1", tree_format_1, tree_next_ticket, tree_allocate, tree_release, tree_list, tree_write,
+      tree_show },
+    { "tree pool, form 2", tree_format_2, tree_next_ticket, tree_allocate, tree_release, tree_list, tree_write,
+      tree_show },
     { "segment pool", segment_format, segment_next_ticket, segment_allocate, segment_release, segment_list,
       segment_write, segment_show },
 };
@@ -198,6 +220,7 @@ static const char *meaning(uint32_t number)
     case LF_MISMATCH: return "address or words are not this ticket's";
     case LF_BAD_LENGTHS: return "bad lengths";
     case LF_BAD_REQUEST: return "bad request";
+    case LF_BAD_FORM: return "no such form";
     default: return "unknown number";
     }
 }
@@ -320,6 +343,25 @@ static void count_places(void)
     }
 }
 
+/* A laundry with four hundred dryers: form 2 has room for it, form 1 has not. */
+static void large_pool(void)
+{
+    static uint32_t arena[LF_FORM_2_ARENA_WORDS_MAX];
+    static uint32_t table[LF_TABLE_WORDS(LF_RECORDS_MAX)];
+    lf_tree_outcome now = { { 0, 0, 0 }, { 0, 0, 0, 0 } };
+    for (uint32_t form = 0; form < 3; form++) {
+        now = lf_tree_format(form, arena, LF_FORM_2_ARENA_WORDS_MAX, table, LF_TABLE_WORDS(LF_RECORDS_MAX), 1);
+        printf("form %" PRIu32 ", words %u, records %u: %s\n", form, LF_FORM_2_ARENA_WORDS_MAX, LF_RECORDS_MAX,
+               meaning(now.answer.number));
+    }
+    for (uint32_t words = 400000; words < 400003; words++) {
+        now = lf_tree_allocate(now.head, arena, LF_FORM_2_ARENA_WORDS_MAX, table, LF_TABLE_WORDS(LF_RECORDS_MAX),
+                               words);
+        printf("  words %" PRIu32 ": ", words);
+        print_answer(now.answer);
+    }
+}
+
 int main(void)
 {
     for (size_t i = 0; i < sizeof pools / sizeof pools[0]; i++) {
@@ -330,5 +372,6 @@ int main(void)
         }
     }
     count_places();
+    large_pool();
     return 0;
 }

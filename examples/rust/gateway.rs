@@ -7,6 +7,8 @@ use std::fmt::Display;
 const RECORDS: usize = 4;
 const ARENA_WORDS: usize = 24;
 const SEGMENTS: usize = 4;
+const LARGE_WORDS: usize = 1_048_576;
+const LARGE_RECORDS: usize = 256;
 const MOST_PLACES: usize = 1 + SEGMENTS.ilog2() as usize + ARENA_WORDS / SEGMENTS;
 
 /// What comes in: a command of some words for a dryer, or the radio's release of the command that came as the n-th.
@@ -124,15 +126,18 @@ fn count_places(pool: &mut SegmentPool) {
     }
 }
 
-fn main() -> Result<(), Refusal> {
+/// The tree pool in one of its forms.
+fn tree_pool(form: u32) -> Result<(), Refusal> {
     let mut arena = [0; ARENA_WORDS];
     let mut table = [0; 3 * RECORDS];
-    let mut pool = TreePool::format(&mut arena, &mut table, 1)?;
-    println!("tree pool, words {ARENA_WORDS}, records {RECORDS}");
+    let mut pool = TreePool::format(form, &mut arena, &mut table, 1)?;
+    println!("tree pool, form {form}, words {ARENA_WORDS}, records {RECORDS}");
     let earlier = serve(&mut pool)?;
     let stored = pool.head().next;
-    restarted(&mut TreePool::format(&mut arena, &mut table, stored)?, stored, earlier)?;
+    restarted(&mut TreePool::format(form, &mut arena, &mut table, stored)?, stored, earlier)
+}
 
+fn segment_pool() -> Result<(), Refusal> {
     let mut arena = [0; ARENA_WORDS];
     let mut table = [0; 3 * RECORDS];
     let mut index = [0; 3 * SEGMENTS];
@@ -143,5 +148,31 @@ fn main() -> Result<(), Refusal> {
     let mut pool = SegmentPool::format(&mut arena, &mut table, SEGMENTS as u32, &mut index, stored)?;
     restarted(&mut pool, stored, earlier)?;
     count_places(&mut pool);
+    Ok(())
+}
+
+/// A laundry with four hundred dryers: form 2 has room for it, form 1 has not.
+fn large_pool() {
+    let mut arena = vec![0; LARGE_WORDS];
+    let mut table = vec![0; 3 * LARGE_RECORDS];
+    for form in 0..3 {
+        print!("form {form}, words {LARGE_WORDS}, records {LARGE_RECORDS}: ");
+        match TreePool::format(form, &mut arena, &mut table, 1) {
+            Err(refusal) => println!("{refusal}"),
+            Ok(mut pool) => {
+                println!("done");
+                for words in 400_000..400_003 {
+                    println!("  words {words}: {}", told(pool.allocate(words)));
+                }
+            }
+        }
+    }
+}
+
+fn main() -> Result<(), Refusal> {
+    tree_pool(1)?;
+    tree_pool(2)?;
+    segment_pool()?;
+    large_pool();
     Ok(())
 }

@@ -24,7 +24,7 @@ impl Run {
     }
 }
 
-/// The number of a refused call, 1 to 9. The pool is as it was.
+/// The number of a refused call, 1 to 9 or 11. The pool is as it was.
 #[derive(Clone, Copy, Debug, PartialEq, Eq)]
 pub struct Refusal(pub u32);
 
@@ -40,6 +40,7 @@ impl fmt::Display for Refusal {
             7 => "address or words are not this ticket's",
             8 => "bad lengths",
             9 => "bad request",
+            11 => "no such form",
             _ => "unknown number",
         })
     }
@@ -108,6 +109,7 @@ pub trait Pool {
 pub struct TreeHead {
     pub root: u32,
     pub next: u32,
+    pub form: u32,
 }
 
 #[repr(C)]
@@ -131,7 +133,8 @@ struct SegmentAllocation {
 
 #[rustfmt::skip]
 extern "C" {
-    fn lf_tree_format(arena: *mut u32, arena_len: usize, table: *mut u32, table_len: usize, first: u32) -> TreeOutcome;
+    fn lf_tree_format(form: u32, arena: *mut u32, arena_len: usize, table: *mut u32, table_len: usize,
+        first: u32) -> TreeOutcome;
     fn lf_tree_allocate(head: TreeHead, arena: *mut u32, arena_len: usize, table: *mut u32, table_len: usize,
         words: u32) -> TreeOutcome;
     fn lf_tree_release(head: TreeHead, arena: *mut u32, arena_len: usize, table: *mut u32, table_len: usize,
@@ -167,11 +170,11 @@ pub struct TreePool<'a> {
 }
 
 impl<'a> TreePool<'a> {
-    /// A pool in which all is free and the next ticket is `first`: after a restart, one above every earlier ticket.
-    /// `table` has three words for each run that can be held at a time.
-    pub fn format(arena: &'a mut [u32], table: &'a mut [u32], first: u32) -> Result<Self, Refusal> {
+    /// A pool of this form in which all is free and the next ticket is `first`: after a restart, one above every
+    /// earlier ticket. `table` has three words for each run that can be held at a time.
+    pub fn format(form: u32, arena: &'a mut [u32], table: &'a mut [u32], first: u32) -> Result<Self, Refusal> {
         let outcome =
-            unsafe { lf_tree_format(arena.as_mut_ptr(), arena.len(), table.as_mut_ptr(), table.len(), first) };
+            unsafe { lf_tree_format(form, arena.as_mut_ptr(), arena.len(), table.as_mut_ptr(), table.len(), first) };
         outcome.answer.result()?;
         Ok(TreePool { head: outcome.head, arena, table })
     }

@@ -87,18 +87,19 @@ pub look-shows : (E : Engine) (p : Pool) (r : Row) (hold : Words)
     → step E (look r hold) p .shown
     ≡ cond (accepted (step E (find r) p .answer)) (arenaPart (r .address) (r .words)) placeholder
 unfolding step gate behind perform actsDone
-look-shows E p r hold = go (lengths E p && true) (stored E p)
+look-shows E p r hold = go (E .known (p .shape)) (lengths E p && true) (stored E p)
   where
-    out : Bool → Bool → Call Words → Outcome
-    out a b c =
-        let n : ℕ = cond a (cond b 0 1) 8 in
+    out : Bool → Bool → Bool → Call Words → Outcome
+    out k a b c =
+        let n : ℕ = cond k (cond a (cond b 0 1) 8) 11 in
         cond (eqb n 0) (perform E c p) (refusedBy E c p n)
 
-    go : (a b : Bool) → out a b (look r hold) .shown
-        ≡ cond (accepted (out a b (find r) .answer)) (arenaPart (r .address) (r .words)) placeholder
-    go true true = refl
-    go true false = refl
-    go false b = refl
+    go : (k a b : Bool) → out k a b (look r hold) .shown
+        ≡ cond (accepted (out k a b (find r) .answer)) (arenaPart (r .address) (r .words)) placeholder
+    go true true true = refl
+    go true true false = refl
+    go true false b = refl
+    go false a b = refl
 
 module _ (E : Engine) (laws : Laws E) (p : Pool) (r : Row) where
   found-record : step E (find r) p .answer .number ≡ 0 → (sound E p ≡ true) × (recordOf (r .ticket) (ledger p) ≡ some r)

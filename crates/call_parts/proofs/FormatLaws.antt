@@ -1,4 +1,4 @@
--- A format call, for any engine: refused by the lengths or by its first ticket, or the stored form of the ledger with no
+-- A format call, for any engine: refused by its form, the lengths or its first ticket, or the stored form of the ledger with no
 -- record, whose table is all zeros. Assumes nothing.
 use Prim.Native.Nat.{ℕ, zero, suc, _*_, _%_}
 use native.Mathlib.Omega.{arith}
@@ -30,16 +30,17 @@ zero-table t threes =
     let e : length t ≡ recordWords * slots t = omega arith in
     ap (λ (n : ℕ). replicate n 0) e ∙ blank-table (slots t)
 
--- what stops a format: its lengths, then its first ticket
-module _ (E : Engine) (p : Pool) (first : ℕ) (r : Bool) (right : r ≡ lengths E p) (n : ℕ)
-    (is : n ≡ formatNumber r first) where
+-- what stops a format: its form, its lengths, then its first ticket
+module _ (E : Engine) (p : Pool) (first : ℕ) (k : Bool) (known : k ≡ E .known (p .shape)) (r : Bool)
+    (right : r ≡ lengths E p) (n : ℕ) (is : n ≡ formatNumber k r first) where
   gate-is : gate E (format first) p ≡ n
   unfolding gate behind
-  gate-is = go (lengths E p) ∙ ap (λ (b : Bool). formatNumber b first) (sym right) ∙ sym is
+  gate-is = go (E .known (p .shape)) (lengths E p) ∙ rw (sym known, sym right) (sym is)
     where
-      go : (b : Bool) → cond (b && true) (cond (eqb first 0) 6 0) 8 ≡ formatNumber b first
-      go true = refl
-      go false = refl
+      go : (a b : Bool) → cond a (cond (b && true) (cond (eqb first 0) 6 0) 8) 11 ≡ formatNumber a b first
+      go true true = refl
+      go true false = refl
+      go false b = refl
 
   pub format-answers : step E (format first) p .answer .number ≡ n
   format-answers = format-number E p first ∙ gate-is
@@ -49,11 +50,12 @@ module _ (E : Engine) (p : Pool) (first : ℕ) (r : Bool) (right : r ≡ lengths
   format-refused z = ap resultOf (sym (step-stops E (format first) p n gate-is z))
 
   pub format-right : n ≡ 0 → lengths E p ≡ true
-  format-right z = sym right ∙ go r (sym is ∙ z)
+  format-right z = sym right ∙ go k r (sym is ∙ z)
     where
-      go : (b : Bool) → formatNumber b first ≡ 0 → b ≡ true
-      go true e = refl
-      go false e = absurd (omega arith)
+      go : (a b : Bool) → formatNumber a b first ≡ 0 → b ≡ true
+      go a true e = refl
+      go true false e = absurd (omega arith)
+      go false false e = absurd (omega arith)
 
   pub format-result : n ≡ 0 → (x : Answer) (q : Pool) → x ≡ zeroAnswer → q ≡ store E (blank E p) first p
       → result x q [] ≡ resultOf (step E (format first) p)

@@ -15,7 +15,7 @@ use Rattle.calls.proofs.Demand2.{act-sound}
 use Rattle.calls.proofs.GateLaws.{gate-refuses, step-sound}
 use Rattle.call_parts.specs.Results.{Result, result, resultOf, acted, ran}
 use Rattle.call_parts.proofs.AskLaws.{RefusedBy}
-use Rattle.call_parts.proofs.WholeLists.{unsuited-list}
+use Rattle.call_parts.proofs.WholeLists.{unknown-list, unsuited-list}
 
 module _ (E : Engine) where
   -- ---- one act
@@ -46,9 +46,13 @@ module _ (E : Engine) where
   single-result a p ok = ap resultOf (sym (step-sound E (single a) p refl refl ok))
 
   module _ (p : Pool) (rs bs : Words) where
-    pub unsuited-result : listSuits rs bs ≡ false
+    pub unknown-result : E .known (p .shape) ≡ false
+        → result (refusal 11) p (bs ∷ []) ≡ resultOf (step E (list rs bs) p)
+    unknown-result k = ap resultOf (sym (unknown-list E p rs bs k))
+
+    pub unsuited-result : E .known (p .shape) ≡ true → listSuits rs bs ≡ false
         → result (refusal 8) p (bs ∷ []) ≡ resultOf (step E (list rs bs) p)
-    unsuited-result e = ap resultOf (sym (unsuited-list E p rs bs e))
+    unsuited-result k e = ap resultOf (sym (unsuited-list E p rs bs k e))
 
     pub list-result : listSuits rs bs ≡ true → sound E p ≡ true → (x : Answer) (q : Pool) (b : Words) → x ≡ zeroAnswer
         → (q, b) ≡ ran E rs bs p → result x q (b ∷ []) ≡ resultOf (step E (list rs bs) p)

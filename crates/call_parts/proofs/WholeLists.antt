@@ -34,10 +34,15 @@ module _ (E : Engine) where
       act-by E (λ (p : Pool) (a : Act) (q : Pool). q .shape ≡ p .shape) (λ p a. refl) (λ p n k h. refl)
       (λ p x r h. refl)
 
-  pub unsuited-list : (p : Pool) (rs bs : Words) → listSuits rs bs ≡ false
+  pub unsuited-list : (p : Pool) (rs bs : Words) → E .known (p .shape) ≡ true → listSuits rs bs ≡ false
       → step E (list rs bs) p ≡ refusedBy E (list rs bs) p 8
-  unsuited-list p rs bs e =
+  unsuited-list p rs bs k e =
       step-stops E (list rs bs) p 8
       (gate-number E (list rs bs) p .eight .1
-      (false-of (lengths E p && listSuits rs bs) (λ k. false≢true (sym e ∙ and-r (lengths E p) (listSuits rs bs) k))))
+      (k, false-of (lengths E p && listSuits rs bs) (λ h. false≢true (sym e ∙ and-r (lengths E p) (listSuits rs bs) h))))
       (λ z. omega arith)
+
+  pub unknown-list : (p : Pool) (rs bs : Words) → E .known (p .shape) ≡ false
+      → step E (list rs bs) p ≡ refusedBy E (list rs bs) p 11
+  unknown-list p rs bs k =
+      step-stops E (list rs bs) p 11 (gate-number E (list rs bs) p .eleven .1 k) (λ z. omega arith)

@@ -16,9 +16,10 @@ use Rattle.call_parts.specs.declared.Named.the-variants.{Slot, Refused}
 use Rattle.call_parts.specs.declared.Request.{Request}
 use Rattle.call_parts.specs.declared.Request.the-variants.{Ask, Give, Bad}
 
--- the number that stops a format, by whether its lent lengths are right and by its first ticket (02, ticket 2)
-abbrev pub formatNumber : Bool → ℕ → ℕ
-formatNumber right first = cond right (cond (eqb first 0) 6 0) 8
+-- the number that stops a format, by its form, by whether its lent lengths are right, and by its first ticket (02,
+-- tickets 3 and 2)
+abbrev pub formatNumber : Bool → Bool → ℕ → ℕ
+formatNumber known right first = cond known (cond right (cond (eqb first 0) 6 0) 8) 11
 
 -- the slot of the record that is named, or 6 or 7
 abbrev pub namedAt : Words → Row → Found → Named

@@ -51,10 +51,14 @@ pub fn next_after(ticket: u32) -> u32
     ticket + 1
 }
 
-// The number that stops a format: 8 where the lent lengths are not right, then 6 for first ticket 0; 0 lets it pass.
-pub fn format_number(right: bool, first: u32) -> u32
-    ensures { λ r. ⌜ r ≡ formatNumber right first ⌝ }
+// The number that stops a format: 11 for an unknown form, 8 where the lent lengths are not right, then 6 for first
+// ticket 0; 0 lets it pass.
+pub fn format_number(known: bool, right: bool, first: u32) -> u32
+    ensures { λ r. ⌜ r ≡ formatNumber known right first ⌝ }
 {
+    if !known {
+        return 11;
+    }
     if !right {
         return 8;
     }

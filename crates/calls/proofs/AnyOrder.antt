@@ -66,7 +66,7 @@ module _ (E : Engine) (laws : Laws E) (p : Pool) (ok : sound E p ≡ true) (ms :
       let f = settled-fits E laws p ok ms past [] q (performed p) e
       (sym (unfold settled in settled-none E laws p ok)) in
       rw (
-        sameWords-same (q .head .root),
+        sameWords-same (q .head .own),
         eqb-same (q .head .next),
         f .shape,
         eqb-same (q .shape),

@@ -207,7 +207,7 @@ module _ (E : Engine) where
 
   -- the numbers that an act can get: neither 8 nor 1
   ofAct : ℕ → Bool
-  ofAct x = not (eqb x 1) && not (eqb x 8)
+  ofAct x = not (eqb x 1) && not (eqb x 8) && not (eqb x 11)
 
   act-number : (p : Pool) (a : Act) → ofAct (numberOf E p a) ≡ true
   unfolding numberOf named ofAct
@@ -237,9 +237,13 @@ module _ (E : Engine) where
       go bad = refl
 
   run-number : (c : Call Words) (p : Pool)
-      → (perform E c p .answer .number ≢ 1) × (perform E c p .answer .number ≢ 8)
+      → (perform E c p .answer .number ≢ 1) × (perform E c p .answer .number ≢ 8) × (perform E c p .answer .number ≢ 11)
   unfolding perform actsDone ofAct
-  run-number c p = ((λ e. false≢true (ap ofAct (sym e) ∙ go c)), (λ e. false≢true (ap ofAct (sym e) ∙ go c)))
+  run-number c p = (
+    (λ e. false≢true (ap ofAct (sym e) ∙ go c)),
+    (λ e. false≢true (ap ofAct (sym e) ∙ go c)),
+    (λ e. false≢true (ap ofAct (sym e) ∙ go c)),
+  )
     where
       acted : (a : Act) → ofAct (answerTo E p a .number) ≡ true
       acted a = ap ofAct (answer-number E p a) ∙ act-number p a
@@ -250,7 +254,7 @@ module _ (E : Engine) where
       go (look r hold) = acted (query r)
       go (list rs bs) = refl
 
-  -- 8 and 1 come from the gate alone
+  -- 11, 8 and 1 come from the gate alone
   gate-gives : (c : Call Words) (p : Pool) (n : ℕ) → n ≢ 0 → perform E c p .answer .number ≢ n
       → (step E c p .answer .number ≡ n) ↔ (gate E c p ≡ n)
   gate-gives c p n z other = by (step E c p) (way E c p)
@@ -262,7 +266,12 @@ module _ (E : Engine) where
   then-iff : {P Q R : Type 0} → P ↔ Q → Q ↔ R → P ↔ R
   then-iff f g = (λ h. g .0 (f .0 h), λ h. f .1 (g .1 h))
 
-  eight-step : (c : Call Words) (p : Pool) → (step E c p .answer .number ≡ 8) ↔ ((lengths E p && suits c) ≡ false)
+  eleven-step : (c : Call Words) (p : Pool) → (step E c p .answer .number ≡ 11) ↔ (E .known (p .shape) ≡ false)
+  eleven-step c p =
+      then-iff (gate-gives c p 11 (λ z. omega arith) (run-number c p .2)) (gate-number E c p .eleven)
+
+  eight-step : (c : Call Words) (p : Pool) → (step E c p .answer .number ≡ 8)
+      ↔ ((E .known (p .shape) ≡ true) × ((lengths E p && suits c) ≡ false))
   eight-step c p =
       then-iff (gate-gives c p 8 (λ z. omega arith) (run-number c p .1)) (gate-number E c p .eight)
 
@@ -279,7 +288,7 @@ module _ (E : Engine) where
       → FormatNumbers (lengths E p) first (step E (format first) p .answer .number)
   format-numbers p first = rw (format-number p first) (record { six = six; zero = zero })
     where
-      g : GateNumber (lengths E p && true) true (eqb first 0) (stored E p) (gate E (format first) p)
+      g : GateNumber (E .known (p .shape)) (lengths E p && true) true (eqb first 0) (stored E p) (gate E (format first) p)
       g = gate-number E (format first) p
 
       right : (lengths E p && true) ≡ true → lengths E p ≡ true
@@ -329,21 +338,22 @@ Looked p r f o =
 
 looks-at : (E : Engine) (p : Pool) (r : Row) (hold : Words) → Looked p r (step E (find r) p) (step E (look r hold) p)
 unfolding step gate behind perform actsDone
-looks-at E p r hold = go (lengths E p && true) (stored E p)
+looks-at E p r hold = go (E .known (p .shape)) (lengths E p && true) (stored E p)
   where
-    -- refused by 8 or 1, both show the placeholder
+    -- refused by 11, 8 or 1, both show the placeholder
     stopped : (n : ℕ) → eqb n 0 ≡ false → Looked p r (refusedBy E (find r) p n) (refusedBy E (look r hold) p n)
     stopped n z = (refl, refl, λ h. absurd (false≢true (sym z ∙ h)), λ h. rw h)
 
-    by : Call Words → Bool → Bool → Outcome
-    by c a b =
-        let n : ℕ = cond a (cond b 0 1) 8 in
+    by : Call Words → Bool → Bool → Bool → Outcome
+    by c k a b =
+        let n : ℕ = cond k (cond a (cond b 0 1) 8) 11 in
         cond (eqb n 0) (perform E c p) (refusedBy E c p n)
 
-    go : (a b : Bool) → Looked p r (by (find r) a b) (by (look r hold) a b)
-    go true true = (refl, reads-kept E p (query r) refl, λ h. rw h, λ h. rw h)
-    go true false = stopped 1 refl
-    go false b = stopped 8 refl
+    go : (k a b : Bool) → Looked p r (by (find r) k a b) (by (look r hold) k a b)
+    go false a b = stopped 11 refl
+    go true true true = (refl, reads-kept E p (query r) refl, λ h. rw h, λ h. rw h)
+    go true true false = stopped 1 refl
+    go true false b = stopped 8 refl
 
 finds-at : (E : Engine) (p : Pool) (r : Row) → step E (find r) p .pool ≡ p
 unfolding perform actsDone
@@ -386,6 +396,7 @@ demand1 E laws =
     record {
       refused = refused-step E;
       refusedAct = refused-act E;
+      eleven = eleven-step E;
       eight = eight-step E;
       one = one-step E laws;
       formats = format-numbers E;

@@ -52,7 +52,7 @@ module _ (E : Engine) (laws : Laws E) (p : Pool) (ok : sound E p ≡ true) (ms :
   same-index x = laws .indexed (p .shape) (wordCount p) (settle x (ledger p)) (in-range (sound-lengths E laws p ok))
     where
       in-range : lengths E p ≡ true → E .range (p .shape) (wordCount p) ≡ true
-      in-range h = search and-l
+      in-range h = search (and-l, and-r)
 
   same-shape : (x : List Member) → settled E p x .shape ≡ p .shape
   unfolding settled

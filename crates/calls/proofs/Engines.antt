@@ -18,9 +18,10 @@ use Rattle.ledger.specs.Records.{slots}
 use Rattle.ledger.specs.Units.{addressAt, free, owned}
 use Rattle.ledger.specs.Runs.{Run, freeRuns}
 use Rattle.ledger.proofs.UnitLaws.{valid-record, owned-covered}
-use Rattle.stored_forms.specs.Tree.{formOne, formRule, treeRange}
+use Rattle.stored_forms.specs.Tree.{isForm, formOf, formRule, treeRange}
 use Rattle.stored_forms.specs.Segments.{segmentRule, controlWord, segmentWord, indexWord, segmentIndex, depth}
 use Rattle.stored_forms.specs.Segments.{segmentRange}
+use Rattle.stored_forms.proofs.NodeLaws.{form-unit}
 use Rattle.stored_forms.proofs.SegmentLaws.{lead-segment, power-is, free-run-maximal, control-free, control-free-inside}
 use Rattle.calls.specs.Pool.{Pool, ledger, wordCount, Laws, lengths, sound}
 use Rattle.calls.specs.Engines.{treeEngine, segmentEngine}
@@ -38,13 +39,13 @@ use Rattle.calls.proofs.Restart.{restart}
 
 -- a block of the tree pool has no word before its address
 pub tree-laws : Laws treeEngine
-unfolding treeEngine formOne addressAt
+unfolding treeEngine addressAt
 tree-laws =
     record {
-      unit = λ s. omega arith;
+      unit = form-unit;
       indexed = λ s W L e. refl;
       lead = λ s W n₁ n₂ L₁ L₂ r i good₁ good₂ held₁ held₂ a b.
-          let place = valid-record (formRule formOne) (omega arith) W n₁ L₁ good₁ (r .ticket) r held₁ .place in
+          let place = valid-record (formRule (formOf s)) (form-unit s) W n₁ L₁ good₁ (r .ticket) r held₁ .place in
           absurd (omega arith);
     }
 
@@ -61,22 +62,25 @@ segment-laws =
 
 -- ---- row 8: "a lent length or S lies outside the ranges above"
 
--- Tree pool: "32-bit unsigned words, even count from 2 to 16,384. Table: 32-bit words, three to a record, 1 to 256
--- records". It has no index.
+-- Tree pool: whole units, from one to the most words of the form, which is "1 or 2" (02, ticket 3). "Table: 32-bit words,
+-- three to a record, 1 to 256 records". It has no index.
 pub tree-lengths : (p : Pool) → Says (lengths treeEngine p)
-    ((2 ≤ wordCount p) × (wordCount p ≤ 16384) × (wordCount p % 2 ≡ 0)
+    ((isForm (p .shape) ≡ true) × (formOf (p .shape) .unit ≤ wordCount p) × (wordCount p ≤ formOf (p .shape) .most)
+    × (wordCount p % formOf (p .shape) .unit ≡ 0)
     × (length (p .table) % 3 ≡ 0) × (3 ≤ length (p .table)) × (length (p .table) ≤ 768) × (length (p .index) ≡ 0))
-unfolding lengths treeEngine formOne treeRange
+unfolding lengths treeEngine treeRange
 tree-lengths p =
     let W = wordCount p in
+    let F = formOf (p .shape) in
     let t = slots (p .table) in (
       (λ h.
           let few = le-of 1 t (search (and-l, and-r)) in
           let many = le-of t 256 (search (and-l, and-r)) in
           let whole = eqb-eq (length (p .table) % 3) 0 (search (and-l, and-r)) in (
-            le-of 2 W (search (and-l, and-r)),
-            le-of W 16384 (search (and-l, and-r)),
-            eqb-eq (W % 2) 0 (search (and-l, and-r)),
+            search (and-l, and-r) depth 8,
+            le-of (F .unit) W (search (and-l, and-r) depth 8),
+            le-of W (F .most) (search (and-l, and-r) depth 8),
+            eqb-eq (W % F .unit) 0 (search (and-l, and-r)),
             whole,
             omega arith,
             omega arith,
@@ -85,7 +89,7 @@ tree-lengths p =
       (λ h.
           let few : 1 ≤ t = omega arith in
           let many : t ≤ 256 = omega arith in
-          rw (of-le 2 W (h .0), of-le W 16384 (h .1), h .2, h .3, of-le 1 t few, of-le t 256 many, h .6)),
+          rw (h .0, of-le (F .unit) W (h .1), of-le W (F .most) (h .2), h .3, h .4, of-le 1 t few, of-le t 256 many, h .7)),
     )
 
 -- Segment pool: W "of them, 2 to 16,384", the table as above, S "a power of two, 1 to 256", and "Index: 3S unsigned
@@ -101,7 +105,8 @@ segment-lengths p =
       (λ h.
           let few = le-of 1 t (search (and-l, and-r)) in
           let many = le-of t 256 (search (and-l, and-r)) in
-          let whole = eqb-eq (length (p .table) % 3) 0 (search (and-l, and-r)) in (
+          let whole = eqb-eq (length (p .table) % 3) 0 (search (and-l, and-r)) in
+          let range : segmentRange (p .shape) W ≡ true = search (and-l, and-r) in (
             le-of 2 W (search (and-l, and-r)),
             le-of W 16384 (search (and-l, and-r)),
             power-is (p .shape) depth .0 (search (and-l, and-r)),

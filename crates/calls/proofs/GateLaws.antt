@@ -17,6 +17,11 @@ pub data Way (E : Engine) (c : Call Words) (p : Pool) (o : Outcome) : Type 0 whe
   stops : (n : ℕ) → gate E c p ≡ n → n ≢ 0 → o ≡ refusedBy E c p n → Way E c p o
   runs : gate E c p ≡ 0 → o ≡ perform E c p → Way E c p o
 
+-- lengths are right in a known form alone
+lengths-known : (E : Engine) (p : Pool) → lengths E p ≡ true → E .known (p .shape) ≡ true
+unfolding lengths
+lengths-known E p h = search (and-l, and-r)
+
 -- a format whose first ticket is 0
 abbrev zeroFirst : Call Words → Bool
 zeroFirst (format first) = eqb first 0
@@ -58,7 +63,7 @@ module _ (E : Engine) (c : Call Words) (p : Pool) where
       go (look r hold) = refl
       go (list rs bs) = refl
 
--- ---- the gate's number: 8, 1, 6 or 0
+-- ---- the gate's number: 11, 8, 1, 6 or 0
 
 -- two statements that both hold, or of which neither does
 pub both : {P Q : Type 0} → P → Q → P ↔ Q
@@ -67,49 +72,69 @@ both p q = (λ h. q, λ h. p)
 pub neither : {P Q : Type 0} → (P → ⊥) → (Q → ⊥) → P ↔ Q
 neither f g = (λ p. absurd (f p), λ q. absurd (g q))
 
--- a: the lengths suit; f: the call fills memory anew; z: with first ticket 0; s: the pool is stored
-pub record GateNumber (a f z s : Bool) (n : ℕ) : Type 0 where
-  pub eight : (n ≡ 8) ↔ (a ≡ false)
+-- k: the form is known; a: the lengths suit; f: the call fills memory anew; z: with first ticket 0; s: the pool is
+-- stored
+pub record GateNumber (k a f z s : Bool) (n : ℕ) : Type 0 where
+  pub eleven : (n ≡ 11) ↔ (k ≡ false)
+  pub eight : (n ≡ 8) ↔ ((k ≡ true) × (a ≡ false))
   pub one : (n ≡ 1) ↔ ((f ≡ false) × (a ≡ true) × (s ≡ false))
   pub six : (n ≡ 6) ↔ ((f ≡ true) × (a ≡ true) × (z ≡ true))
   pub zero : (n ≡ 0) ↔ ((a ≡ true) × (f ≡ false → s ≡ true) × (f ≡ true → z ≡ false))
 
-gate-cases : (a f z s : Bool) → GateNumber a f z s (cond a (cond f (cond z 6 0) (cond s 0 1)) 8)
-gate-cases false f z s = record {
-  eight = both refl refl;
+gate-cases : (k a f z s : Bool) → (a ≡ true → k ≡ true)
+    → GateNumber k a f z s (cond k (cond a (cond f (cond z 6 0) (cond s 0 1)) 8) 11)
+gate-cases false true f z s h = absurd (false≢true (h refl))
+gate-cases false false f z s h = record {
+  eleven = both refl refl;
+  eight = neither (λ h. omega arith) (λ h. false≢true (h .0));
   one = neither (λ h. omega arith) (λ h. false≢true (h .1));
   six = neither (λ h. omega arith) (λ h. false≢true (h .1));
   zero = neither (λ h. omega arith) (λ h. false≢true (h .0));
 }
-gate-cases true true true s = record {
-  eight = neither (λ h. omega arith) true≢false;
+gate-cases true false f z s h = record {
+  eleven = neither (λ h. omega arith) true≢false;
+  eight = both refl (refl, refl);
+  one = neither (λ h. omega arith) (λ h. false≢true (h .1));
+  six = neither (λ h. omega arith) (λ h. false≢true (h .1));
+  zero = neither (λ h. omega arith) (λ h. false≢true (h .0));
+}
+gate-cases true true true true s h = record {
+  eleven = neither (λ h. omega arith) true≢false;
+  eight = neither (λ h. omega arith) (λ h. true≢false (h .1));
   one = neither (λ h. omega arith) (λ h. true≢false (h .0));
   six = both refl (refl, refl, refl);
   zero = neither (λ h. omega arith) (λ h. true≢false (h .2 refl));
 }
-gate-cases true true false s = record {
-  eight = neither (λ h. omega arith) true≢false;
+gate-cases true true true false s h = record {
+  eleven = neither (λ h. omega arith) true≢false;
+  eight = neither (λ h. omega arith) (λ h. true≢false (h .1));
   one = neither (λ h. omega arith) (λ h. true≢false (h .0));
   six = neither (λ h. omega arith) (λ h. false≢true (h .2));
   zero = both refl (refl, λ h. absurd (true≢false h), λ h. refl);
 }
-gate-cases true false z true = record {
-  eight = neither (λ h. omega arith) true≢false;
+gate-cases true true false z true h = record {
+  eleven = neither (λ h. omega arith) true≢false;
+  eight = neither (λ h. omega arith) (λ h. true≢false (h .1));
   one = neither (λ h. omega arith) (λ h. true≢false (h .2));
   six = neither (λ h. omega arith) (λ h. false≢true (h .0));
   zero = both refl (refl, λ h. refl, λ h. absurd (false≢true h));
 }
-gate-cases true false z false = record {
-  eight = neither (λ h. omega arith) true≢false;
+gate-cases true true false z false h = record {
+  eleven = neither (λ h. omega arith) true≢false;
+  eight = neither (λ h. omega arith) (λ h. true≢false (h .1));
   one = both refl (refl, refl, refl);
   six = neither (λ h. omega arith) (λ h. false≢true (h .0));
   zero = neither (λ h. omega arith) (λ h. false≢true (h .1 refl));
 }
 
 module _ (E : Engine) (c : Call Words) (p : Pool) where
-  pub gate-number : GateNumber (lengths E p && suits c) (fills c) (zeroFirst c) (stored E p) (gate E c p)
+  pub gate-number : GateNumber (E .known (p .shape)) (lengths E p && suits c) (fills c) (zeroFirst c) (stored E p)
+      (gate E c p)
   unfolding gate
-  gate-number = rw (behind-is E c p) (gate-cases (lengths E p && suits c) (fills c) (zeroFirst c) (stored E p))
+  gate-number =
+      rw (behind-is E c p)
+      (gate-cases (E .known (p .shape)) (lengths E p && suits c) (fills c) (zeroFirst c) (stored E p)
+      (λ h. lengths-known E p (and-l (lengths E p) (suits c) h)))
 
   -- a sound pool, and lengths that suit
   pub gate-sound : fills c ≡ false → suits c ≡ true → sound E p ≡ true → gate E c p ≡ 0
@@ -148,17 +173,21 @@ module _ (E : Engine) where
 
 module _ (E : Engine) (p : Pool) where
   -- by the tests that lead to it
-  pub is-eight : lengths E p ≡ false → GateIs E p 8
+  pub is-eleven : E .known (p .shape) ≡ false → GateIs E p 11
   unfolding gate
-  is-eight l a = rw l
+  is-eleven k a = rw k
+
+  pub is-eight : E .known (p .shape) ≡ true → lengths E p ≡ false → GateIs E p 8
+  unfolding gate
+  is-eight k l a = rw (k, l)
 
   pub is-one : lengths E p ≡ true → stored E p ≡ false → GateIs E p 1
   unfolding gate behind
-  is-one l s a = rw (l, s)
+  is-one l s a = rw (lengths-known E p l, l, s)
 
   pub is-zero : lengths E p ≡ true → stored E p ≡ true → GateIs E p 0
   unfolding gate behind
-  is-zero l s a = rw (l, s)
+  is-zero l s a = rw (lengths-known E p l, l, s)
 
   module _ (x : ℕ) (is : GateIs E p x) where
     pub gate-opens : x ≡ 0 → sound E p ≡ true

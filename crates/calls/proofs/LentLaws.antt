@@ -128,14 +128,14 @@ module _ (q : Part) where
 pub whole-brings : (q : Pool) (e : Event) → isWhole q e ≡ true → brought q e ≡ q
 unfolding isWhole
 whole-brings q e h =
-    let root = sameWords-eq (headBrought q (e .head) .root) (q .head .root) (search (and-l, and-r)) in
+    let own = sameWords-eq (headBrought q (e .head) .own) (q .head .own) (search (and-l, and-r)) in
     let next = eqb-eq (headBrought q (e .head) .next) (q .head .next) (search (and-l, and-r)) in
     let shape = eqb-eq (e .shape) (q .shape) (search (and-l, and-r)) in
     let arena = see-all inArena q (e .arena) (search (and-l, and-r)) in
     let table = see-all inTable q (e .table) (search (and-l, and-r)) in
     let index = see-all inIndex q (e .index) (search (and-l, and-r)) in
     λ i. record {
-      head = record { root = root i; next = next i };
+      head = record { own = own i; next = next i };
       shape = shape i;
       arena = arena i;
       table = table i;
@@ -175,9 +175,9 @@ unfolding headReturns
 returned-head q e h f =
     let taken : sameHead (headBrought q (e .head)) (q .head) ≡ true =
     rw f at (and-r (ownTable q e) (fills (e .call) || sameHead (headBrought q (e .head)) (q .head)) h) in
-    let root = sameWords-eq (headBrought q (e .head) .root) (q .head .root) (search and-l) in
+    let own = sameWords-eq (headBrought q (e .head) .own) (q .head .own) (search and-l) in
     let next = eqb-eq (headBrought q (e .head) .next) (q .head .next) (search (and-l, and-r)) in
-    λ i. record { root = root i; next = next i }
+    λ i. record { own = own i; next = next i }
 
 pub fills-seen : (f : Buffer → Words) (c : Call Buffer) → fills (mapCall f c) ≡ fills c
 fills-seen f (format first) = refl

@@ -23,14 +23,14 @@ use Rattle.calls.specs.Step.{blank}
 pub same-pool-eq : (p q : Pool) → samePool p q ≡ true → p ≡ q
 unfolding samePool
 same-pool-eq p q h =
-    let root = sameWords-eq (p .head .root) (q .head .root) (search (and-l, and-r)) in
+    let own = sameWords-eq (p .head .own) (q .head .own) (search (and-l, and-r)) in
     let next = eqb-eq (p .head .next) (q .head .next) (search (and-l, and-r)) in
     let shape = eqb-eq (p .shape) (q .shape) (search (and-l, and-r)) in
     let arena = sameWords-eq (p .arena) (q .arena) (search (and-l, and-r)) in
     let table = sameWords-eq (p .table) (q .table) (search (and-l, and-r)) in
     let index = sameWords-eq (p .index) (q .index) (search (and-l, and-r)) in
     λ i. record {
-      head = record { root = root i; next = next i };
+      head = record { own = own i; next = next i };
       shape = shape i;
       arena = arena i;
       table = table i;
@@ -41,7 +41,7 @@ pub same-pool-same : (p : Pool) → samePool p p ≡ true
 unfolding samePool
 same-pool-same p =
     rw (
-      sameWords-same (p .head .root),
+      sameWords-same (p .head .own),
       eqb-same (p .head .next),
       eqb-same (p .shape),
       sameWords-same (p .arena),
@@ -112,7 +112,7 @@ module _ (E : Engine) where
           let r : E .range s W ≡ true = search (and-l, and-r) in
           rw (length-stamp (owned (ruleOf E p) L) (E .word s W L) (p .arena), count, laws .indexed s W L r)
           (and-i
-          (E .range s W && eqb (length (p .table) % recordWords) 0 && leb 1 (slots (p .table))
+          (E .known s && E .range s W && eqb (length (p .table) % recordWords) 0 && leb 1 (slots (p .table))
           && leb (slots (p .table)) mostRecords)
           (eqb (E .indexWords s) (E .indexWords s))
           (search and-l) (eqb-same (E .indexWords s)))

@@ -68,7 +68,7 @@ ActNumbers E p (give r) x = NameNumbers p r x
 ActNumbers E p (query r) x = NameNumbers p r x
 ActNumbers E p bad x = x ≡ 9
 
--- ---- the number of a format, behind 8 (02, ticket 2): 6 for first ticket 0, else it is accepted
+-- ---- the number of a format, behind 11 and 8 (02, ticket 2): 6 for first ticket 0, else it is accepted
 
 pub record FormatNumbers (right : Bool) (first x : ℕ) : Type 0 where
   pub six : (x ≡ 6) ↔ ((right ≡ true) × (first ≡ 0))
@@ -111,8 +111,10 @@ pub record Demand1 (E : Engine) : Type 0 where
   pub refused : (c : Call Words) (p : Pool) → accepted (step E c p .answer) ≡ false → Refused E c p (step E c p)
   pub refusedAct : (p : Pool) (a : Act) → accepted (answerTo E p a) ≡ false
       → (answerTo E p a ≡ refusal (answerTo E p a .number)) × (poolAfter E p a ≡ p)
-  -- 8 and 1, exactly when their rows say; a format gives 8, 6 or 0
-  pub eight : (c : Call Words) (p : Pool) → (step E c p .answer .number ≡ 8) ↔ ((lengths E p && suits c) ≡ false)
+  -- 11, 8 and 1, exactly when their rows say; a format gives 11, 8, 6 or 0
+  pub eleven : (c : Call Words) (p : Pool) → (step E c p .answer .number ≡ 11) ↔ (E .known (p .shape) ≡ false)
+  pub eight : (c : Call Words) (p : Pool) → (step E c p .answer .number ≡ 8)
+      ↔ ((E .known (p .shape) ≡ true) × ((lengths E p && suits c) ≡ false))
   pub one : (c : Call Words) (p : Pool) → (step E c p .answer .number ≡ 1)
       ↔ ((fills c ≡ false) × ((lengths E p && suits c) ≡ true) × (StoredForm E p → ⊥))
   pub formats : (p : Pool) (first : ℕ) → FormatNumbers (lengths E p) first (step E (format first) p .answer .number)

@@ -120,7 +120,7 @@ brought p e = record {
 
 -- the pool whole: its head, its S and all of its memory
 abbrev pub sameHead : Head → Head → Bool
-sameHead h k = sameWords (h .root) (k .root) && eqb (h .next) (k .next)
+sameHead h k = sameWords (h .own) (k .own) && eqb (h .next) (k .next)
 
 unfoldable pub isWhole : Pool → Event → Bool
 isWhole p e =

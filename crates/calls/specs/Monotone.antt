@@ -13,8 +13,8 @@ use Rattle.calls.specs.Demand1.{NoRecord, NoTicket}
 
 -- What a pool's form says of a request: the unit rule, and the most words that can be asked for. S says nothing of
 -- either, so that segment pools of any S are of one form.
-abbrev pub formOf : Engine → Pool → Rule × ℕ
-formOf E p = (ruleOf E p, E .limit (p .shape))
+abbrev pub sizesOf : Engine → Pool → Rule × ℕ
+sizesOf E p = (ruleOf E p, E .limit (p .shape))
 
 -- At least as much is free in the second pool, q. Of the first no more is asked than the grant in it, which says that p
 -- is sound and has an empty record and a ticket left.
@@ -24,7 +24,7 @@ pub record Freer (E : Engine) (p q : Pool) : Type 0 where
   pub slot : NoRecord q → ⊥
   pub ticket : NoTicket q → ⊥
   -- "of one form and size"; the second may be larger
-  pub form : formOf E p ≡ formOf E q
+  pub form : sizesOf E p ≡ sizesOf E q
   pub size : wordCount p ≤ wordCount q
   -- "every unit free in the first is free in the second"
   pub units : (u : ℕ) → u < wordCount p / ruleOf E p .unit → free (ruleOf E p) (ledger p) u ≡ true

@@ -12,13 +12,14 @@ use Rattle.ledger.specs.declared.Rule.{Rule}
 use Rattle.ledger.specs.Records.{Ledger, recordWords, recordsOf, tableOf, slots, recordOf}
 use Rattle.ledger.specs.Units.{first, valid, owned}
 
--- What a call is passed and hands back: the root link, in the tree pool alone, and the next ticket; 0 means none left.
+-- What a call is passed and hands back: what the engine keeps there, which is root link and form number in the tree pool
+-- and nothing in the segment pool, and the next ticket; 0 means none left.
 pub record Head : Type 0 where
-  pub root : Words
+  pub own : Words
   pub next : ℕ
 
--- Head, lent memory, and the one argument that lies in neither: S in the segment pool. The tree pool has no such
--- argument and no index.
+-- Head, lent memory, and the number that a call goes by: in the segment pool S, an argument that lies in neither; in
+-- the tree pool, which has no index, the form, which the head has and format is given.
 pub record Pool : Type 0 where
   pub head : Head
   pub shape : ℕ
@@ -36,16 +37,18 @@ ledger p = recordsOf (p .table)
 abbrev pub wordCount : Pool → ℕ
 wordCount p = length (p .arena)
 
--- An engine, as what it stores of a ledger: each word of the arena that no holder owns, the root link, the index.
+-- An engine, as what it stores of a ledger: each word of the arena that no holder owns, its part of the head, the index.
 -- Every part takes the shape first, then the arena's length.
 pub record Engine : Type 0 where
+  -- the shapes that are not refused before all else (number 11)
+  pub known : ℕ → Bool
   pub rule : ℕ → Rule
   pub range : ℕ → ℕ → Bool
   -- the most words that can be asked for (number 2)
   pub limit : ℕ → ℕ
   pub word : ℕ → ℕ → Ledger → ℕ → ℕ
-  pub links : ℕ
-  pub root : ℕ → ℕ → Ledger → Words
+  pub ownWords : ℕ
+  pub own : ℕ → ℕ → Ledger → Words
   pub indexWords : ℕ → ℕ
   pub index : ℕ → ℕ → Ledger → Words
 
@@ -59,7 +62,7 @@ nextAfter n = cond (eqb n 4294967295) 0 (suc n)
 
 unfoldable pub samePool : Pool → Pool → Bool
 samePool p q =
-    sameWords (p .head .root) (q .head .root) && eqb (p .head .next) (q .head .next) && eqb (p .shape) (q .shape)
+    sameWords (p .head .own) (q .head .own) && eqb (p .head .next) (q .head .next) && eqb (p .shape) (q .shape)
     && sameWords (p .arena) (q .arena) && sameWords (p .table) (q .table) && sameWords (p .index) (q .index)
 
 module _ (E : Engine) where
@@ -69,17 +72,17 @@ module _ (E : Engine) where
   -- the stored form of the ledger L with next ticket n, over what the holders wrote in p
   unfoldable pub store : Ledger → ℕ → Pool → Pool
   store L n p = record {
-    head = record { root = E .root (p .shape) (wordCount p) L; next = n };
+    head = record { own = E .own (p .shape) (wordCount p) L; next = n };
     shape = p .shape;
     arena = stamp (owned (ruleOf p) L) (E .word (p .shape) (wordCount p) L) (p .arena);
     table = tableOf L;
     index = E .index (p .shape) (wordCount p) L;
   }
 
-  -- Row 8: every lent length and S lie in their ranges.
+  -- Row 8: every lent length and S lie in their ranges, which a form has that is known.
   unfoldable pub lengths : Pool → Bool
   lengths p =
-      E .range (p .shape) (wordCount p)
+      E .known (p .shape) && E .range (p .shape) (wordCount p)
       && eqb (length (p .table) % recordWords) 0 && leb 1 (slots (p .table)) && leb (slots (p .table)) mostRecords
       && eqb (length (p .index)) (E .indexWords (p .shape))
 

@@ -258,7 +258,8 @@ countedWhole (list rs bs) n = asOne (refusal n)
 -- ---- the step
 
 module _ (E : Engine) where
-  -- The gate, before anything is done: 8 by the lengths; behind it 1, if the call needs a sound pool, and 6 for a
+  -- The gate, before anything is done: 11 by the form (02, ticket 3: "any other is refused as 11 before all else, by
+  -- format too"); 8 by the lengths; behind it 1, if the call needs a sound pool, and 6 for a
   -- format whose first ticket is 0 (02, ticket 2: "Formatting now takes the first ticket number, 1 or more, and answers
   -- 6 for 0 (after 8)"); 0 lets it pass.
   unfoldable pub behind : Call Words → Pool → ℕ
@@ -268,7 +269,7 @@ module _ (E : Engine) where
   behind (list rs bs) p = cond (stored E p) 0 1
 
   unfoldable pub gate : Call Words → Pool → ℕ
-  gate c p = cond (lengths E p && suits c) (behind c p) 8
+  gate c p = cond (E .known (p .shape)) (cond (lengths E p && suits c) (behind c p) 8) 11
 
   -- x is the gate's number for every call that is one act, and for every other that fills nothing and suits its buffers
   abbrev pub GateIs : Pool → ℕ → Type 0
@@ -277,7 +278,7 @@ module _ (E : Engine) where
   -- "A refused call .. leaves head, arena, table, index and answer buffer unchanged"; format "writes nothing and hands
   -- back a head of zeros".
   abbrev pub zeroHead : Head
-  zeroHead = record { root = replicate (E .links) 0; next = 0 }
+  zeroHead = record { own = replicate (E .ownWords) 0; next = 0 }
 
   abbrev pub refusedHead : Call Words → Pool → Head
   refusedHead (format first) p = zeroHead

@@ -17,17 +17,17 @@ use Rattle.words.proofs.Tests.{of-ge, within-in, within-high}
 use Rattle.words.proofs.ListLaws.{all-append, all-append-l, all-append-r}
 use Rattle.ledger.specs.Runs.{Run, run, covered, Gapped, AreRuns, shorten}
 use Rattle.ledger.proofs.RunLaws.{gapped-weaken, gapped-below, runs-are, runs-unique, runs-after-grant}
-use Rattle.stored_forms.specs.Tree.{Tree, leaf, node, inorder, treeOf, formOne, lengthAt}
+use Rattle.stored_forms.specs.Tree.{Tree, leaf, node, inorder, treeOf, Form, lengthAt}
 use Rattle.stored_forms.proofs.TreeLaws.{inorder-treeOf}
 use Rattle.stored_forms.specs.Blocks.{Within, In, NotFirst, Zeros}
-use Rattle.stored_forms.proofs.NodeLaws.{readable-one, in-range, covered-in, in-covered}
+use Rattle.stored_forms.proofs.NodeLaws.{Readable, in-range, covered-in, in-covered}
 use Rattle.stored_forms.proofs.NodeLaws.{nodeWord-zero, holds-stored, stored-holds}
-use Rattle.tree_nodes.specs.Nodes.{links, cells, NodeCleared}
+use Rattle.tree_nodes.specs.Nodes.{cells, NodeCleared}
 use Rattle.free_tree.specs.Shapes.{delete, putRun, dropRun, beginsAt}
 use Rattle.free_tree.specs.Held.{At, Became, NoNode, Deleted}
 use Rattle.free_tree.proofs.RunOrder.{beginsElsewhere}
 use Rattle.free_tree.proofs.ChangeLaws.{delete-tree}
-use Rattle.free_tree.proofs.CellLaws.{outside-first}
+use Rattle.free_tree.proofs.CellLaws.{outside-first, cell-from, cell-below, from-cell}
 use Rattle.free_tree.proofs.StepLaws.{at-length, at-left, at-right}
 use Rattle.free_blocks.specs.Blocks.{Lies, Changed}
 
@@ -119,140 +119,142 @@ begins-elsewhere c (node a q b) h =
 
 -- ---- words of the free runs
 
--- runs of which no word has changed still lie
-pub kept : {m m′ : Words} {root : ℕ} {rs : List Run} → Lies m root rs → length m′ ≡ length m
-    → ((i : ℕ) → covered rs (i / 2) ≡ true → getD m′ i 0 ≡ getD m i 0)
-    → Lies m′ root rs
-unfolding formOne
-kept {m} {m′} {root} {rs} p long same =
-    let t = treeOf rs in
-    let here = p .tree in
-    let place : Within 0 (length m′ / 2) t = rw long (here .within) in
-    record {
-      tree = record {
-        at = here .at;
-        holds = stored-holds formOne links readable-one m′ t 0 (length m′ / 2) place (omega arith)
-            (λ i x. same i (tree-covered rs (i / 2) x)
-            ∙ holds-stored formOne links readable-one m t 0 (length m / 2) (here .within) (here .holds) i x);
-        within = place;
-        small = rw long (here .small);
-      };
-      gapped = rw long (p .gapped);
-    }
+module _ {F : Form} (readable : Readable F (F .links)) where
+  -- runs of which no word has changed still lie
+  pub kept : {m m′ : Words} {root : ℕ} {rs : List Run} → Lies F m root rs → length m′ ≡ length m
+      → ((i : ℕ) → covered rs (i / F .cell) ≡ true → getD m′ i 0 ≡ getD m i 0)
+      → Lies F m′ root rs
+  kept {m} {m′} {root} {rs} p long same =
+      let t = treeOf rs in
+      let here = p .tree in
+      let place : Within 0 (cells F m′) t = rw long (here .within) in
+      record {
+        tree = record {
+          at = here .at;
+          holds = stored-holds F (F .links) readable m′ t 0 (cells F m′) place
+              (from-cell readable (length m′) (cells F m′) (omega arith))
+              (λ i x. same i (tree-covered rs (i / F .cell) x)
+              ∙ holds-stored F (F .links) readable m t 0 (cells F m) (here .within) (here .holds) i x);
+          within = place;
+          small = rw long (here .small);
+        };
+        gapped = rw long (p .gapped);
+      }
 
-abbrev readsBack : Words → Run → Bool
-readsBack m q = eqb (lengthAt formOne m (q .start)) (q .size)
+  abbrev readsBack : Words → Run → Bool
+  readsBack m q = eqb (lengthAt F m (q .start)) (q .size)
 
-module _ {m : Words} where
-  all-read-back : {l : ℕ} (t : Tree) → At formOne links m l t → all (readsBack m) (inorder t) ≡ true
-  all-read-back leaf p = refl
-  all-read-back (node a q b) p =
-      all-append (readsBack m) (inorder a) (q ∷ inorder b) (all-read-back a (at-left readable-one p refl))
-      (and-i (readsBack m q) (all (readsBack m) (inorder b)) (rw (at-length readable-one p) (eqb-same (q .size)))
-      (all-read-back b (at-right readable-one p refl)))
+  module _ {m : Words} where
+    all-read-back : {l : ℕ} (t : Tree) → At F m l t → all (readsBack m) (inorder t) ≡ true
+    all-read-back leaf p = refl
+    all-read-back (node a q b) p =
+        all-append (readsBack m) (inorder a) (q ∷ inorder b) (all-read-back a (at-left readable p refl))
+        (and-i (readsBack m q) (all (readsBack m) (inorder b)) (rw (at-length readable p) (eqb-same (q .size)))
+        (all-read-back b (at-right readable p refl)))
 
-  -- the length of a run is its node's
-  pub run-length : {root : ℕ} (xs : List Run) (c n : ℕ) (ys : List Run) → Lies m root (xs ++ run c n ∷ ys)
-      → lengthAt formOne m c ≡ n
-  run-length xs c n ys p =
-      let rs = xs ++ run c n ∷ ys in
-      let f = readsBack m in
-      let each : all f rs ≡ true = rw (inorder-treeOf rs) at (all-read-back (treeOf rs) (p .tree)) in
-      eqb-eq (lengthAt formOne m c) n (and-l (f (run c n)) (all f ys) (all-append-r f xs (run c n ∷ ys) each))
+    -- the length of a run is its node's
+    pub run-length : {root : ℕ} (xs : List Run) (c n : ℕ) (ys : List Run) → Lies F m root (xs ++ run c n ∷ ys)
+        → lengthAt F m c ≡ n
+    run-length xs c n ys p =
+        let rs = xs ++ run c n ∷ ys in
+        let f = readsBack m in
+        let each : all f rs ≡ true = rw (inorder-treeOf rs) at (all-read-back (treeOf rs) (p .tree)) in
+        eqb-eq (lengthAt F m c) n (and-l (f (run c n)) (all f ys) (all-append-r f xs (run c n ∷ ys) each))
 
-  module _ {root : ℕ} {rs : List Run} (p : Lies m root rs) where
-    -- a free cell lies in the arena
-    pub cell-inside : (u : ℕ) → covered rs u ≡ true → u < cells formOne m
-    cell-inside u h = in-range (treeOf rs) 0 (cells formOne m) u (p .tree .within) (covered-tree rs u h) .1
+    module _ {root : ℕ} {rs : List Run} (p : Lies F m root rs) where
+      -- a free cell lies in the arena
+      pub cell-inside : (u : ℕ) → covered rs u ≡ true → u < cells F m
+      cell-inside u h = in-range (treeOf rs) 0 (cells F m) u (p .tree .within) (covered-tree rs u h) .1
 
-    pub cell-no-node : (u : ℕ) → covered rs u ≡ false → NotFirst u (treeOf rs)
-    cell-no-node u h = outside-first (treeOf rs) 0 (cells formOne m) u (p .tree .within) (uncovered rs u h)
+      pub cell-no-node : (u : ℕ) → covered rs u ≡ false → NotFirst u (treeOf rs)
+      cell-no-node u h = outside-first (treeOf rs) 0 (cells F m) u (p .tree .within) (uncovered rs u h)
 
-    -- a word of a run beyond its first cell
-    inner-zero : (i : ℕ) → covered rs (i / 2) ≡ true → NotFirst (i / 2) (treeOf rs) → getD m i 0 ≡ 0
-    unfolding formOne
-    inner-zero i h n =
-        let t = treeOf rs in
-        let place = p .tree in
-        holds-stored formOne links readable-one m t 0 (cells formOne m) (place .within) (place .holds) i
-        (covered-tree rs (i / 2) h)
-        ∙ nodeWord-zero formOne links readable-one t i n
+      -- a word of a run beyond its first cell
+      inner-zero : (i : ℕ) → covered rs (i / F .cell) ≡ true → NotFirst (i / F .cell) (treeOf rs) → getD m i 0 ≡ 0
+      inner-zero i h n =
+          let t = treeOf rs in
+          let place = p .tree in
+          holds-stored F (F .links) readable m t 0 (cells F m) (place .within) (place .holds) i
+          (covered-tree rs (i / F .cell) h)
+          ∙ nodeWord-zero F (F .links) readable t i n
 
--- ---- the first cells of a block
+  -- ---- the first cells of a block
 
--- the block of n cells at cell c, which lies between the blocks xs and ys
-module _ {m : Words} {root : ℕ} (xs : List Run) (c n : ℕ) (ys : List Run) (p : Lies m root (xs ++ run c n ∷ ys)) where
-  abbrev N : ℕ
-  N = cells formOne m
+  -- the block of n cells at cell c, which lies between the blocks xs and ys
+  module _ {m : Words} {root : ℕ} (xs : List Run) (c n : ℕ) (ys : List Run)
+      (p : Lies F m root (xs ++ run c n ∷ ys)) where
+    abbrev N : ℕ
+    N = cells F m
 
-  abbrev old : List Run
-  old = xs ++ run c n ∷ ys
+    abbrev old : List Run
+    old = xs ++ run c n ∷ ys
 
-  -- the runs where the first k cells are not free any more
-  abbrev new : ℕ → List Run
-  new k = xs ++ shorten k (run c n) ys
+    -- the runs where the first k cells are not free any more
+    abbrev new : ℕ → List Run
+    new k = xs ++ shorten k (run c n) ys
 
-  pub gone : Without 0 N xs c n ys
-  gone = without 0 N xs c n ys (p .gapped)
+    pub gone : Without 0 N xs c n ys
+    gone = without 0 N xs c n ys (p .gapped)
 
-  in-run : (d : ℕ) → c ≤ d → d < c + n → covered old d ≡ true
-  in-run d x y = gone .cover d ∙ rw (within-in c (c + n) d x y) (or-true (covered (xs ++ ys) d))
+    in-run : (d : ℕ) → c ≤ d → d < c + n → covered old d ≡ true
+    in-run d x y = gone .cover d ∙ rw (within-in c (c + n) d x y) (or-true (covered (xs ++ ys) d))
 
-  inner-first : (d : ℕ) → c < d → d < c + n → NotFirst d (treeOf old)
-  inner-first d x y = begins-elsewhere d (treeOf old) (rw (inorder-treeOf old) (gone .inner d x y))
+    inner-first : (d : ℕ) → c < d → d < c + n → NotFirst d (treeOf old)
+    inner-first d x y = begins-elsewhere d (treeOf old) (rw (inorder-treeOf old) (gone .inner d x y))
 
-  left-runs : (k : ℕ) → k ≤ n → AreRuns (λ u. covered old u && not (within c (c + k) u)) N (new k)
-  left-runs k h =
-      let f = covered old in
-      let g : ℕ → Bool = λ u. f u && not (within c (c + k) u) in
-      let is = runs-unique f N old (record { gapped = p .gapped; cover = λ u x. refl }) in
-      subst (AreRuns g N) (runs-after-grant f g N k xs (run c n) ys is h (λ u x. refl)) (runs-are g N)
+    left-runs : (k : ℕ) → k ≤ n → AreRuns (λ u. covered old u && not (within c (c + k) u)) N (new k)
+    left-runs k h =
+        let f = covered old in
+        let g : ℕ → Bool = λ u. f u && not (within c (c + k) u) in
+        let is = runs-unique f N old (record { gapped = p .gapped; cover = λ u x. refl }) in
+        subst (AreRuns g N) (runs-after-grant f g N k xs (run c n) ys is h (λ u x. refl)) (runs-are g N)
 
-  not-left : (k u : ℕ) → k ≤ n → c ≤ u → u < c + k → covered (new k) u ≡ false
-  not-left k u h a b =
-      let high = gone .high in
-      let here = within c (c + k) u in
-      false-of (covered (new k) u)
-      (λ e. true≢false (sym (within-in c (c + k) u a b)
-      ∙ not-true here (and-r (covered old u) (not here) (sym (left-runs k h .cover u (omega arith)) ∙ e))))
+    not-left : (k u : ℕ) → k ≤ n → c ≤ u → u < c + k → covered (new k) u ≡ false
+    not-left k u h a b =
+        let high = gone .high in
+        let here = within c (c + k) u in
+        false-of (covered (new k) u)
+        (λ e. true≢false (sym (within-in c (c + k) u a b)
+        ∙ not-true here (and-r (covered old u) (not here) (sym (left-runs k h .cover u (omega arith)) ∙ e))))
 
-  -- a step that leaves the tree of the new runs, and then clears what was the block's node
-  pub first-taken : {m₁ m′ : Words} {q : ℕ} {off : ℕ → Type 0} (k : ℕ) → 1 ≤ k → k ≤ n
-      → Became formOne links m m₁ off q (treeOf (new k))
-      → ((d : ℕ) → NotFirst d (treeOf old) → (k < n → d ≢ c + k) → off d) → NodeCleared formOne m₁ m′ c
-      → Changed m m′ old (new k) q × Zeros m′ (2 * c) (2 * (c + k))
-  unfolding formOne
-  first-taken {m₁} {m′} {q} k some-cells part made away cleared = (
-    record {
-      lies = kept (record { tree = made .tree; gapped = rw (made .long) (left-runs k part .gapped) }) (cleared .long)
-          (λ i h. cleared .frame (i / 2)
-          (λ z. true≢false (sym h ∙ not-left k (i / 2) part (omega arith) (omega arith))) i refl);
-      frame = λ i h h′.
-          cleared .frame (i / 2) (λ z. true≢false (sym (in-run (i / 2) (omega arith) (omega arith)) ∙ h)) i refl
-          ∙ made .frame (i / 2)
-          (away (i / 2) (cell-no-node p (i / 2) h)
-          (λ l z. true≢false (sym (in-run (i / 2) (omega arith) (omega arith)) ∙ h))) i refl;
-      long = cleared .long ∙ made .long;
-    },
-    λ i x y. zero i (omega arith) (omega arith) (ℕ-discrete (i / 2) c),
-  )
-    where
-      zero : (i : ℕ) → c ≤ i / 2 → i / 2 < c + k → Dec (i / 2 ≡ c) → getD m′ i 0 ≡ 0
-      zero i x y (yes z) = cleared .zero i z
-      zero i x y (no z) =
-          let inner = inner-first (i / 2) (omega arith) (omega arith) in
-          cleared .frame (i / 2) z i refl ∙ made .frame (i / 2) (away (i / 2) inner (λ l e. omega arith)) i refl
-          ∙ inner-zero p i (in-run (i / 2) (omega arith) (omega arith)) inner
+    -- a step that leaves the tree of the new runs, and then clears what was the block's node
+    pub first-taken : {m₁ m′ : Words} {q : ℕ} {off : ℕ → Type 0} (k : ℕ) → 1 ≤ k → k ≤ n
+        → Became F m m₁ off q (treeOf (new k))
+        → ((d : ℕ) → NotFirst d (treeOf old) → (k < n → d ≢ c + k) → off d) → NodeCleared F m₁ m′ c
+        → Changed F m m′ old (new k) q × Zeros m′ (F .cell * c) (F .cell * (c + k))
+    first-taken {m₁} {m′} {q} k some-cells part made away cleared = (
+      record {
+        lies = kept (record { tree = made .tree; gapped = rw (made .long) (left-runs k part .gapped) }) (cleared .long)
+            (λ i h. cleared .frame (i / F .cell)
+            (λ z. true≢false (sym h ∙ not-left k (i / F .cell) part (omega arith) (omega arith))) i refl);
+        frame = λ i h h′.
+            cleared .frame (i / F .cell)
+            (λ z. true≢false (sym (in-run (i / F .cell) (omega arith) (omega arith)) ∙ h)) i refl
+            ∙ made .frame (i / F .cell)
+            (away (i / F .cell) (cell-no-node p (i / F .cell) h)
+            (λ l z. true≢false (sym (in-run (i / F .cell) (omega arith) (omega arith)) ∙ h))) i refl;
+        long = cleared .long ∙ made .long;
+      },
+      λ i x y. zero i (cell-from readable i c x) (cell-below readable i (c + k) y) (ℕ-discrete (i / F .cell) c),
+    )
+      where
+        zero : (i : ℕ) → c ≤ i / F .cell → i / F .cell < c + k → Dec (i / F .cell ≡ c) → getD m′ i 0 ≡ 0
+        zero i x y (yes z) = cleared .zero i z
+        zero i x y (no z) =
+            let inner = inner-first (i / F .cell) (omega arith) (omega arith) in
+            cleared .frame (i / F .cell) z i refl
+            ∙ made .frame (i / F .cell) (away (i / F .cell) inner (λ l e. omega arith)) i refl
+            ∙ inner-zero p i (in-run (i / F .cell) (omega arith) (omega arith)) inner
 
-  pub deleted : delete c (treeOf old) ≡ treeOf (xs ++ ys)
-  deleted = delete-tree c old 0 N (p .tree .within) ∙ ap treeOf (gone .dropped)
+    pub deleted : delete c (treeOf old) ≡ treeOf (xs ++ ys)
+    deleted = delete-tree c old 0 N (p .tree .within) ∙ ap treeOf (gone .dropped)
 
-  -- the whole block
-  pub all-taken : {m₁ m′ : Words} {q : ℕ} → Deleted formOne links m m₁ root c q → NodeCleared formOne m₁ m′ c
-      → Changed m m′ old (xs ++ ys) q × Zeros m′ (2 * c) (2 * (c + n))
-  all-taken {m₁} {m′} {q} del cleared =
-      let none : xs ++ ys ≡ new n = rw (eqb-same n) in
-      let made = rw deleted at (del (treeOf old) (p .tree)) in
-      subst (λ l. Changed m m′ old l q × Zeros m′ (2 * c) (2 * (c + n))) (sym none)
-      (first-taken n (gone .filled) (omega arith)
-      (subst (λ l. Became formOne links m m₁ (NoNode (treeOf old)) q (treeOf l)) none made) (λ d o z. o) cleared)
+    -- the whole block
+    pub all-taken : {m₁ m′ : Words} {q : ℕ} → Deleted F m m₁ root c q → NodeCleared F m₁ m′ c
+        → Changed F m m′ old (xs ++ ys) q × Zeros m′ (F .cell * c) (F .cell * (c + n))
+    all-taken {m₁} {m′} {q} del cleared =
+        let none : xs ++ ys ≡ new n = rw (eqb-same n) in
+        let made = rw deleted at (del (treeOf old) (p .tree)) in
+        subst (λ l. Changed F m m′ old l q × Zeros m′ (F .cell * c) (F .cell * (c + n))) (sym none)
+        (first-taken n (gone .filled) (omega arith)
+        (subst (λ l. Became F m m₁ (NoNode (treeOf old)) q (treeOf l)) none made) (λ d o z. o) cleared)

@@ -15,7 +15,7 @@ use Rattle.stored_forms.proofs.NodeLaws.{Readable, within-le}
 use Rattle.tree_nodes.specs.Nodes.{cells, Same}
 use Rattle.free_tree.specs.Held.{Apart}
 
-module _ {F : Form} {bound : ℕ} (readable : Readable F bound) where
+module _ {F : Form} (readable : Readable F (F .links)) where
   -- word j of cell c, and the cells of the words from one cell up to another
   cell-of : (c j : ℕ) → j < F .cell → (F .cell * c + j) / F .cell ≡ c
   cell-of c j h = omega (arith, mul-add-div (readable .cells) c j, div-eq-of-lt h)
@@ -25,6 +25,12 @@ module _ {F : Form} {bound : ℕ} (readable : Readable F bound) where
 
   pub cell-below : (k c : ℕ) → k < F .cell * c → k / F .cell < c
   cell-below k c h = div-lt-iff-lt-mul (readable .cells) .1 (rw (mul-comm (F .cell) c) at h)
+
+  pub from-cell : (k c : ℕ) → c ≤ k / F .cell → F .cell * c ≤ k
+  from-cell k c h = rw (mul-comm (F .cell) c) (le-div-iff-mul-le (readable .cells) .0 h)
+
+  pub below-cell : (k c : ℕ) → k / F .cell < c → k < F .cell * c
+  below-cell k c h = rw (mul-comm (F .cell) c) (div-lt-iff-lt-mul (readable .cells) .0 h)
 
   module _ (m m′ : Words) where
     pub same-cell : (c : ℕ) → length m′ ≡ length m → Same F m m′ c → cellWords F m′ c ≡ cellWords F m c

@@ -45,7 +45,7 @@ insert-top : (r : Run) (t : Tree) → Stops (standsAbove r) t → insert r t ≡
 insert-top r leaf e = refl
 insert-top r (node a q b) e = rw e
 
-module _ {F : Form} {bound : ℕ} (readable : Readable F bound) where
+module _ {F : Form} (readable : Readable F (F .links)) where
   -- ---- insertion
 
   -- the words of a run beyond its first cell
@@ -54,8 +54,9 @@ module _ {F : Form} {bound : ℕ} (readable : Readable F bound) where
       let next : x ≤ suc x = omega arith in z k (le-trans (mul-le-mul-left (F .cell) next) a) b
 
   -- what a run between two trees asks of its node
-  pub between-ready : {m : Words} {a b : ℕ} {r : Run} {ta tb : Tree} → Between F bound m a b r ta tb
-      → (r .start < cells F m) × (((a < bound) × (b < bound)) × Zeros m (F .cell * r .start) (F .cell * suc (r .start)))
+  pub between-ready : {m : Words} {a b : ℕ} {r : Run} {ta tb : Tree} → Between F m a b r ta tb
+      → (r .start < cells F m)
+      × (((a < F .links) × (b < F .links)) × Zeros m (F .cell * r .start) (F .cell * suc (r .start)))
   between-ready {m} {r = r} {tb = tb} p =
       let some = p .filled in
       let high = within-le tb (r .start + r .size) (cells F m) (p .over) in
@@ -68,8 +69,8 @@ module _ {F : Form} {bound : ℕ} (readable : Readable F bound) where
       )
 
   -- the run's node is put above the two
-  pub put-between : {m m′ : Words} {a b x n : ℕ} {ta tb : Tree} → Between F bound m a b (run x n) ta tb
-      → NodePut F m m′ x n a b → Became F bound m m′ (λ d. d ≢ x) (x + 1) (node ta (run x n) tb)
+  pub put-between : {m m′ : Words} {a b x n : ℕ} {ta tb : Tree} → Between F m a b (run x n) ta tb
+      → NodePut F m m′ x n a b → Became F m m′ (λ d. d ≢ x) (x + 1) (node ta (run x n) tb)
   put-between {m} {m′} {a} {b} {x} {n} {ta} {tb} p put =
       let long = put .long in
       let at-low = p .left .at in
@@ -95,8 +96,8 @@ module _ {F : Form} {bound : ℕ} (readable : Readable F bound) where
       }
 
   -- a tree that was split, and the run between its parts
-  parted-between : {m m₁ : Words} {l x n lo hi k : ℕ} {t : Tree} → Room F bound m l (run x n) t
-      → Parted F bound m m₁ x t lo hi k → Between F bound m₁ lo hi (run x n) (below x t) (above x t)
+  parted-between : {m m₁ : Words} {l x n lo hi k : ℕ} {t : Tree} → Room F m l (run x n) t
+      → Parted F m m₁ x t lo hi k → Between F m₁ lo hi (run x n) (below x t) (above x t)
   parted-between {m} {m₁} {x = x} {n = n} {t = t} p j =
       record {
         left = j .low .tree;
@@ -110,8 +111,8 @@ module _ {F : Form} {bound : ℕ} (readable : Readable F bound) where
       }
 
   room-left : {m : Words} {l c k s : ℕ} {r : Run} {a b : Tree} → s ≡ leftAt F m c
-      → Room F bound m l r (node a (run c k) b)
-      → Room F bound m s r a
+      → Room F m l r (node a (run c k) b)
+      → Room F m s r a
   room-left e p = record {
     tree = at-left readable (p .tree) e;
     apart = p .apart .0;
@@ -121,8 +122,8 @@ module _ {F : Form} {bound : ℕ} (readable : Readable F bound) where
   }
 
   room-right : {m : Words} {l c k s : ℕ} {r : Run} {a b : Tree} → s ≡ rightAt F m c
-      → Room F bound m l r (node a (run c k) b)
-      → Room F bound m s r b
+      → Room F m l r (node a (run c k) b)
+      → Room F m s r b
   room-right e p = record {
     tree = at-right readable (p .tree) e;
     apart = p .apart .3;
@@ -131,21 +132,21 @@ module _ {F : Form} {bound : ℕ} (readable : Readable F bound) where
     zeros = p .zeros;
   }
 
-  room-no-node : {m : Words} {l : ℕ} {r : Run} {t : Tree} → Room F bound m l r t → NotFirst (r .start) t
+  room-no-node : {m : Words} {l : ℕ} {r : Run} {t : Tree} → Room F m l r t → NotFirst (r .start) t
   room-no-node {r = r} {t = t} p =
       apart-no-node r t (r .start) (p .apart) (omega arith) (omega (arith, p .filled))
 
-  pub room-tree : {m : Words} {l : ℕ} {r : Run} → ((t : Tree) × Room F bound m l r t) → (t : Tree) × At F bound m l t
+  pub room-tree : {m : Words} {l : ℕ} {r : Run} → ((t : Tree) × Room F m l r t) → (t : Tree) × At F m l t
   room-tree (t, p) = (t, p .tree)
 
   -- the tree at the link l is split, and its parts are the sons of the run's node
-  module _ {m m₁ : Words} {l x n lo hi i : ℕ} (post : Parts F bound m m₁ l x lo hi i) where
-    pub parts-ready : {a b : ℕ} → a ≡ lo → b ≡ hi → ((t : Tree) × Room F bound m l (run x n) t)
-        → (x < cells F m₁) × (((a < bound) × (b < bound)) × Zeros m₁ (F .cell * x) (F .cell * suc x))
+  module _ {m m₁ : Words} {l x n lo hi i : ℕ} (post : Parts F m m₁ l x lo hi i) where
+    pub parts-ready : {a b : ℕ} → a ≡ lo → b ≡ hi → ((t : Tree) × Room F m l (run x n) t)
+        → (x < cells F m₁) × (((a < F .links) × (b < F .links)) × Zeros m₁ (F .cell * x) (F .cell * suc x))
     parts-ready e f (t, p) = rw (e, f) (between-ready (parted-between p (post t (p .tree))))
 
     pub put-over : {m′ : Words} {j k : ℕ} → NodePut F m₁ m′ x n lo hi × (j ≡ differ 0 lo + differ 0 hi) → k ≡ i + j
-        → PutOver F bound m m′ l (run x n) k
+        → PutOver F m m′ l (run x n) k
     put-over {m′} (put, f) e t p =
         let w = post t (p .tree) in
         let made = put-between (parted-between p w) put in
@@ -159,8 +160,8 @@ module _ {F : Form} {bound : ℕ} (readable : Readable F bound) where
           omega (arith, w .count),
         )
 
-  module _ {m m′ : Words} {l x n k : ℕ} (post : PutOver F bound m m′ l (run x n) k) where
-    pub put-few : ((t : Tree) × Room F bound m l (run x n) t) → k < bound + 2
+  module _ {m m′ : Words} {l x n k : ℕ} (post : PutOver F m m′ l (run x n) k) where
+    pub put-few : ((t : Tree) × Room F m l (run x n) t) → 2 * k < F .links + 4
     put-few (t, p) =
         let count = top-changed (run x n) t (room-no-node p) in
         let few = parts-few x t 0 (cells F m) (p .tree .within) in
@@ -168,19 +169,19 @@ module _ {F : Form} {bound : ℕ} (readable : Readable F bound) where
         omega (arith, post t p .1, at-nodes readable (p .tree))
 
     -- the subtree is where the run is to stand
-    pub insert-here : (t : Tree) → Stops (standsAbove (run x n)) t → Room F bound m l (run x n) t
-        → Became F bound m m′ (NoNodeNor t x) (x + 1) (insert (run x n) t)
+    pub insert-here : (t : Tree) → Stops (standsAbove (run x n)) t → Room F m l (run x n) t
+        → Became F m m′ (NoNodeNor t x) (x + 1) (insert (run x n) t)
     insert-here t e p = rw (insert-top (run x n) t e) (post t p .0)
 
     pub insert-count : {i : ℕ} → i ≡ k + 1 → (t : Tree) → Stops (standsAbove (run x n)) t
-        → Room F bound m l (run x n) t → i ≡ linksChanged t (insert (run x n) t)
+        → Room F m l (run x n) t → i ≡ linksChanged t (insert (run x n) t)
     insert-count f t e p =
         let root = other-link (link-other x t (room-no-node p)) in
         rw (insert-top (run x n) t e) (omega (arith, post t p .1))
 
   -- and above it the insertion goes down to a son
   pub inserts : {m : Words} (r : Run)
-      → Local F bound m (standsAbove r) (r .start) (λ l t. Room F bound m l r t) (insert r)
+      → Local F m (standsAbove r) (r .start) (λ l t. Room F m l r t) (insert r)
       (λ t. NoNodeNor t (r .start))
   inserts {m} r = record {
     tree = λ p. p .tree;
@@ -213,13 +214,13 @@ module _ {F : Form} {bound : ℕ} (readable : Readable F bound) where
   -- ---- deletion
 
   -- there is no run at cell x
-  pub delete-none : {m : Words} {l : ℕ} (x : ℕ) → l ≡ 0 → Deleted F bound m m l x l
+  pub delete-none : {m : Words} {l : ℕ} (x : ℕ) → l ≡ 0 → Deleted F m m l x l
   delete-none {m} {l} x z t p =
-      at-none (λ t. At F bound m l t → Became F bound m m (NoNode t) l (delete x t)) z (unchanged readable) t p p
+      at-none (λ t. At F m l t → Became F m m (NoNode t) l (delete x t)) z (unchanged readable) t p p
 
   -- the sons of the root at the link l lie beside each other
   module _ {m : Words} {l a b : ℕ} (z : l ≢ 0) (left : a ≡ leftAt F m (l - 1)) (right : b ≡ rightAt F m (l - 1)) where
-    sons : {n : ℕ} {ta tb : Tree} → At F bound m l (node ta (run (l - 1) n) tb) → Beside F bound m a b ta tb
+    sons : {n : ℕ} {ta tb : Tree} → At F m l (node ta (run (l - 1) n) tb) → Beside F m a b ta tb
     sons {n} {ta} {tb} p = record {
       left = at-left readable p left;
       right = at-right readable p right;
@@ -228,21 +229,21 @@ module _ {F : Form} {bound : ℕ} (readable : Readable F bound) where
       over = wider tb (l - 1 + n) (l - 1) (cells F m) (cells F m) (omega arith) (omega arith) (p .within .2);
     }
 
-    pub sons-beside : ((t : Tree) × At F bound m l t) → (ta : Tree) × (tb : Tree) × Beside F bound m a b ta tb
+    pub sons-beside : ((t : Tree) × At F m l t) → (ta : Tree) × (tb : Tree) × Beside F m a b ta tb
     sons-beside (t, p) =
-        rooted (λ t. (ta : Tree) × (tb : Tree) × Beside F bound m a b ta tb) z (λ ta n tb p. (ta, tb, sons p)) t p
+        rooted (λ t. (ta : Tree) × (tb : Tree) × Beside F m a b ta tb) z (λ ta n tb p. (ta, tb, sons p)) t p
 
-    pub delete-here : {m′ : Words} {k : ℕ} (x : ℕ) → BothJoined F bound m m′ a b k
-        → (t : Tree) → Stops (beginsAt x) t → At F bound m l t → Became F bound m m′ (NoNode t) k (delete x t)
+    pub delete-here : {m′ : Words} {k : ℕ} (x : ℕ) → BothJoined F m m′ a b k
+        → (t : Tree) → Stops (beginsAt x) t → At F m l t → Became F m m′ (NoNode t) k (delete x t)
     delete-here {m′} {k} x post t e p =
-        rooted (λ t. Stops (beginsAt x) t → Became F bound m m′ (NoNode t) k (delete x t)) z
+        rooted (λ t. Stops (beginsAt x) t → Became F m m′ (NoNode t) k (delete x t)) z
         (λ ta n tb p e.
         let same = eqb-eq (l - 1) x e in
         let j = post ta tb (sons p) in
         rw (of-ge x (l - 1) (omega arith), of-ge (l - 1) x (omega arith))
         (record { tree = j .tree; frame = λ d o. j .frame d (o .0, o .2); long = j .long })) t p e
 
-  pub deletes : {m : Words} (x : ℕ) → Local F bound m (beginsAt x) x (At F bound m) (delete x) NoNode
+  pub deletes : {m : Words} (x : ℕ) → Local F m (beginsAt x) x (At F m) (delete x) NoNode
   deletes {m} x = record {
     tree = λ p. p;
     left = λ {l} {a} {b} {q} p e h s.
@@ -268,17 +269,17 @@ module _ {F : Form} {bound : ℕ} (readable : Readable F bound) where
   }
 
   -- the search for cell x has ended at the link `at`, below the link `over`: the node there is at cell x
-  module _ {m : Words} {l x at over : ℕ} (placed : Placed F bound m l (beginsAt x) x at over) (z : at ≢ 0) where
-    placed-cell : ((T : Tree) × At F bound m l T) → at - 1 ≡ x
+  module _ {m : Words} {l x at over : ℕ} (placed : Placed F m l (beginsAt x) x at over) (z : at ≢ 0) where
+    placed-cell : ((T : Tree) × At F m l T) → at - 1 ≡ x
     placed-cell (T, p) =
         let w = placed T p in
         rooted (λ t. Stops (beginsAt x) t → at - 1 ≡ x) z (λ a n b q e. eqb-eq (at - 1) x e) (w .sub) (w .tree)
         (w .end)
 
-    pub placed-seat : ((T : Tree) × At F bound m l T) → Seat F bound m l at over
+    pub placed-seat : ((T : Tree) × At F m l T) → Seat F m l at over
     placed-seat tree =
-        (z, subst (λ y. Placed F bound m l (beginsAt y) y at over) (sym (placed-cell tree)) placed)
+        (z, subst (λ y. Placed F m l (beginsAt y) y at over) (sym (placed-cell tree)) placed)
 
-    pub seat-deleted : {m′ : Words} {k : ℕ} → Deleted F bound m m′ l (at - 1) k → Deleted F bound m m′ l x k
+    pub seat-deleted : {m′ : Words} {k : ℕ} → Deleted F m m′ l (at - 1) k → Deleted F m m′ l x k
     seat-deleted {m′} {k} done t p =
-        subst (λ y. Became F bound m m′ (NoNode t) k (delete y t)) (placed-cell (t, p)) (done t p)
+        subst (λ y. Became F m m′ (NoNode t) k (delete y t)) (placed-cell (t, p)) (done t p)

@@ -19,14 +19,14 @@ use Rattle.free_tree.proofs.StepLaws.{count, count-at, rooted, at-none,
 use Rattle.free_tree.proofs.StepLaws.{at-right, unchanged}
 use Rattle.free_tree.proofs.StepLaws.{left-kept, right-kept, left-replaced, right-replaced}
 
-module _ {F : Form} {bound : ℕ} (readable : Readable F bound) where
-  pub at-top : {m : Words} {l : ℕ} {t : Tree} → l ≢ 0 → At F bound m l t → lengthAt F m (l - 1) ≡ top t
+module _ {F : Form} (readable : Readable F (F .links)) where
+  pub at-top : {m : Words} {l : ℕ} {t : Tree} → l ≢ 0 → At F m l t → lengthAt F m (l - 1) ≡ top t
   at-top {m} {l} {t} z p = rooted (λ t. lengthAt F m (l - 1) ≡ top t) z (λ a n b p. at-length readable p) t p
 
   -- ---- one root stays on top, and the join goes on down its inner side
 
-  module _ {m : Words} {a b c n : ℕ} {x y tb : Tree} (w : Beside F bound m a b (node x (run c n) y) tb) where
-    inner-left : {s : ℕ} → s ≡ rightAt F m c → Beside F bound m s b y tb
+  module _ {m : Words} {a b c n : ℕ} {x y tb : Tree} (w : Beside F m a b (node x (run c n) y) tb) where
+    inner-left : {s : ℕ} → s ≡ rightAt F m c → Beside F m s b y tb
     inner-left e = record {
       left = at-right readable (w .left) e;
       right = w .right;
@@ -42,15 +42,15 @@ module _ {F : Form} {bound : ℕ} (readable : Readable F bound) where
           no-node-below tb (w .middle) (cells F m) d (w .over) (omega arith),
         )
 
-    left-step : {m₁ m′ : Words} {s : ℕ} → top tb ≤ n → Joined F bound m m₁ y tb s → RightSet F m₁ m′ c s
-        → Joined F bound m m′ (node x (run c n) y) tb a
+    left-step : {m₁ m′ : Words} {s : ℕ} → top tb ≤ n → Joined F m m₁ y tb s → RightSet F m₁ m′ c s
+        → Joined F m m′ (node x (run c n) y) tb a
     left-step h made put =
         rw (join-left x (run c n) y tb h)
         (right-replaced readable (w .left) made (λ d o. ((o .0 .2, o .1), o .0 .1)) put
         (within-join y tb (c + n) (w .middle) (cells F m) (w .under .2) (w .over)) none-inside)
 
-  module _ {m : Words} {a b c n : ℕ} {x y ta : Tree} (w : Beside F bound m a b ta (node x (run c n) y)) where
-    inner-right : {s : ℕ} → s ≡ leftAt F m c → Beside F bound m a s ta x
+  module _ {m : Words} {a b c n : ℕ} {x y ta : Tree} (w : Beside F m a b ta (node x (run c n) y)) where
+    inner-right : {s : ℕ} → s ≡ leftAt F m c → Beside F m a s ta x
     inner-right e =
         let high = within-le y (c + n) (cells F m) (w .over .2) in
         record {
@@ -66,8 +66,8 @@ module _ {F : Form} {bound : ℕ} (readable : Readable F bound) where
         let high = within-le x (w .middle) c (w .over .0) in
         (no-node-above ta 0 (w .middle) d (w .under) (omega arith), no-node-above x (w .middle) c d (w .over .0) h)
 
-    right-step : {m₁ m′ : Words} {s : ℕ} → top ta < n → Joined F bound m m₁ ta x s → LeftSet F m₁ m′ c s
-        → Joined F bound m m′ ta (node x (run c n) y) b
+    right-step : {m₁ m′ : Words} {s : ℕ} → top ta < n → Joined F m m₁ ta x s → LeftSet F m₁ m′ c s
+        → Joined F m m′ ta (node x (run c n) y) b
     right-step h made put =
         rw (join-right ta x (run c n) y h)
         (left-replaced readable (w .right) made (λ d o. ((o .0, o .1 .0), o .1 .1)) put
@@ -80,10 +80,10 @@ module _ {F : Form} {bound : ℕ} (readable : Readable F bound) where
     pub right : b ≢ 0
     pub left-in : a - 1 < cells F m
     pub right-in : b - 1 < cells F m
-    pub left-small : a < bound
-    pub right-small : b < bound
+    pub left-small : a < F .links
+    pub right-small : b < F .links
 
-  pub roots : {m : Words} {a b : ℕ} {ta tb : Tree} → a ≢ 0 → b ≢ 0 → Beside F bound m a b ta tb → Roots m a b
+  pub roots : {m : Words} {a b : ℕ} {ta tb : Tree} → a ≢ 0 → b ≢ 0 → Beside F m a b ta tb → Roots m a b
   roots {ta = ta} {tb = tb} x y w = record {
     left = x;
     right = y;
@@ -93,15 +93,15 @@ module _ {F : Form} {bound : ℕ} (readable : Readable F bound) where
     right-small = at-small readable (w .right);
   }
 
-  pub left-roots : {m : Words} {a b : ℕ} → ((ta : Tree) × (tb : Tree) × LeftWins F bound m a b ta tb) → Roots m a b
+  pub left-roots : {m : Words} {a b : ℕ} → ((ta : Tree) × (tb : Tree) × LeftWins F m a b ta tb) → Roots m a b
   left-roots (ta, tb, w) = roots (w .left-root) (w .right-root) (w .sides)
 
-  pub right-roots : {m : Words} {a b : ℕ} → ((ta : Tree) × (tb : Tree) × RightWins F bound m a b ta tb) → Roots m a b
+  pub right-roots : {m : Words} {a b : ℕ} → ((ta : Tree) × (tb : Tree) × RightWins F m a b ta tb) → Roots m a b
   right-roots (ta, tb, w) = roots (w .left-root) (w .right-root) (w .sides)
 
   -- which root wins, from the lengths that are read
   pub left-wins : {m : Words} {a b : ℕ} {ta tb : Tree} → a ≢ 0 → b ≢ 0 → lengthAt F m (b - 1) ≤ lengthAt F m (a - 1)
-      → Beside F bound m a b ta tb → LeftWins F bound m a b ta tb
+      → Beside F m a b ta tb → LeftWins F m a b ta tb
   left-wins x y h w = record {
     sides = w;
     left-root = x;
@@ -110,7 +110,7 @@ module _ {F : Form} {bound : ℕ} (readable : Readable F bound) where
   }
 
   pub right-wins : {m : Words} {a b : ℕ} {ta tb : Tree} → a ≢ 0 → b ≢ 0 → lengthAt F m (a - 1) < lengthAt F m (b - 1)
-      → Beside F bound m a b ta tb → RightWins F bound m a b ta tb
+      → Beside F m a b ta tb → RightWins F m a b ta tb
   right-wins x y h w = record {
     sides = w;
     left-root = x;
@@ -122,36 +122,36 @@ module _ {F : Form} {bound : ℕ} (readable : Readable F bound) where
 
   module _ {m : Words} {a b s : ℕ} (e : s ≡ rightAt F m (a - 1)) where
     by-left : (P : Tree → Tree → Type 0)
-        → ((x : Tree) (n : ℕ) (y tb : Tree) → LeftWins F bound m a b (node x (run (a - 1) n) y) tb
+        → ((x : Tree) (n : ℕ) (y tb : Tree) → LeftWins F m a b (node x (run (a - 1) n) y) tb
         → P (node x (run (a - 1) n) y) tb)
-        → (ta tb : Tree) → LeftWins F bound m a b ta tb → P ta tb
+        → (ta tb : Tree) → LeftWins F m a b ta tb → P ta tb
     by-left P f ta tb w =
-        rooted (λ t. LeftWins F bound m a b t tb → P t tb) (w .left-root) (λ x n y p. f x n y tb) ta (w .sides .left) w
+        rooted (λ t. LeftWins F m a b t tb → P t tb) (w .left-root) (λ x n y p. f x n y tb) ta (w .sides .left) w
 
-    pub left-end : {m′ : Words} → s ≡ 0 → RightSet F m m′ (a - 1) b → LeftJoined F bound m m′ a b
+    pub left-end : {m′ : Words} → s ≡ 0 → RightSet F m m′ (a - 1) b → LeftJoined F m m′ a b
     left-end {m′} z put =
-        by-left (λ ta tb. Joined F bound m m′ ta tb a)
+        by-left (λ ta tb. Joined F m m′ ta tb a)
         (λ x n y tb w.
-        at-none (λ y. LeftWins F bound m a b (node x (run (a - 1) n) y) tb
-        → Joined F bound m m′ (node x (run (a - 1) n) y) tb a) z
+        at-none (λ y. LeftWins F m a b (node x (run (a - 1) n) y) tb
+        → Joined F m m′ (node x (run (a - 1) n) y) tb a) z
         (λ w. left-step (w .sides) (w .heavier) (unchanged readable (w .sides .right)) put) y
         (at-right readable (w .sides .left) e) w)
 
     -- the son's tree and the second tree, and their nodes are fewer
-    pub left-inner : ((ta : Tree) × (tb : Tree) × LeftWins F bound m a b ta tb)
+    pub left-inner : ((ta : Tree) × (tb : Tree) × LeftWins F m a b ta tb)
         → (count F m s + count F m b < count F m a + count F m b)
-        × ((ta : Tree) × (tb : Tree) × Beside F bound m s b ta tb)
+        × ((ta : Tree) × (tb : Tree) × Beside F m s b ta tb)
     left-inner (ta, tb, w) =
         by-left (λ ta tb. (count F m s + count F m b < count F m a + count F m b)
-        × ((ta : Tree) × (tb : Tree) × Beside F bound m s b ta tb))
+        × ((ta : Tree) × (tb : Tree) × Beside F m s b ta tb))
         (λ x n y tb w.
         let v = inner-left (w .sides) e in
         (omega (arith, count-at readable (v .left), count-at readable (w .sides .left)), (y, tb, v))) ta tb w
 
-    pub left-left : {m′ : Words} → s ≢ 0 → lengthAt F m (b - 1) ≤ lengthAt F m (s - 1) → LeftJoined F bound m m′ s b
-        → LeftJoined F bound m m′ a b
+    pub left-left : {m′ : Words} → s ≢ 0 → lengthAt F m (b - 1) ≤ lengthAt F m (s - 1) → LeftJoined F m m′ s b
+        → LeftJoined F m m′ a b
     left-left {m′} z h post =
-        by-left (λ ta tb. Joined F bound m m′ ta tb a)
+        by-left (λ ta tb. Joined F m m′ ta tb a)
         (λ x n y tb w.
         let v = inner-left (w .sides) e in
         let made = post y tb (left-wins z (w .right-root) h v) in
@@ -160,10 +160,10 @@ module _ {F : Form} {bound : ℕ} (readable : Readable F bound) where
         (none-inside (w .sides) (a - 1) (omega (arith, w .sides .under .1))) e))
 
     pub left-right : {m₁ m′ : Words} → s ≢ 0 → lengthAt F m (s - 1) < lengthAt F m (b - 1)
-        → RightJoined F bound m m₁ s b
-        → RightSet F m₁ m′ (a - 1) b → LeftJoined F bound m m′ a b
+        → RightJoined F m m₁ s b
+        → RightSet F m₁ m′ (a - 1) b → LeftJoined F m m′ a b
     left-right {m′ = m′} z h post put =
-        by-left (λ ta tb. Joined F bound m m′ ta tb a)
+        by-left (λ ta tb. Joined F m m′ ta tb a)
         (λ x n y tb w. left-step (w .sides) (w .heavier)
         (post y tb (right-wins z (w .right-root) h (inner-left (w .sides) e))) put)
 
@@ -171,64 +171,64 @@ module _ {F : Form} {bound : ℕ} (readable : Readable F bound) where
 
   module _ {m : Words} {a b s : ℕ} (e : s ≡ leftAt F m (b - 1)) where
     by-right : (P : Tree → Tree → Type 0)
-        → ((ta x : Tree) (n : ℕ) (y : Tree) → RightWins F bound m a b ta (node x (run (b - 1) n) y)
+        → ((ta x : Tree) (n : ℕ) (y : Tree) → RightWins F m a b ta (node x (run (b - 1) n) y)
         → P ta (node x (run (b - 1) n) y))
-        → (ta tb : Tree) → RightWins F bound m a b ta tb → P ta tb
+        → (ta tb : Tree) → RightWins F m a b ta tb → P ta tb
     by-right P f ta tb w =
-        rooted (λ t. RightWins F bound m a b ta t → P ta t) (w .right-root) (λ x n y p. f ta x n y) tb
+        rooted (λ t. RightWins F m a b ta t → P ta t) (w .right-root) (λ x n y p. f ta x n y) tb
         (w .sides .right) w
 
-    pub right-end : {m′ : Words} → s ≡ 0 → LeftSet F m m′ (b - 1) a → RightJoined F bound m m′ a b
+    pub right-end : {m′ : Words} → s ≡ 0 → LeftSet F m m′ (b - 1) a → RightJoined F m m′ a b
     right-end {m′} z put =
-        by-right (λ ta tb. Joined F bound m m′ ta tb b)
+        by-right (λ ta tb. Joined F m m′ ta tb b)
         (λ ta x n y w.
-        at-none (λ x. RightWins F bound m a b ta (node x (run (b - 1) n) y)
-        → Joined F bound m m′ ta (node x (run (b - 1) n) y) b) z
+        at-none (λ x. RightWins F m a b ta (node x (run (b - 1) n) y)
+        → Joined F m m′ ta (node x (run (b - 1) n) y) b) z
         (λ w. right-step (w .sides) (w .heavier) (rw (join-none ta) (unchanged readable (w .sides .left))) put)
         x (at-left readable (w .sides .right) e) w)
 
-    pub right-inner : ((ta : Tree) × (tb : Tree) × RightWins F bound m a b ta tb)
+    pub right-inner : ((ta : Tree) × (tb : Tree) × RightWins F m a b ta tb)
         → (count F m a + count F m s < count F m a + count F m b)
-        × ((ta : Tree) × (tb : Tree) × Beside F bound m a s ta tb)
+        × ((ta : Tree) × (tb : Tree) × Beside F m a s ta tb)
     right-inner (ta, tb, w) =
         by-right (λ ta tb. (count F m a + count F m s < count F m a + count F m b)
-        × ((ta : Tree) × (tb : Tree) × Beside F bound m a s ta tb))
+        × ((ta : Tree) × (tb : Tree) × Beside F m a s ta tb))
         (λ ta x n y w.
         let v = inner-right (w .sides) e in
         (omega (arith, count-at readable (v .right), count-at readable (w .sides .right)), (ta, x, v))) ta tb w
 
-    pub right-right : {m′ : Words} → s ≢ 0 → lengthAt F m (a - 1) < lengthAt F m (s - 1) → RightJoined F bound m m′ a s
-        → RightJoined F bound m m′ a b
+    pub right-right : {m′ : Words} → s ≢ 0 → lengthAt F m (a - 1) < lengthAt F m (s - 1) → RightJoined F m m′ a s
+        → RightJoined F m m′ a b
     right-right {m′} z h post =
-        by-right (λ ta tb. Joined F bound m m′ ta tb b)
+        by-right (λ ta tb. Joined F m m′ ta tb b)
         (λ ta x n y w.
         let v = inner-right (w .sides) e in
         let made = post ta x (right-wins (w .left-root) z h v) in
         right-step (w .sides) (w .heavier) made
         (left-kept readable (w .sides .right) made (none-outside (w .sides) (b - 1) (omega arith)) e))
 
-    pub right-left : {m₁ m′ : Words} → s ≢ 0 → lengthAt F m (s - 1) ≤ lengthAt F m (a - 1) → LeftJoined F bound m m₁ a s
-        → LeftSet F m₁ m′ (b - 1) a → RightJoined F bound m m′ a b
+    pub right-left : {m₁ m′ : Words} → s ≢ 0 → lengthAt F m (s - 1) ≤ lengthAt F m (a - 1) → LeftJoined F m m₁ a s
+        → LeftSet F m₁ m′ (b - 1) a → RightJoined F m m′ a b
     right-left {m′ = m′} z h post put =
-        by-right (λ ta tb. Joined F bound m m′ ta tb b)
+        by-right (λ ta tb. Joined F m m′ ta tb b)
         (λ ta x n y w. right-step (w .sides) (w .heavier)
         (post ta x (left-wins (w .left-root) z h (inner-right (w .sides) e))) put)
 
   -- ---- two trees of which either may be empty
 
-  pub both-none-left : {m : Words} {a b : ℕ} → a ≡ 0 → BothJoined F bound m m a b b
+  pub both-none-left : {m : Words} {a b : ℕ} → a ≡ 0 → BothJoined F m m a b b
   both-none-left {m} {a} {b} z ta tb w =
-      at-none (λ ta. Joined F bound m m ta tb b) z (unchanged readable (w .right)) ta (w .left)
+      at-none (λ ta. Joined F m m ta tb b) z (unchanged readable (w .right)) ta (w .left)
 
-  pub both-none-right : {m : Words} {a b : ℕ} → b ≡ 0 → BothJoined F bound m m a b a
+  pub both-none-right : {m : Words} {a b : ℕ} → b ≡ 0 → BothJoined F m m a b a
   both-none-right {m} {a} {b} z ta tb w =
-      at-none (λ tb. Joined F bound m m ta tb a) z (rw (join-none ta) (unchanged readable (w .left))) tb (w .right)
+      at-none (λ tb. Joined F m m ta tb a) z (rw (join-none ta) (unchanged readable (w .left))) tb (w .right)
 
   module _ {m m′ : Words} {a b : ℕ} (x : a ≢ 0) (y : b ≢ 0) where
-    pub both-left : lengthAt F m (b - 1) ≤ lengthAt F m (a - 1) → LeftJoined F bound m m′ a b
-        → BothJoined F bound m m′ a b a
+    pub both-left : lengthAt F m (b - 1) ≤ lengthAt F m (a - 1) → LeftJoined F m m′ a b
+        → BothJoined F m m′ a b a
     both-left h post ta tb w = post ta tb (left-wins x y h w)
 
-    pub both-right : lengthAt F m (a - 1) < lengthAt F m (b - 1) → RightJoined F bound m m′ a b
-        → BothJoined F bound m m′ a b b
+    pub both-right : lengthAt F m (a - 1) < lengthAt F m (b - 1) → RightJoined F m m′ a b
+        → BothJoined F m m′ a b b
     both-right h post ta tb w = post ta tb (right-wins x y h w)

@@ -1,6 +1,6 @@
 -- The split by address in an arena, over the form: one law for each way through it. Assumes of a form that its nodes
 -- are readable.
-use Prim.Native.Nat.{ℕ, _+_, _-_, _≤_, _<_}
+use Prim.Native.Nat.{ℕ, _+_, _-_, _*_, _≤_, _<_}
 use native.Mathlib.Omega.{arith}
 use mathlib.Core.Path.{_≡_, refl, sym, ap₂, _∙_, subst}
 use mathlib.Core.Logic.{_≢_}
@@ -17,29 +17,29 @@ use Rattle.free_tree.proofs.PartLaws.{within-below, within-above}
 use Rattle.free_tree.proofs.LinkLaws.{parts-of-left, parts-of-right, parts-few, below-link, above-link}
 use Rattle.free_tree.proofs.CellLaws.{no-node-below, no-node-above}
 use Rattle.free_tree.proofs.StepLaws.{rooted, at-none, at-small, at-left, at-right, at-nodes, unchanged}
-use Rattle.free_tree.proofs.StepLaws.{still, left-replaced, right-replaced, left-kept, right-kept}
+use Rattle.free_tree.proofs.StepLaws.{still, reads-node, left-replaced, right-replaced, left-kept, right-kept}
 
-module _ {F : Form} {bound : ℕ} (readable : Readable F bound) where
-  pub parts-none : {m : Words} {l : ℕ} (x : ℕ) → l ≡ 0 → Parts F bound m m l x 0 0 0
+module _ {F : Form} (readable : Readable F (F .links)) where
+  pub parts-none : {m : Words} {l : ℕ} (x : ℕ) → l ≡ 0 → Parts F m m l x 0 0 0
   parts-none {m} x z t p =
-      at-none (λ t. Parted F bound m m x t 0 0 0) z (record { low = none; high = none; count = refl }) t p
+      at-none (λ t. Parted F m m x t 0 0 0) z (record { low = none; high = none; count = refl }) t p
     where
-      none : {off : ℕ → Type 0} → Became F bound m m off 0 leaf
+      none : {off : ℕ → Type 0} → Became F m m off 0 leaf
       none = unchanged readable (record { at = refl; holds = tt; within = omega arith; small = p .small })
 
   -- the link to one part and the count, read off one number
   module _ {m m′ : Words} {l x lo hi n : ℕ} (k : ℕ) where
-    pub lower-read : (linkOf k ≡ lo) × (countOf k ≡ n) → Parts F bound m m′ l x lo hi n
-        → Parts F bound m m′ l x (linkOf k) hi (countOf k)
+    pub lower-read : (linkOf k ≡ lo) × (countOf k ≡ n) → Parts F m m′ l x lo hi n
+        → Parts F m m′ l x (linkOf k) hi (countOf k)
     lower-read (e, f) p = rw (e, f) p
 
-    pub upper-read : (linkOf k ≡ hi) × (countOf k ≡ n) → Parts F bound m m′ l x lo hi n
-        → Parts F bound m m′ l x lo (linkOf k) (countOf k)
+    pub upper-read : (linkOf k ≡ hi) × (countOf k ≡ n) → Parts F m m′ l x lo hi n
+        → Parts F m m′ l x lo (linkOf k) (countOf k)
     upper-read (e, f) p = rw (e, f) p
 
   -- both parts' links are small, and so is the number of links stored
-  pub parts-small : {m m′ : Words} {l x lo hi n : ℕ} → Parts F bound m m′ l x lo hi n → ((t : Tree) × At F bound m l t)
-      → (lo < bound) × (hi < bound) × (n < bound)
+  pub parts-small : {m m′ : Words} {l x lo hi n : ℕ} → Parts F m m′ l x lo hi n → ((t : Tree) × At F m l t)
+      → (lo < F .links) × (hi < F .links) × (2 * n < F .links)
   parts-small {m} {x = x} post (t, p) =
       let j = post t p in
       let few = parts-few x t 0 (cells F m) (p .within) in (
@@ -48,13 +48,13 @@ module _ {F : Form} {bound : ℕ} (readable : Readable F bound) where
         omega (arith, few, at-nodes readable p, j .count),
       )
 
-  module _ {m m₁ : Words} {l x s lo hi n : ℕ} (z : l ≢ 0) (post : Parts F bound m m₁ s x lo hi n) where
+  module _ {m m₁ : Words} {l x s lo hi n : ℕ} (z : l ≢ 0) (post : Parts F m m₁ s x lo hi n) where
     -- ---- down the right side: the root stays that of the lower part
 
     module _ (e : s ≡ rightAt F m (l - 1)) (h : l - 1 < x) where
-      put-right : {m′ : Words} → RightSet F m₁ m′ (l - 1) lo → Parts F bound m m′ l x l hi (differ s lo + n)
+      put-right : {m′ : Words} → RightSet F m₁ m′ (l - 1) lo → Parts F m m′ l x l hi (differ s lo + n)
       put-right {m′} put =
-          rooted (λ t. Parted F bound m m′ x t l hi (differ s lo + n)) z
+          rooted (λ t. Parted F m m′ x t l hi (differ s lo + n)) z
           (λ a i b p.
           let c = l - 1 in
           let some = p .within .1 in
@@ -69,7 +69,8 @@ module _ {F : Form} {bound : ℕ} (readable : Readable F bound) where
                 (λ d u. no-node-below b (c + i) (cells F m) d place u));
             high =
                 rw (of-lt c x h)
-                (still readable (c + i) (cells F m) (j .high) (within-above x b (c + i) (cells F m) place) put
+                (still readable (c + i) (cells F m) (j .high) (within-above x b (c + i) (cells F m) place)
+                (put (reads-node readable p (j .high) (no-node-below b (c + i) (cells F m) c place (omega arith))))
                 (λ d u v w. omega arith) out);
             count =
                 sym (parts-of-right a (run c i) b 0 (cells F m) (p .within) h
@@ -77,35 +78,35 @@ module _ {F : Form} {bound : ℕ} (readable : Readable F bound) where
           })
 
       -- the son's link stays
-      pub right-stays : lo ≡ s → Parts F bound m m₁ l x l hi n
+      pub right-stays : lo ≡ s → Parts F m m₁ l x l hi n
       right-stays f =
-          rooted (λ t. Parted F bound m m₁ x t l hi n) z
+          rooted (λ t. Parted F m m₁ x t l hi n) z
           (λ a i b p.
           let c = l - 1 in
           let away = no-node-below b (c + i) (cells F m) c (p .within .2) (omega (arith, p .within .1)) in
           let kept = right-kept readable p (post b (at-right readable p e) .low) away (f ∙ e) in
           let same : differ s lo + n ≡ n = omega (arith, same-link (sym f)) in
-          subst (Parted F bound m m₁ x (node a (run c i) b) l hi) same (put-right kept (node a (run c i) b) p))
+          subst (Parted F m m₁ x (node a (run c i) b) l hi) same (put-right kept (node a (run c i) b) p))
 
       -- the son is the root of the upper part
       pub right-turns : {m′ : Words} {k : ℕ} → s ≢ 0 → x ≤ s - 1 → RightSet F m₁ m′ (l - 1) lo → k ≡ n + 1
-          → Parts F bound m m′ l x l hi k
+          → Parts F m m′ l x l hi k
       right-turns {m′} {k} y g put f =
-          rooted (λ t. Parted F bound m m′ x t l hi k) z
+          rooted (λ t. Parted F m m′ x t l hi k) z
           (λ a i b p.
           let under = below-link x b in
           let at = post b (at-right readable p e) .low .tree .at in
           let other = other-link {x = s} {y = lo} (λ w. omega arith) in
           let more : differ s lo + n ≡ k = omega arith in
-          subst (Parted F bound m m′ x (node a (run (l - 1) i) b) l hi) more
+          subst (Parted F m m′ x (node a (run (l - 1) i) b) l hi) more
           (put-right put (node a (run (l - 1) i) b) p))
 
     -- ---- down the left side: the root stays that of the upper part
 
     module _ (e : s ≡ leftAt F m (l - 1)) (h : x ≤ l - 1) where
-      put-left : {m′ : Words} → LeftSet F m₁ m′ (l - 1) hi → Parts F bound m m′ l x lo l (differ s hi + n)
+      put-left : {m′ : Words} → LeftSet F m₁ m′ (l - 1) hi → Parts F m m′ l x lo l (differ s hi + n)
       put-left {m′} put =
-          rooted (λ t. Parted F bound m m′ x t lo l (differ s hi + n)) z
+          rooted (λ t. Parted F m m′ x t lo l (differ s hi + n)) z
           (λ a i b p.
           let c = l - 1 in
           let place = p .within .0 in
@@ -115,7 +116,9 @@ module _ {F : Form} {bound : ℕ} (readable : Readable F bound) where
           record {
             low =
                 rw (of-ge c x h)
-                (still readable 0 c (j .low) (within-below x a 0 c place) put (λ d u v w. omega arith) out);
+                (still readable 0 c (j .low) (within-below x a 0 c place)
+                (put (reads-node readable p (j .low) (no-node-above a 0 c c place (omega arith))))
+                (λ d u v w. omega arith) out);
             high =
                 rw (of-ge c x h)
                 (left-replaced readable p (j .high) out put (within-above x a 0 c place)
@@ -125,24 +128,24 @@ module _ {F : Form} {bound : ℕ} (readable : Readable F bound) where
                 ∙ ap₂ (λ x y. x + y) (ap₂ differ (son .at) (j .high .tree .at)) (sym (j .count)));
           })
 
-      pub left-stays : hi ≡ s → Parts F bound m m₁ l x lo l n
+      pub left-stays : hi ≡ s → Parts F m m₁ l x lo l n
       left-stays f =
-          rooted (λ t. Parted F bound m m₁ x t lo l n) z
+          rooted (λ t. Parted F m m₁ x t lo l n) z
           (λ a i b p.
           let c = l - 1 in
           let away = no-node-above a 0 c c (p .within .0) (omega arith) in
           let kept = left-kept readable p (post a (at-left readable p e) .high) away (f ∙ e) in
           let same : differ s hi + n ≡ n = omega (arith, same-link (sym f)) in
-          subst (Parted F bound m m₁ x (node a (run c i) b) lo l) same (put-left kept (node a (run c i) b) p))
+          subst (Parted F m m₁ x (node a (run c i) b) lo l) same (put-left kept (node a (run c i) b) p))
 
       pub left-turns : {m′ : Words} {k : ℕ} → s ≢ 0 → s - 1 < x → LeftSet F m₁ m′ (l - 1) hi → k ≡ n + 1
-          → Parts F bound m m′ l x lo l k
+          → Parts F m m′ l x lo l k
       left-turns {m′} {k} y g put f =
-          rooted (λ t. Parted F bound m m′ x t lo l k) z
+          rooted (λ t. Parted F m m′ x t lo l k) z
           (λ a i b p.
           let at = post a (at-left readable p e) .high .tree .at in
           let other =
           other-link {x = s} {y = hi} (λ w. let over = above-link x a (λ v. omega arith) in omega arith) in
           let more : differ s hi + n ≡ k = omega arith in
-          subst (Parted F bound m m′ x (node a (run (l - 1) i) b) lo l) more
+          subst (Parted F m m′ x (node a (run (l - 1) i) b) lo l) more
           (put-left put (node a (run (l - 1) i) b) p))

@@ -21,47 +21,47 @@ use Rattle.free_tree.proofs.StepLaws.{left-kept, right-kept, left-repla
 -- ---- the way down
 
 -- where the search is: at the subtree at the link `at`, whose father has the link `over`
-abbrev pub Seeking : Form → ℕ → Words → ℕ → (Run → Bool) → ℕ → ℕ → ℕ → Type 0
-Seeking F bound m l stop x at over =
-    (T : Tree) → At F bound m l T → (t : Tree) × At F bound m at t × Under stop x T t over
+abbrev pub Seeking : Form → Words → ℕ → (Run → Bool) → ℕ → ℕ → ℕ → Type 0
+Seeking F m l stop x at over =
+    (T : Tree) → At F m l T → (t : Tree) × At F m at t × Under stop x T t over
 
-module _ {F : Form} {bound : ℕ} (readable : Readable F bound) where
-  pub seek-start : {m : Words} {l : ℕ} (stop : Run → Bool) (x : ℕ) → Seeking F bound m l stop x l 0
+module _ {F : Form} (readable : Readable F (F .links)) where
+  pub seek-start : {m : Words} {l : ℕ} (stop : Run → Bool) (x : ℕ) → Seeking F m l stop x l 0
   seek-start stop x T p = (T, p, whole)
 
-  module _ {m : Words} {l at over x : ℕ} {stop : Run → Bool} (inv : Seeking F bound m l stop x at over) where
-    pub seek-tree : ((T : Tree) × At F bound m l T) → (t : Tree) × At F bound m at t
+  module _ {m : Words} {l at over x : ℕ} {stop : Run → Bool} (inv : Seeking F m l stop x at over) where
+    pub seek-tree : ((T : Tree) × At F m l T) → (t : Tree) × At F m at t
     seek-tree (T, p) = let (t, q, w) = inv T p in (t, q)
 
-    pub seek-end : at ≡ 0 → Placed F bound m l stop x at over
+    pub seek-end : at ≡ 0 → Placed F m l stop x at over
     seek-end z T p =
         let (t, q, w) = inv T p in
         record { sub = t; tree = q; way = w; end = at-none (Stops stop) z tt t q }
 
     -- k is the root's length
     module _ {k : ℕ} (z : at ≢ 0) (len : k ≡ lengthAt F m (at - 1)) where
-      pub seek-stop : stop (run (at - 1) k) ≡ true → Placed F bound m l stop x at over
+      pub seek-stop : stop (run (at - 1) k) ≡ true → Placed F m l stop x at over
       seek-stop e T p =
           let (t, q, w) = inv T p in
           record { sub = t; tree = q; way = w; end = rooted-length readable (Stops stop) z len (λ a b q. e) t q }
 
       module _ {s : ℕ} (e : stop (run (at - 1) k) ≡ false) where
-        pub seek-left : s ≡ leftAt F m (at - 1) → x < at - 1 → Seeking F bound m l stop x s at
+        pub seek-left : s ≡ leftAt F m (at - 1) → x < at - 1 → Seeking F m l stop x s at
         seek-left f h T p =
             let (t, q, w) = inv T p in
             rooted-length readable
-            (λ t. Under stop x T t over → (t : Tree) × At F bound m s t × Under stop x T t at) z len
+            (λ t. Under stop x T t over → (t : Tree) × At F m s t × Under stop x T t at) z len
             (λ a b q w. (a, at-left readable q f, subst (Under stop x T a) (q .at) (goLeft w e h))) t q w
 
-        pub seek-right : s ≡ rightAt F m (at - 1) → at - 1 ≤ x → Seeking F bound m l stop x s at
+        pub seek-right : s ≡ rightAt F m (at - 1) → at - 1 ≤ x → Seeking F m l stop x s at
         seek-right f h T p =
             let (t, q, w) = inv T p in
             rooted-length readable
-            (λ t. Under stop x T t over → (t : Tree) × At F bound m s t × Under stop x T t at) z len
+            (λ t. Under stop x T t over → (t : Tree) × At F m s t × Under stop x T t at) z len
             (λ a b q w. (b, at-right readable q f, subst (Under stop x T b) (q .at) (goRight w e h))) t q w
 
-  pub place-at : {m : Words} {l at over x : ℕ} {stop : Run → Bool} → Placed F bound m l stop x at over
-      → ((T : Tree) × At F bound m l T) → (t : Tree) × At F bound m at t
+  pub place-at : {m : Words} {l at over x : ℕ} {stop : Run → Bool} → Placed F m l stop x at over
+      → ((T : Tree) × At F m l T) → (t : Tree) × At F m at t
   place-at placed (T, p) = let w = placed T p in (w .sub, w .tree)
 
 -- ---- attached to the father
@@ -101,9 +101,9 @@ pub record InRight (end : ℕ) (R : ℕ → Tree → Type 0) (f : Tree → Tree)
   pub out : (d : ℕ) → off (node a q b) d → off b d × (d ≢ q .start)
 
 -- so it is at each node that does not stop the search for cell x
-pub record Local (F : Form) (bound : ℕ) (m : Words) (stop : Run → Bool) (x : ℕ) (R : ℕ → Tree → Type 0)
+pub record Local (F : Form) (m : Words) (stop : Run → Bool) (x : ℕ) (R : ℕ → Tree → Type 0)
     (f : Tree → Tree) (off : Tree → ℕ → Type 0) : Type 0 where
-  pub tree : {l : ℕ} {t : Tree} → R l t → At F bound m l t
+  pub tree : {l : ℕ} {t : Tree} → R l t → At F m l t
   pub left : {l : ℕ} {a b : Tree} {q : Run} → R l (node a q b) → stop q ≡ false → x < q .start
       → link a ≡ leftAt F m (q .start) → InLeft R f off a q b
   pub right : {l : ℕ} {a b : Tree} {q : Run} → R l (node a q b) → stop q ≡ false → q .start ≤ x
@@ -111,21 +111,21 @@ pub record Local (F : Form) (bound : ℕ) (m : Words) (stop : Run → Bool) (x :
 
 -- ---- and up again
 
-module _ {F : Form} {bound : ℕ} (readable : Readable F bound) {m : Words} {stop : Run → Bool} {x : ℕ}
-    {R : ℕ → Tree → Type 0} {f : Tree → Tree} {off : Tree → ℕ → Type 0} (local : Local F bound m stop x R f off) where
+module _ {F : Form} (readable : Readable F (F .links)) {m : Words} {stop : Run → Bool} {x : ℕ}
+    {R : ℕ → Tree → Type 0} {f : Tree → Tree} {off : Tree → ℕ → Type 0} (local : Local F m stop x R f off) where
   -- What the change of the subtree t does to the tree T at the link l: where t keeps its link, and where its new link
   -- is attached to its father.
   record Carried (l : ℕ) (T t : Tree) (over : ℕ) : Type 0 where
     here : R (link t) t
     inside : over ≤ cells F m
-    stay : {m₁ : Words} → Became F bound m m₁ (off t) (link t) (f t) → Became F bound m m₁ (off T) l (f T)
-    attached : {m₁ m′ : Words} {q k : ℕ} → Became F bound m m₁ (off t) q (f t) → Attached F m₁ m′ l over x q k
-        → Became F bound m m′ (off T) k (f T)
+    stay : {m₁ : Words} → Became F m m₁ (off t) (link t) (f t) → Became F m m₁ (off T) l (f T)
+    attached : {m₁ m′ : Words} {q k : ℕ} → Became F m m₁ (off t) q (f t) → Attached F m₁ m′ l over x q k
+        → Became F m m′ (off T) k (f T)
     changed : linksChanged T (f T) ≡ linksChanged t (f t)
 
   module _ {l : ℕ} {T : Tree} where
     module _ {a b : Tree} {q : Run} {over : ℕ} (up : Carried l T (node a q b) over) (e : stop q ≡ false) where
-      abbrev root : At F bound m (suc (q .start)) (node a q b)
+      abbrev root : At F m (suc (q .start)) (node a q b)
       root = local .tree (up .here)
 
       root-inside : suc (q .start) ≤ cells F m
@@ -135,8 +135,8 @@ module _ {F : Form} {bound : ℕ} (readable : Readable F bound) {m : Words} {sto
         abbrev in-left : InLeft R f off a q b
         in-left = local .left (up .here) e h (at-left readable root refl .at)
 
-        left-up : {m₁ m′ : Words} {s : ℕ} → Became F bound m m₁ (off a) s (f a) → LeftSet F m₁ m′ (q .start) s
-            → Became F bound m m′ (off T) l (f T)
+        left-up : {m₁ m′ : Words} {s : ℕ} → Became F m m₁ (off a) s (f a) → LeftSet F m₁ m′ (q .start) s
+            → Became F m m′ (off T) l (f T)
         left-up {m₁} {m′} made put =
             up .stay
             (rw (in-left .same)
@@ -159,8 +159,8 @@ module _ {F : Form} {bound : ℕ} (readable : Readable F bound) {m : Words} {sto
         abbrev in-right : InRight (cells F m) R f off a q b
         in-right = local .right (up .here) e h (at-right readable root refl .at)
 
-        right-up : {m₁ m′ : Words} {s : ℕ} → Became F bound m m₁ (off b) s (f b) → RightSet F m₁ m′ (q .start) s
-            → Became F bound m m′ (off T) l (f T)
+        right-up : {m₁ m′ : Words} {s : ℕ} → Became F m m₁ (off b) s (f b) → RightSet F m₁ m′ (q .start) s
+            → Became F m m′ (off T) l (f T)
         right-up {m₁} {m′} made put =
             up .stay
             (rw (in-right .same)
@@ -192,8 +192,8 @@ module _ {F : Form} {bound : ℕ} (readable : Readable F bound) {m : Words} {sto
     carried p (goRight w e h) = carried-right (carried p w) e h
 
   -- the search ended at the link `at`, below the link `over`
-  module _ {l at over : ℕ} (placed : Placed F bound m l stop x at over) where
-    there : {T : Tree} → R l T → (w : Place F bound m stop x T at over) → R at (w .sub)
+  module _ {l at over : ℕ} (placed : Placed F m l stop x at over) where
+    there : {T : Tree} → R l T → (w : Place F m stop x T at over) → R at (w .sub)
     there p w = rw (w .tree .at) at (carried p (w .way) .here)
 
     pub place-tree : ((T : Tree) × R l T) → (t : Tree) × Stops stop t × R at t
@@ -210,16 +210,16 @@ module _ {F : Form} {bound : ℕ} (readable : Readable F bound) {m : Words} {sto
         count (w .sub) (w .end) (there p w) ∙ sym (carried p (w .way) .changed)
 
     -- nothing was to change there
-    pub place-kept : ((t : Tree) → R at t → Became F bound m m (off t) at (f t))
-        → (T : Tree) → R l T → Became F bound m m (off T) l (f T)
+    pub place-kept : ((t : Tree) → R at t → Became F m m (off t) at (f t))
+        → (T : Tree) → R l T → Became F m m (off T) l (f T)
     place-kept made T p =
         let w = placed T (local .tree p) in
         carried p (w .way) .stay (rw (w .tree .at) (made (w .sub) (there p w)))
 
     -- the subtree there was changed
     module _ {m₁ : Words} {q : ℕ}
-        (made : (t : Tree) → Stops stop t → R at t → Became F bound m m₁ (off t) q (f t)) where
-      pub place-ready : ((T : Tree) × R l T) → (over ≤ cells F m₁) × (q < bound) × (l < bound)
+        (made : (t : Tree) → Stops stop t → R at t → Became F m m₁ (off t) q (f t)) where
+      pub place-ready : ((T : Tree) × R l T) → (over ≤ cells F m₁) × (q < F .links) × (l < F .links)
       place-ready (T, p) =
           let w = placed T (local .tree p) in
           let done = made (w .sub) (w .end) (there p w) in
@@ -227,7 +227,7 @@ module _ {F : Form} {bound : ℕ} (readable : Readable F bound) {m : Words} {sto
           (rw (done .long) (carried p (w .way) .inside), at-small readable (done .tree), root)
 
       pub place-attached : {m′ : Words} {k : ℕ} → Attached F m₁ m′ l over x q k
-          → (T : Tree) → R l T → Became F bound m m′ (off T) k (f T)
+          → (T : Tree) → R l T → Became F m m′ (off T) k (f T)
       place-attached put T p =
           let w = placed T (local .tree p) in
           carried p (w .way) .attached (made (w .sub) (w .end) (there p w)) put

@@ -41,43 +41,43 @@ fit-left n a q b d h = rw (of-le n (q .size) h) (go (rootFits n a))
     go false = refl
 
 -- what the search for n cells at the link l has left to find; d is the last link that fitted
-abbrev pub FitLeft : Form → ℕ → Words → ℕ → ℕ → ℕ → ℕ → Type 0
-FitLeft F bound m root n l d =
-    (T : Tree) → At F bound m root T → (t : Tree) × At F bound m l t × (linkTo (leftmost n T) ≡ fitOr n t d)
+abbrev pub FitLeft : Form → Words → ℕ → ℕ → ℕ → ℕ → Type 0
+FitLeft F m root n l d =
+    (T : Tree) → At F m root T → (t : Tree) × At F m l t × (linkTo (leftmost n T) ≡ fitOr n t d)
 
 -- From the root to the subtree at the link l the way goes left alone, and its father is at the link `over`. So it is
 -- the way to any cell below the nodes on it.
-abbrev pub OnLeft : Form → ℕ → Words → ℕ → ℕ → ℕ → Type 0
-OnLeft F bound m root l over =
-    (T : Tree) → At F bound m root T
-    → (t : Tree) × At F bound m l t × (h : ℕ) × Within 0 h t × ((x : ℕ) → x < h → Under (beginsAt x) x T t over)
+abbrev pub OnLeft : Form → Words → ℕ → ℕ → ℕ → Type 0
+OnLeft F m root l over =
+    (T : Tree) → At F m root T
+    → (t : Tree) × At F m l t × (h : ℕ) × Within 0 h t × ((x : ℕ) → x < h → Under (beginsAt x) x T t over)
 
-module _ {F : Form} {bound : ℕ} (readable : Readable F bound) where
+module _ {F : Form} (readable : Readable F (F .links)) where
   -- ---- leftmost fit
 
-  pub fit-start : {m : Words} {root : ℕ} (n : ℕ) → FitLeft F bound m root n root 0
+  pub fit-start : {m : Words} {root : ℕ} (n : ℕ) → FitLeft F m root n root 0
   fit-start n T p = (T, p, fit-none n T)
 
-  pub fit-tree : {m : Words} {root n l d : ℕ} → FitLeft F bound m root n l d → ((T : Tree) × At F bound m root T)
-      → (t : Tree) × At F bound m l t
+  pub fit-tree : {m : Words} {root n l d : ℕ} → FitLeft F m root n l d → ((T : Tree) × At F m root T)
+      → (t : Tree) × At F m l t
   fit-tree inv (T, p) = let (t, q, e) = inv T p in (t, q)
 
-  pub fit-end : {m : Words} {root n l d : ℕ} → l ≡ 0 → FitLeft F bound m root n l d → LeftmostFound F bound m root n d
+  pub fit-end : {m : Words} {root n l d : ℕ} → l ≡ 0 → FitLeft F m root n l d → LeftmostFound F m root n d
   fit-end {n = n} {d = d} z inv T p = let (t, q, e) = inv T p in sym (e ∙ at-none (λ t. fitOr n t d ≡ d) z refl t q)
 
   module _ {m : Words} {root n l d k : ℕ} (z : l ≢ 0) (len : k ≡ lengthAt F m (l - 1))
-      (inv : FitLeft F bound m root n l d) where
-    pub fit-stop : k < n → LeftmostFound F bound m root n d
+      (inv : FitLeft F m root n l d) where
+    pub fit-stop : k < n → LeftmostFound F m root n d
     fit-stop h T p =
         let (t, q, e) = inv T p in
         sym (e ∙ rooted-length readable (λ t. fitOr n t d ≡ d) z len (λ a b q. rw (of-gt n k h)) t q)
 
-    pub fit-next : {s : ℕ} → s ≡ leftAt F m (l - 1) → n ≤ k → FitLeft F bound m root n s l
+    pub fit-next : {s : ℕ} → s ≡ leftAt F m (l - 1) → n ≤ k → FitLeft F m root n s l
     fit-next {s} f h T p =
         let (t, q, e) = inv T p in
         rooted-length readable
         (λ t. linkTo (leftmost n T) ≡ fitOr n t d
-        → (t : Tree) × At F bound m s t × (linkTo (leftmost n T) ≡ fitOr n t l)) z len
+        → (t : Tree) × At F m s t × (linkTo (leftmost n T) ≡ fitOr n t l)) z len
         (λ a b q e. (
           a,
           at-left readable q f,
@@ -86,16 +86,16 @@ module _ {F : Form} {bound : ℕ} (readable : Readable F bound) where
 
   -- ---- the way to it
 
-  pub left-start : {m : Words} {root : ℕ} → OnLeft F bound m root root 0
+  pub left-start : {m : Words} {root : ℕ} → OnLeft F m root root 0
   left-start {m} T p = (T, p, cells F m, p .within, λ x h. whole)
 
-  module _ {m : Words} {root l over : ℕ} (z : l ≢ 0) (inv : OnLeft F bound m root l over) where
-    pub left-next : {s : ℕ} → s ≡ leftAt F m (l - 1) → OnLeft F bound m root s l
+  module _ {m : Words} {root l over : ℕ} (z : l ≢ 0) (inv : OnLeft F m root l over) where
+    pub left-next : {s : ℕ} → s ≡ leftAt F m (l - 1) → OnLeft F m root s l
     left-next {s} f T p =
         let (t, q, h, w, u) = inv T p in
         rooted
         (λ t. Within 0 h t → ((x : ℕ) → x < h → Under (beginsAt x) x T t over)
-        → (t : Tree) × At F bound m s t × (h : ℕ) × Within 0 h t × ((x : ℕ) → x < h → Under (beginsAt x) x T t l)) z
+        → (t : Tree) × At F m s t × (h : ℕ) × Within 0 h t × ((x : ℕ) → x < h → Under (beginsAt x) x T t l)) z
         (λ a n b q w u. (
           a,
           at-left readable q f,
@@ -105,7 +105,7 @@ module _ {F : Form} {bound : ℕ} (readable : Readable F bound) where
               (goLeft (u x (omega (arith, within-le b (l - 1 + n) h (w .2)))) (eqb-ne (l - 1) x (λ e. omega arith)) k),
         )) t q w u
 
-    pub left-seat : Seat F bound m root l over
+    pub left-seat : Seat F m root l over
     left-seat = (
       z,
       λ T p.

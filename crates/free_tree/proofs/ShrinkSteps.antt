@@ -26,30 +26,30 @@ use Rattle.free_tree.proofs.ShrinkLaws.{not-first-join, both-apart, fou
 use Rattle.free_tree.proofs.ShrinkLaws.{found-within, here-size, within-shrink}
 
 -- the tree at the link l has the run at its root
-abbrev pub LongerRoot : Form → ℕ → Words → ℕ → ℕ → ℕ → Type 0
-LongerRoot F bound m l x k = (t : Tree) × (n : ℕ) × Stops (beginsAt x) t × Longer F bound m l (run x n) k t
+abbrev pub LongerRoot : Form → Words → ℕ → ℕ → ℕ → Type 0
+LongerRoot F m l x k = (t : Tree) × (n : ℕ) × Stops (beginsAt x) t × Longer F m l (run x n) k t
 
-module _ {F : Form} {bound : ℕ} (readable : Readable F bound) where
+module _ {F : Form} (readable : Readable F (F .links)) where
   -- ---- above a root
 
-  pub over-none : {m : Words} {l : ℕ} (r : Run) → l ≡ 0 → OverRoot F bound m l r true
+  pub over-none : {m : Words} {l : ℕ} (r : Run) → l ≡ 0 → OverRoot F m l r true
   over-none r z = at-none (λ t. true ≡ standsOver r t) z refl
 
   pub over-some : {m : Words} {l k : ℕ} (r : Run) {v : Bool} → l ≢ 0 → k ≡ lengthAt F m (l - 1)
-      → v ≡ standsAbove r (run (l - 1) k) → OverRoot F bound m l r v
+      → v ≡ standsAbove r (run (l - 1) k) → OverRoot F m l r v
   over-some r {v} z len e = rooted-length readable (λ t. v ≡ standsOver r t) z len (λ a b p. e)
 
   -- ---- between two trees
 
-  pub between-in : {m : Words} {a b : ℕ} {r : Run} → ((ta : Tree) × (tb : Tree) × Between F bound m a b r ta tb)
-      → (r .start < cells F m) × (r .start + 1 < bound)
+  pub between-in : {m : Words} {a b : ℕ} {r : Run} → ((ta : Tree) × (tb : Tree) × Between F m a b r ta tb)
+      → (r .start < cells F m) × (r .start + 1 < F .links)
   between-in {m} {r = r} (ta, tb, p) =
       let some-cells = p .filled in
       let inside = within-le tb (r .start + r .size) (cells F m) (p .over) in
       let small = p .left .small in
       (omega arith, omega arith)
 
-  beside : {m : Words} {a b : ℕ} {r : Run} {ta tb : Tree} → Between F bound m a b r ta tb → Beside F bound m a b ta tb
+  beside : {m : Words} {a b : ℕ} {r : Run} {ta tb : Tree} → Between F m a b r ta tb → Beside F m a b ta tb
   beside {m} {r = r} {tb = tb} p = record {
     left = p .left;
     right = p .right;
@@ -58,13 +58,13 @@ module _ {F : Form} {bound : ℕ} (readable : Readable F bound) where
     over = wider tb (r .start + r .size) (r .start) (cells F m) (cells F m) (omega arith) (omega arith) (p .over);
   }
 
-  pub between-beside : {m : Words} {a b : ℕ} {r : Run} → ((ta : Tree) × (tb : Tree) × Between F bound m a b r ta tb)
-      → (ta : Tree) × (tb : Tree) × Beside F bound m a b ta tb
+  pub between-beside : {m : Words} {a b : ℕ} {r : Run} → ((ta : Tree) × (tb : Tree) × Between F m a b r ta tb)
+      → (ta : Tree) × (tb : Tree) × Beside F m a b ta tb
   between-beside (ta, tb, p) = (ta, tb, beside p)
 
   -- the two are joined, and there is room for the run
-  module _ {m m₁ : Words} {a b j : ℕ} {r : Run} (post : BothJoined F bound m m₁ a b j) where
-    joined-room : {ta tb : Tree} → Between F bound m a b r ta tb → Room F bound m₁ j r (join ta tb)
+  module _ {m m₁ : Words} {a b j : ℕ} {r : Run} (post : BothJoined F m m₁ a b j) where
+    joined-room : {ta tb : Tree} → Between F m a b r ta tb → Room F m₁ j r (join ta tb)
     joined-room {ta} {tb} p =
         let made = post ta tb (beside p) in
         let end = r .start + r .size in
@@ -80,19 +80,19 @@ module _ {F : Form} {bound : ℕ} (readable : Readable F bound) where
               )) (p .zeros);
         }
 
-    pub both-room : ((ta : Tree) × (tb : Tree) × Between F bound m a b r ta tb) → (t : Tree) × Room F bound m₁ j r t
+    pub both-room : ((ta : Tree) × (tb : Tree) × Between F m a b r ta tb) → (t : Tree) × Room F m₁ j r t
     both-room (ta, tb, p) = (join ta tb, joined-room p)
 
-  module _ {m m′ : Words} {a b x n : ℕ} {v w : Bool} (low : OverRoot F bound m a (run x n) v)
-      (high : OverRoot F bound m b (run x n) w) where
-    pub settle-top : (v && w) ≡ true → NodePut F m m′ x n a b → Settled F bound m m′ a b (run x n) (x + 1)
+  module _ {m m′ : Words} {a b x n : ℕ} {v w : Bool} (low : OverRoot F m a (run x n) v)
+      (high : OverRoot F m b (run x n) w) where
+    pub settle-top : (v && w) ≡ true → NodePut F m m′ x n a b → Settled F m m′ a b (run x n) (x + 1)
     settle-top e put ta tb p =
         let made = put-between readable p put in
         rw (sym (low ta (p .left)), sym (high tb (p .right)), e)
         (record { tree = made .tree; frame = λ d o. made .frame d (o .2); long = made .long })
 
-    pub settle-among : {m₁ : Words} {j q : ℕ} (k : ℕ) → (v && w) ≡ false → BothJoined F bound m m₁ a b j
-        → Inserted F bound m₁ m′ j (run x n) k → q ≡ linkOf k → Settled F bound m m′ a b (run x n) q
+    pub settle-among : {m₁ : Words} {j q : ℕ} (k : ℕ) → (v && w) ≡ false → BothJoined F m m₁ a b j
+        → Inserted F m₁ m′ j (run x n) k → q ≡ linkOf k → Settled F m m′ a b (run x n) q
     settle-among k e post ins f ta tb p =
         let made = post ta tb (beside p) in
         let put = ins (join ta tb) (joined-room post p) .0 in
@@ -106,12 +106,12 @@ module _ {F : Form} {bound : ℕ} (readable : Readable F bound) where
 
   -- ---- down to the run
 
-  longer-root : {m : Words} {l k : ℕ} {r : Run} {t : Tree} → Longer F bound m l r k t → l ≢ 0
+  longer-root : {m : Words} {l k : ℕ} {r : Run} {t : Tree} → Longer F m l r k t → l ≢ 0
   longer-root {m} {l} {k} {r} {t} p z =
       at-none (λ t. firstThat (beginsAt (r .start)) (inorder t) ≡ some r → ⊥) z absurd-some t (p .tree) (p .found)
 
-  module _ {m : Words} {l c i s x n k : ℕ} {a b : Tree} (p : Longer F bound m l (run x n) k (node a (run c i) b)) where
-    longer-left : s ≡ leftAt F m c → x < c → Longer F bound m s (run x n) k a
+  module _ {m : Words} {l c i s x n k : ℕ} {a b : Tree} (p : Longer F m l (run x n) k (node a (run c i) b)) where
+    longer-left : s ≡ leftAt F m c → x < c → Longer F m s (run x n) k a
     longer-left e h = record {
       tree = at-left readable (p .tree) e;
       found = sym (found-left x a (run c i) b 0 (cells F m) (p .tree .within) h) ∙ p .found;
@@ -119,7 +119,7 @@ module _ {F : Form} {bound : ℕ} (readable : Readable F bound) where
       more = p .more;
     }
 
-    longer-right : s ≡ rightAt F m c → c < x → Longer F bound m s (run x n) k b
+    longer-right : s ≡ rightAt F m c → c < x → Longer F m s (run x n) k b
     longer-right e h = record {
       tree = at-right readable (p .tree) e;
       found = sym (found-right x a (run c i) b 0 (cells F m) (p .tree .within) h) ∙ p .found;
@@ -129,7 +129,7 @@ module _ {F : Form} {bound : ℕ} (readable : Readable F bound) where
 
   -- above the run the step goes down to a son
   pub shrinks : {m : Words} (x n k : ℕ)
-      → Local F bound m (beginsAt x) x (λ l t. Longer F bound m l (run x n) k t) (shrink x k)
+      → Local F m (beginsAt x) x (λ l t. Longer F m l (run x n) k t) (shrink x k)
       (λ t. NoNodeNor t (x + k))
   shrinks {m} x n k = record {
     tree = λ p. p .tree;
@@ -163,11 +163,11 @@ module _ {F : Form} {bound : ℕ} (readable : Readable F bound) where
 
   -- ---- at the run: what is left of it lies between its sons
 
-  pub root-tree : {m : Words} {l x k : ℕ} → LongerRoot F bound m l x k → (l ≢ 0) × ((t : Tree) × At F bound m l t)
+  pub root-tree : {m : Words} {l x k : ℕ} → LongerRoot F m l x k → (l ≢ 0) × ((t : Tree) × At F m l t)
   root-tree (t, n, e, p) = (longer-root p, (t, p .tree))
 
-  pub longer-place : {m : Words} {l x k at over : ℕ} → Placed F bound m l (beginsAt x) x at over
-      → ((t : Tree) × (n : ℕ) × Longer F bound m l (run x n) k t) → LongerRoot F bound m at x k
+  pub longer-place : {m : Words} {l x k at over : ℕ} → Placed F m l (beginsAt x) x at over
+      → ((t : Tree) × (n : ℕ) × Longer F m l (run x n) k t) → LongerRoot F m at x k
   longer-place {x = x} {k = k} placed (t, n, p) =
       let (s, e, q) = place-tree readable (shrinks x n k) placed (t, p) in
       (s, n, e, q)
@@ -175,20 +175,20 @@ module _ {F : Form} {bound : ℕ} (readable : Readable F bound) where
   module _ {m : Words} {l x k i a b : ℕ} (left : a ≡ leftAt F m (l - 1)) (right : b ≡ rightAt F m (l - 1))
       (len : i ≡ lengthAt F m (l - 1)) where
     by-length : {n : ℕ} (P : Tree → Type 0)
-        → ((ta tb : Tree) → l - 1 ≡ x → Longer F bound m l (run x n) k (node ta (run (l - 1) i) tb)
+        → ((ta tb : Tree) → l - 1 ≡ x → Longer F m l (run x n) k (node ta (run (l - 1) i) tb)
         → P (node ta (run (l - 1) i) tb))
-        → (t : Tree) → Stops (beginsAt x) t → Longer F bound m l (run x n) k t → P t
+        → (t : Tree) → Stops (beginsAt x) t → Longer F m l (run x n) k t → P t
     by-length {n} P f t e p =
-        rooted-length readable (λ t. Stops (beginsAt x) t → Longer F bound m l (run x n) k t → P t) (longer-root p) len
+        rooted-length readable (λ t. Stops (beginsAt x) t → Longer F m l (run x n) k t → P t) (longer-root p) len
         (λ ta tb q e. f ta tb (eqb-eq (l - 1) x e)) t (p .tree) e p
 
     module _ {n : ℕ} {ta tb : Tree} (same : l - 1 ≡ x)
-        (p : Longer F bound m l (run x n) k (node ta (run (l - 1) i) tb)) where
+        (p : Longer F m l (run x n) k (node ta (run (l - 1) i) tb)) where
       longer-here : k < i
       longer-here =
           omega (arith, p .more, here-size x n ta (run (l - 1) i) tb 0 (cells F m) (p .tree .within) same (p .found))
 
-      sons-between : Between F bound m a b (run (x + k) (i - k)) ta tb
+      sons-between : Between F m a b (run (x + k) (i - k)) ta tb
       sons-between =
           let more = longer-here in
           let low : suc (l - 1) ≤ x + k = omega (arith, p .part) in
@@ -205,21 +205,21 @@ module _ {F : Form} {bound : ℕ} (readable : Readable F bound) where
                 (lt-of-lt-of-le v (mul-le-mul-left (F .cell) high));
           }
 
-    pub shrink-between : LongerRoot F bound m l x k
-        → (k < i) × (x + k < bound) × ((ta : Tree) × (tb : Tree) × Between F bound m a b (run (x + k) (i - k)) ta tb)
+    pub shrink-between : LongerRoot F m l x k
+        → (k < i) × (x + k < F .links) × ((ta : Tree) × (tb : Tree) × Between F m a b (run (x + k) (i - k)) ta tb)
     shrink-between (t, n, e, p) =
         by-length
         (λ t.
-        (k < i) × (x + k < bound) × ((ta : Tree) × (tb : Tree) × Between F bound m a b (run (x + k) (i - k)) ta tb))
+        (k < i) × (x + k < F .links) × ((ta : Tree) × (tb : Tree) × Between F m a b (run (x + k) (i - k)) ta tb))
         (λ ta tb same p.
         let w = sons-between same p in
         (longer-here same p, omega (arith, between-in (ta, tb, w) .1), (ta, tb, w))) t e p
 
-    pub shrink-here : {m′ : Words} {q n : ℕ} → Settled F bound m m′ a b (run (x + k) (i - k)) q
-        → (t : Tree) → Stops (beginsAt x) t → Longer F bound m l (run x n) k t
-        → Became F bound m m′ (NoNodeNor t (x + k)) q (shrink x k t)
+    pub shrink-here : {m′ : Words} {q n : ℕ} → Settled F m m′ a b (run (x + k) (i - k)) q
+        → (t : Tree) → Stops (beginsAt x) t → Longer F m l (run x n) k t
+        → Became F m m′ (NoNodeNor t (x + k)) q (shrink x k t)
     shrink-here {m′} {q} post =
-        by-length (λ t. Became F bound m m′ (NoNodeNor t (x + k)) q (shrink x k t))
+        by-length (λ t. Became F m m′ (NoNodeNor t (x + k)) q (shrink x k t))
         (λ ta tb same p.
         let made = post ta tb (sons-between same p) in
         rw (of-ge x (l - 1) (omega arith), of-ge (l - 1) x (omega arith))

@@ -140,9 +140,9 @@ Above hi T t b =
 -- Where the search for the blocks that touch the cells from lo up to hi stands in the tree T: at the subtree at the
 -- link l. The blocks at the links a and b are the last that it passed below and above, 0 for none. Those sought are in
 -- the subtree, or are these two.
-pub record Flanked (F : Form) (bound : ℕ) (m : Words) (lo hi : ℕ) (T : Tree) (l a b : ℕ) : Type 0 where
+pub record Flanked (F : Form) (m : Words) (lo hi : ℕ) (T : Tree) (l a b : ℕ) : Type 0 where
   pub sub : Tree
-  pub here : Clear F bound m l lo hi sub
+  pub here : Clear F m l lo hi sub
   pub from : ℕ
   pub to : ℕ
   pub range : Within from to sub
@@ -153,11 +153,11 @@ pub record Flanked (F : Form) (bound : ℕ) (m : Words) (lo hi : ℕ) (T : Tree)
   pub below : Below F m lo T sub a
   pub above : Above hi T sub b
 
-abbrev pub Flanks : Form → ℕ → Words → ℕ → ℕ → ℕ → ℕ → ℕ → ℕ → Type 0
-Flanks F bound m root lo hi l a b = (T : Tree) → Clear F bound m root lo hi T → Flanked F bound m lo hi T l a b
+abbrev pub Flanks : Form → Words → ℕ → ℕ → ℕ → ℕ → ℕ → ℕ → Type 0
+Flanks F m root lo hi l a b = (T : Tree) → Clear F m root lo hi T → Flanked F m lo hi T l a b
 
-module _ {F : Form} {bound : ℕ} (readable : Readable F bound) {m : Words} {root lo hi : ℕ} where
-  pub flank-start : Flanks F bound m root lo hi root 0 0
+module _ {F : Form} (readable : Readable F (F .links)) {m : Words} {root lo hi : ℕ} where
+  pub flank-start : Flanks F m root lo hi root 0 0
   flank-start T p = record {
     sub = T;
     here = p;
@@ -172,13 +172,13 @@ module _ {F : Form} {bound : ℕ} (readable : Readable F bound) {m : Words} {roo
     above = rw (begins-no hi 0 (λ z. omega arith)) (link-or (firstThat (beginsAt hi) (inorder T)));
   }
 
-  module _ {l a b : ℕ} (inv : Flanks F bound m root lo hi l a b) where
-    pub flank-tree : ((T : Tree) × Clear F bound m root lo hi T) → (t : Tree) × At F bound m l t
+  module _ {l a b : ℕ} (inv : Flanks F m root lo hi l a b) where
+    pub flank-tree : ((T : Tree) × Clear F m root lo hi T) → (t : Tree) × At F m l t
     flank-tree (T, p) = let f = inv T p in (f .sub, f .here .tree)
 
     -- the block at the link a lies in the arena
-    pub flank-in : ((T : Tree) × Clear F bound m root lo hi T)
-        → (a ≤ cells F m) × (a ≢ 0 → a - 1 + lengthAt F m (a - 1) < bound)
+    pub flank-in : ((T : Tree) × Clear F m root lo hi T)
+        → (a ≤ cells F m) × (a ≢ 0 → a - 1 + lengthAt F m (a - 1) < F .links)
     flank-in (T, p) =
         let f = inv T p in
         let inside = f .inside in
@@ -187,7 +187,7 @@ module _ {F : Form} {bound : ℕ} (readable : Readable F bound) {m : Words} {roo
         let order = within-le (f .sub) (f .from) (f .to) (f .range) in
         (omega arith, λ z. omega (arith, f .ended z))
 
-    pub flank-end : l ≡ 0 → TouchFound F bound m root lo hi (ifEnds F m lo a) (ifBegins hi b)
+    pub flank-end : l ≡ 0 → TouchFound F m root lo hi (ifEnds F m lo a) (ifBegins hi b)
     flank-end z T p =
         let f = inv T p in
         at-none
@@ -197,12 +197,12 @@ module _ {F : Form} {bound : ℕ} (readable : Readable F bound) {m : Words} {roo
         (f .here .tree) (f .below) (f .above)
 
     module _ (z : l ≢ 0) {s : ℕ} where
-      pub flank-right : s ≡ rightAt F m (l - 1) → l - 1 ≤ lo → Flanks F bound m root lo hi s l b
+      pub flank-right : s ≡ rightAt F m (l - 1) → l - 1 ≤ lo → Flanks F m root lo hi s l b
       flank-right e h T p =
           let f = inv T p in
           rooted
-          (λ t. Clear F bound m l lo hi t → Within (f .from) (f .to) t → Below F m lo T t a → Above hi T t b
-          → Flanked F bound m lo hi T s l b) z
+          (λ t. Clear F m l lo hi t → Within (f .from) (f .to) t → Below F m lo T t a → Above hi T t b
+          → Flanked F m lo hi T s l b) z
           (λ x n y q clear range below above.
           let under = clear .apart .1 h in
           let before = clear .some in
@@ -223,12 +223,12 @@ module _ {F : Form} {bound : ℕ} (readable : Readable F bound) {m : Words} {roo
             above = above ∙ ap (λ o. linkOr o (ifBegins hi b)) past;
           }) (f .sub) (f .here .tree) (f .here) (f .range) (f .below) (f .above)
 
-      pub flank-left : s ≡ leftAt F m (l - 1) → lo < l - 1 → Flanks F bound m root lo hi s a l
+      pub flank-left : s ≡ leftAt F m (l - 1) → lo < l - 1 → Flanks F m root lo hi s a l
       flank-left e h T p =
           let f = inv T p in
           rooted
-          (λ t. Clear F bound m l lo hi t → Within (f .from) (f .to) t → Below F m lo T t a → Above hi T t b
-          → Flanked F bound m lo hi T s a l) z
+          (λ t. Clear F m l lo hi t → Within (f .from) (f .to) t → Below F m lo T t a → Above hi T t b
+          → Flanked F m lo hi T s a l) z
           (λ x n y q clear range below above.
           let before = clear .some in
           let over = clear .apart .2 (omega arith) in

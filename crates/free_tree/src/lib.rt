@@ -12,8 +12,8 @@ ghost use mathlib.Core.Path.{_≡_};
 ghost use mathlib.Core.Logic.{_≢_};
 ghost use Prim.Native.Nat.{ℕ, _+_, _-_, _≤_, _<_};
 ghost use Rattle.ledger.specs.Runs.{run};
-ghost use Rattle.stored_forms.specs.Tree.{Tree, formOne, lengthAt};
-ghost use Rattle.tree_nodes.specs.Nodes.{links, countBase, cells};
+ghost use Rattle.stored_forms.specs.Tree.{Tree, formOf, lengthAt};
+ghost use Rattle.tree_nodes.specs.Nodes.{countBase, cells};
 ghost use Rattle.free_tree.specs.Shapes.{standsAbove, beginsAt};
 ghost use Rattle.free_tree.specs.Links.{linkOf, countOf};
 ghost use Rattle.free_tree.specs.Held.{At, Beside, LeftWins, RightWins, LeftJoined, RightJoined, BothJoined};
@@ -24,47 +24,47 @@ ghost use Rattle.free_tree.specs.Held.{ifEnds, ifBegins};
 // ---- join
 
 // Joins the trees at the links `a` and `b`, where the root of `a` stays on top.
-fn over_left(arena: &mut [u32], a: usize, b: usize)
-    requires { ⌜ ((ta : Tree) × (tb : Tree) × LeftWins formOne links (now arena) a b ta tb) ⌝ }
-    ensures { λ _. ⌜ LeftJoined formOne links (now (arena .entry)) (now (arena .exit)) a b ⌝ }
+fn over_left(form: u32, arena: &mut [u32], a: usize, b: usize)
+    requires { ⌜ ((ta : Tree) × (tb : Tree) × LeftWins (formOf form) (now arena) a b ta tb) ⌝ }
+    ensures { λ _. ⌜ LeftJoined (formOf form) (now (arena .entry)) (now (arena .exit)) a b ⌝ }
 {
     let c = a - 1;
-    let s = right_of(arena, c);
+    let s = right_of(form, arena, c);
     if s == 0 {
-        set_right(arena, c, b);
+        set_right(form, arena, c, b);
         return;
     }
-    if length_of(arena, b - 1) <= length_of(arena, s - 1) {
-        over_left(arena, s, b);
+    if length_of(form, arena, b - 1) <= length_of(form, arena, s - 1) {
+        over_left(form, arena, s, b);
     } else {
-        over_right(arena, s, b);
-        set_right(arena, c, b);
+        over_right(form, arena, s, b);
+        set_right(form, arena, c, b);
     }
 }
 
 // Joins the trees at the links `a` and `b`, where the root of `b` stays on top.
-fn over_right(arena: &mut [u32], a: usize, b: usize)
-    requires { ⌜ ((ta : Tree) × (tb : Tree) × RightWins formOne links (now arena) a b ta tb) ⌝ }
-    ensures { λ _. ⌜ RightJoined formOne links (now (arena .entry)) (now (arena .exit)) a b ⌝ }
+fn over_right(form: u32, arena: &mut [u32], a: usize, b: usize)
+    requires { ⌜ ((ta : Tree) × (tb : Tree) × RightWins (formOf form) (now arena) a b ta tb) ⌝ }
+    ensures { λ _. ⌜ RightJoined (formOf form) (now (arena .entry)) (now (arena .exit)) a b ⌝ }
 {
     let c = b - 1;
-    let s = left_of(arena, c);
+    let s = left_of(form, arena, c);
     if s == 0 {
-        set_left(arena, c, a);
+        set_left(form, arena, c, a);
         return;
     }
-    if length_of(arena, s - 1) <= length_of(arena, a - 1) {
-        over_left(arena, a, s);
-        set_left(arena, c, a);
+    if length_of(form, arena, s - 1) <= length_of(form, arena, a - 1) {
+        over_left(form, arena, a, s);
+        set_left(form, arena, c, a);
     } else {
-        over_right(arena, a, s);
+        over_right(form, arena, a, s);
     }
 }
 
 // Joins the trees at the links `a` and `b`, of which either may be 0, and returns the link to the whole.
-pub fn join_trees(arena: &mut [u32], a: usize, b: usize) -> usize
-    requires { ⌜ ((ta : Tree) × (tb : Tree) × Beside formOne links (now arena) a b ta tb) ⌝ }
-    ensures { λ r. ⌜ BothJoined formOne links (now (arena .entry)) (now (arena .exit)) a b r ⌝ }
+pub fn join_trees(form: u32, arena: &mut [u32], a: usize, b: usize) -> usize
+    requires { ⌜ ((ta : Tree) × (tb : Tree) × Beside (formOf form) (now arena) a b ta tb) ⌝ }
+    ensures { λ r. ⌜ BothJoined (formOf form) (now (arena .entry)) (now (arena .exit)) a b r ⌝ }
 {
     if a == 0 {
         return b;
@@ -72,11 +72,11 @@ pub fn join_trees(arena: &mut [u32], a: usize, b: usize) -> usize
     if b == 0 {
         return a;
     }
-    if length_of(arena, b - 1) <= length_of(arena, a - 1) {
-        over_left(arena, a, b);
+    if length_of(form, arena, b - 1) <= length_of(form, arena, a - 1) {
+        over_left(form, arena, a, b);
         a
     } else {
-        over_right(arena, a, b);
+        over_right(form, arena, a, b);
         b
     }
 }
@@ -108,39 +108,39 @@ pub fn count_of(k: u64) -> u64
 // Splits the tree at the link `l`, whose root is below cell `x`, into its blocks below `x` and those from it on. The
 // root stays that of the lower part. Returns the link to the upper part, and how many links were stored: as long as the
 // right son is below `x` too, its link stays.
-fn upper_part(arena: &mut [u32], l: usize, x: usize) -> u64
-    requires { ⌜ (l ≢ 0) × (l - 1 < x) × ((t : Tree) × At formOne links (now arena) l t) ⌝ }
-    ensures { λ k. ⌜ Parts formOne links (now (arena .entry)) (now (arena .exit)) l x l (linkOf k) (countOf k) ⌝ }
+fn upper_part(form: u32, arena: &mut [u32], l: usize, x: usize) -> u64
+    requires { ⌜ (l ≢ 0) × (l - 1 < x) × ((t : Tree) × At (formOf form) (now arena) l t) ⌝ }
+    ensures { λ k. ⌜ Parts (formOf form) (now (arena .entry)) (now (arena .exit)) l x l (linkOf k) (countOf k) ⌝ }
 {
     let c = l - 1;
-    let s = right_of(arena, c);
+    let s = right_of(form, arena, c);
     if s == 0 {
         return 0;
     }
     if s - 1 < x {
-        return upper_part(arena, s, x);
+        return upper_part(form, arena, s, x);
     }
-    let p = lower_part(arena, s, x);
-    let stored = store_right(arena, c, link_of(p), count_of(p));
+    let p = lower_part(form, arena, s, x);
+    let stored = store_right(form, arena, c, link_of(p), count_of(p));
     with_count(s, stored)
 }
 
 // The same where the root is not below `x` and stays that of the upper part. Returns the link to the lower part, and
 // how many links were stored.
-fn lower_part(arena: &mut [u32], l: usize, x: usize) -> u64
-    requires { ⌜ (l ≢ 0) × (x ≤ l - 1) × ((t : Tree) × At formOne links (now arena) l t) ⌝ }
-    ensures { λ k. ⌜ Parts formOne links (now (arena .entry)) (now (arena .exit)) l x (linkOf k) l (countOf k) ⌝ }
+fn lower_part(form: u32, arena: &mut [u32], l: usize, x: usize) -> u64
+    requires { ⌜ (l ≢ 0) × (x ≤ l - 1) × ((t : Tree) × At (formOf form) (now arena) l t) ⌝ }
+    ensures { λ k. ⌜ Parts (formOf form) (now (arena .entry)) (now (arena .exit)) l x (linkOf k) l (countOf k) ⌝ }
 {
     let c = l - 1;
-    let s = left_of(arena, c);
+    let s = left_of(form, arena, c);
     if s == 0 {
         return 0;
     }
     if x <= s - 1 {
-        return lower_part(arena, s, x);
+        return lower_part(form, arena, s, x);
     }
-    let p = upper_part(arena, s, x);
-    let stored = store_left(arena, c, link_of(p), count_of(p));
+    let p = upper_part(form, arena, s, x);
+    let stored = store_left(form, arena, c, link_of(p), count_of(p));
     with_count(s, stored)
 }
 
@@ -160,32 +160,32 @@ fn stands_above(x: usize, n: u32, c: usize, k: u32) -> bool
 }
 
 // From the link `l` down by the address of cell `x`, to the first node that a block of `n` cells there stands above.
-fn place_for(arena: &[u32], l: usize, x: usize, n: u32) -> Place
-    requires { ⌜ ((t : Tree) × At formOne links (now arena) l t) ⌝ }
-    ensures { λ r. ⌜ Placed formOne links (now (arena .entry)) l (standsAbove (run x n)) x (r .at) (r .over) ⌝ }
+fn place_for(form: u32, arena: &[u32], l: usize, x: usize, n: u32) -> Place
+    requires { ⌜ ((t : Tree) × At (formOf form) (now arena) l t) ⌝ }
+    ensures { λ r. ⌜ Placed (formOf form) (now (arena .entry)) l (standsAbove (run x n)) x (r .at) (r .over) ⌝ }
 {
     let mut at = l;
     let mut over: usize = 0;
     while at != 0 {
         let c = at - 1;
-        let k = length_of(arena, c);
+        let k = length_of(form, arena, c);
         if stands_above(x, n, c, k) {
             return Place { at, over };
         }
         over = at;
         if x < c {
-            at = left_of(arena, c);
+            at = left_of(form, arena, c);
         } else {
-            at = right_of(arena, c);
+            at = right_of(form, arena, c);
         }
     }
     Place { at, over }
 }
 
 // From the link `l` down by address to the node at cell `x`.
-fn place_of(arena: &[u32], l: usize, x: usize) -> Place
-    requires { ⌜ ((t : Tree) × At formOne links (now arena) l t) ⌝ }
-    ensures { λ r. ⌜ Placed formOne links (now (arena .entry)) l (beginsAt x) x (r .at) (r .over) ⌝ }
+fn place_of(form: u32, arena: &[u32], l: usize, x: usize) -> Place
+    requires { ⌜ ((t : Tree) × At (formOf form) (now arena) l t) ⌝ }
+    ensures { λ r. ⌜ Placed (formOf form) (now (arena .entry)) l (beginsAt x) x (r .at) (r .over) ⌝ }
 {
     let mut at = l;
     let mut over: usize = 0;
@@ -196,9 +196,9 @@ fn place_of(arena: &[u32], l: usize, x: usize) -> Place
         }
         over = at;
         if x < c {
-            at = left_of(arena, c);
+            at = left_of(form, arena, c);
         } else {
-            at = right_of(arena, c);
+            at = right_of(form, arena, c);
         }
     }
     Place { at, over }
@@ -207,10 +207,18 @@ fn place_of(arena: &[u32], l: usize, x: usize) -> Place
 // Attaches the tree at the link `q` to the node at the link `over`, on the side where cell `x` is. Returns the link to
 // the whole, which is `root`, or `q` where there is no such node; and one more than `stored`, for the link that is set
 // or the root link. The nodes above keep their links, so none is written.
-fn attach(arena: &mut [u32], root: usize, over: usize, x: usize, q: usize, stored: u64) -> u64
-    requires { ⌜ over ≤ cells formOne (now arena) ⌝ }
-    requires { ⌜ (q < links) × (root < links) × (stored + 1 < countBase) ⌝ }
-    ensures { λ k. ⌜ Attached formOne (now (arena .entry)) (now (arena .exit)) root over x q (linkOf k) ⌝ }
+fn attach(
+    form: u32,
+    arena: &mut [u32],
+    root: usize,
+    over: usize,
+    x: usize,
+    q: usize,
+    stored: u64,
+) -> u64
+    requires { ⌜ over ≤ cells (formOf form) (now arena) ⌝ }
+    requires { ⌜ (q < formOf form .links) × (root < formOf form .links) × (stored + 1 < countBase) ⌝ }
+    ensures { λ k. ⌜ Attached (formOf form) (now (arena .entry)) (now (arena .exit)) root over x q (linkOf k) ⌝ }
     ensures { λ k. ⌜ countOf k ≡ stored + 1 ⌝ }
 {
     if over == 0 {
@@ -218,10 +226,10 @@ fn attach(arena: &mut [u32], root: usize, over: usize, x: usize, q: usize, store
     }
     let c = over - 1;
     if c <= x {
-        let count = store_right(arena, c, q, stored);
+        let count = store_right(form, arena, c, q, stored);
         return with_count(root, count);
     }
-    let count = store_left(arena, c, q, stored);
+    let count = store_left(form, arena, c, q, stored);
     with_count(root, count)
 }
 
@@ -229,126 +237,126 @@ fn attach(arena: &mut [u32], root: usize, over: usize, x: usize, q: usize, store
 
 // Puts the node of a block of `n` cells at cell `x` in place of the tree at the link `l`, whose parts become its sons.
 // Returns how many links were stored.
-fn put_over(arena: &mut [u32], l: usize, x: usize, n: u32) -> u64
-    requires { ⌜ ((t : Tree) × Room formOne links (now arena) l (run x n) t) ⌝ }
-    ensures { λ k. ⌜ PutOver formOne links (now (arena .entry)) (now (arena .exit)) l (run x n) k ⌝ }
+fn put_over(form: u32, arena: &mut [u32], l: usize, x: usize, n: u32) -> u64
+    requires { ⌜ ((t : Tree) × Room (formOf form) (now arena) l (run x n) t) ⌝ }
+    ensures { λ k. ⌜ PutOver (formOf form) (now (arena .entry)) (now (arena .exit)) l (run x n) k ⌝ }
 {
     if l == 0 {
-        return put_first(arena, x, n, 0, 0);
+        return put_first(form, arena, x, n, 0, 0);
     }
     if l - 1 < x {
-        let p = upper_part(arena, l, x);
-        return count_of(p) + put_first(arena, x, n, l, link_of(p));
+        let p = upper_part(form, arena, l, x);
+        return count_of(p) + put_first(form, arena, x, n, l, link_of(p));
     }
-    let p = lower_part(arena, l, x);
-    count_of(p) + put_first(arena, x, n, link_of(p), l)
+    let p = lower_part(form, arena, l, x);
+    count_of(p) + put_first(form, arena, x, n, link_of(p), l)
 }
 
 // Inserts the block of `n` cells at cell `x`, whose words are zero already, into the tree at the link `l`. Returns the
 // link to the whole, and how many links were stored, the root link among them. 02, ticket 4.
-pub fn insert(arena: &mut [u32], l: usize, x: usize, n: u32) -> u64
-    requires { ⌜ ((t : Tree) × Room formOne links (now arena) l (run x n) t) ⌝ }
-    ensures { λ k. ⌜ Inserted formOne links (now (arena .entry)) (now (arena .exit)) l (run x n) k ⌝ }
+pub fn insert(form: u32, arena: &mut [u32], l: usize, x: usize, n: u32) -> u64
+    requires { ⌜ ((t : Tree) × Room (formOf form) (now arena) l (run x n) t) ⌝ }
+    ensures { λ k. ⌜ Inserted (formOf form) (now (arena .entry)) (now (arena .exit)) l (run x n) k ⌝ }
 {
-    let p = place_for(arena, l, x, n);
+    let p = place_for(form, arena, l, x, n);
     let at = p.at;
     let over = p.over;
-    let stored = put_over(arena, at, x, n);
-    attach(arena, l, over, x, x + 1, stored)
+    let stored = put_over(form, arena, at, x, n);
+    attach(form, arena, l, over, x, x + 1, stored)
 }
 
 // Takes the block at the link `at` out of the tree at the link `l`, and returns the link to the rest. Its father is at
 // the link `over`, 0 for none. The block's words stay as they are.
-pub fn delete_at(arena: &mut [u32], l: usize, at: usize, over: usize) -> usize
-    requires { ⌜ ((t : Tree) × At formOne links (now arena) l t) ⌝ }
-    requires { ⌜ Seat formOne links (now arena) l at over ⌝ }
-    ensures { λ r. ⌜ Deleted formOne links (now (arena .entry)) (now (arena .exit)) l (at - 1) r ⌝ }
+pub fn delete_at(form: u32, arena: &mut [u32], l: usize, at: usize, over: usize) -> usize
+    requires { ⌜ ((t : Tree) × At (formOf form) (now arena) l t) ⌝ }
+    requires { ⌜ Seat (formOf form) (now arena) l at over ⌝ }
+    ensures { λ r. ⌜ Deleted (formOf form) (now (arena .entry)) (now (arena .exit)) l (at - 1) r ⌝ }
 {
     let c = at - 1;
-    let a = left_of(arena, c);
-    let b = right_of(arena, c);
-    let q = join_trees(arena, a, b);
-    link_of(attach(arena, l, over, c, q, 0))
+    let a = left_of(form, arena, c);
+    let b = right_of(form, arena, c);
+    let q = join_trees(form, arena, a, b);
+    link_of(attach(form, arena, l, over, c, q, 0))
 }
 
 // The same for the block at cell `x`, whose place is searched.
-pub fn delete(arena: &mut [u32], l: usize, x: usize) -> usize
-    requires { ⌜ ((t : Tree) × At formOne links (now arena) l t) ⌝ }
-    ensures { λ r. ⌜ Deleted formOne links (now (arena .entry)) (now (arena .exit)) l x r ⌝ }
+pub fn delete(form: u32, arena: &mut [u32], l: usize, x: usize) -> usize
+    requires { ⌜ ((t : Tree) × At (formOf form) (now arena) l t) ⌝ }
+    ensures { λ r. ⌜ Deleted (formOf form) (now (arena .entry)) (now (arena .exit)) l x r ⌝ }
 {
-    let p = place_of(arena, l, x);
+    let p = place_of(form, arena, l, x);
     let at = p.at;
     let over = p.over;
     if at == 0 {
         return l;
     }
-    delete_at(arena, l, at, over)
+    delete_at(form, arena, l, at, over)
 }
 
 // ---- shrink
 
 // Whether a block of `n` cells at cell `x` stands above the root at the link `l`, or there is none.
-fn over_root(arena: &[u32], l: usize, x: usize, n: u32) -> bool
-    requires { ⌜ ((t : Tree) × At formOne links (now arena) l t) ⌝ }
-    ensures { λ r. ⌜ OverRoot formOne links (now (arena .entry)) l (run x n) r ⌝ }
+fn over_root(form: u32, arena: &[u32], l: usize, x: usize, n: u32) -> bool
+    requires { ⌜ ((t : Tree) × At (formOf form) (now arena) l t) ⌝ }
+    ensures { λ r. ⌜ OverRoot (formOf form) (now (arena .entry)) l (run x n) r ⌝ }
 {
     if l == 0 {
         return true;
     }
     let c = l - 1;
-    let k = length_of(arena, c);
+    let k = length_of(form, arena, c);
     stands_above(x, n, c, k)
 }
 
 // Puts the block of `n` cells at cell `x` between the trees at the links `lo` and `hi`, and returns the link to the
 // whole. Most often it stands above both roots, and the trees are its sons as they are.
-fn settle(arena: &mut [u32], lo: usize, hi: usize, x: usize, n: u32) -> usize
-    requires { ⌜ ((ta : Tree) × (tb : Tree) × Between formOne links (now arena) lo hi (run x n) ta tb) ⌝ }
-    ensures { λ r. ⌜ Settled formOne links (now (arena .entry)) (now (arena .exit)) lo hi (run x n) r ⌝ }
+fn settle(form: u32, arena: &mut [u32], lo: usize, hi: usize, x: usize, n: u32) -> usize
+    requires { ⌜ ((ta : Tree) × (tb : Tree) × Between (formOf form) (now arena) lo hi (run x n) ta tb) ⌝ }
+    ensures { λ r. ⌜ Settled (formOf form) (now (arena .entry)) (now (arena .exit)) lo hi (run x n) r ⌝ }
 {
-    if over_root(arena, lo, x, n) & over_root(arena, hi, x, n) {
-        put_first(arena, x, n, lo, hi);
+    if over_root(form, arena, lo, x, n) & over_root(form, arena, hi, x, n) {
+        put_first(form, arena, x, n, lo, hi);
         return x + 1;
     }
-    let rest = join_trees(arena, lo, hi);
-    link_of(insert(arena, rest, x, n))
+    let rest = join_trees(form, arena, lo, hi);
+    link_of(insert(form, arena, rest, x, n))
 }
 
 // The block at the link `at`, of more than `k` cells, gives up its first `k` cells in the tree at the link `l`. Its
 // father is at the link `over`, 0 for none. Returns the link to the whole. What is left of it can only sink below its
 // sons: no block above it is shorter. The words of its first cell stay as they are.
-pub fn shrink(arena: &mut [u32], l: usize, at: usize, over: usize, k: usize) -> usize
-    requires { ⌜ ((t : Tree) × (n : ℕ) × Longer formOne links (now arena) l (run (at - 1) n) k t) ⌝ }
-    requires { ⌜ Seat formOne links (now arena) l at over ⌝ }
-    ensures { λ r. ⌜ Shrunk formOne links (now (arena .entry)) (now (arena .exit)) l (at - 1) k r ⌝ }
+pub fn shrink(form: u32, arena: &mut [u32], l: usize, at: usize, over: usize, k: usize) -> usize
+    requires { ⌜ ((t : Tree) × (n : ℕ) × Longer (formOf form) (now arena) l (run (at - 1) n) k t) ⌝ }
+    requires { ⌜ Seat (formOf form) (now arena) l at over ⌝ }
+    ensures { λ r. ⌜ Shrunk (formOf form) (now (arena .entry)) (now (arena .exit)) l (at - 1) k r ⌝ }
 {
     let c = at - 1;
-    let a = left_of(arena, c);
-    let b = right_of(arena, c);
-    let n = length_of(arena, c) as usize;
-    let q = settle(arena, a, b, c + k, (n - k) as u32);
-    link_of(attach(arena, l, over, c, q, 0))
+    let a = left_of(form, arena, c);
+    let b = right_of(form, arena, c);
+    let n = length_of(form, arena, c) as usize;
+    let q = settle(form, arena, a, b, c + k, (n - k) as u32);
+    link_of(attach(form, arena, l, over, c, q, 0))
 }
 
 // ---- searches: they return links, 0 for none
 
 // The first block of at least `cells` cells, and its father: as long as the root is long enough, go left.
-pub fn leftmost_fit(arena: &[u32], root: usize, cells: u32) -> Place
-    requires { ⌜ ((t : Tree) × At formOne links (now arena) root t) ⌝ }
-    ensures { λ r. ⌜ LeftmostFound formOne links (now (arena .entry)) root cells (r .at) ⌝ }
-    ensures { λ r. ⌜ (r .at ≢ 0 → Seat formOne links (now (arena .entry)) root (r .at) (r .over)) ⌝ }
+pub fn leftmost_fit(form: u32, arena: &[u32], root: usize, cells: u32) -> Place
+    requires { ⌜ ((t : Tree) × At (formOf form) (now arena) root t) ⌝ }
+    ensures { λ r. ⌜ LeftmostFound (formOf form) (now (arena .entry)) root cells (r .at) ⌝ }
+    ensures { λ r. ⌜ (r .at ≢ 0 → Seat (formOf form) (now (arena .entry)) root (r .at) (r .over)) ⌝ }
 {
     let mut at: usize = 0;
     let mut over: usize = 0;
     let mut l = root;
     while l != 0 {
         let c = l - 1;
-        if length_of(arena, c) < cells {
+        if length_of(form, arena, c) < cells {
             return Place { at, over };
         }
         over = at;
         at = l;
-        l = left_of(arena, c);
+        l = left_of(form, arena, c);
     }
     Place { at, over }
 }
@@ -360,15 +368,16 @@ pub struct Sides {
 }
 
 // The link itself if its block ends at cell `x`, else 0.
-fn if_ends(arena: &[u32], l: usize, x: usize) -> usize
-    requires { ⌜ (l ≤ cells formOne (now arena)) × (l ≢ 0 → l - 1 + lengthAt formOne (now arena) (l - 1) < links) ⌝ }
-    ensures { λ r. ⌜ r ≡ ifEnds formOne (now (arena .entry)) x l ⌝ }
+fn if_ends(form: u32, arena: &[u32], l: usize, x: usize) -> usize
+    requires { ⌜ l ≤ cells (formOf form) (now arena) ⌝ }
+    requires { ⌜ (l ≢ 0 → l - 1 + lengthAt (formOf form) (now arena) (l - 1) < formOf form .links) ⌝ }
+    ensures { λ r. ⌜ r ≡ ifEnds (formOf form) (now (arena .entry)) x l ⌝ }
 {
     if l == 0 {
         return 0;
     }
     let c = l - 1;
-    if c + length_of(arena, c) as usize == x {
+    if c + length_of(form, arena, c) as usize == x {
         return l;
     }
     0
@@ -376,7 +385,7 @@ fn if_ends(arena: &[u32], l: usize, x: usize) -> usize
 
 // The link itself if its block begins at cell `x`, else 0.
 fn if_begins(l: usize, x: usize) -> usize
-    requires { ⌜ x < links ⌝ }
+    requires { ⌜ x < countBase ⌝ }
     ensures { λ r. ⌜ r ≡ ifBegins x l ⌝ }
 {
     if l == x + 1 {
@@ -388,9 +397,10 @@ fn if_begins(l: usize, x: usize) -> usize
 // The blocks that touch the cells from `lo` up to `hi`, of which none is free: the one that ends at `lo`, and the one
 // that begins at `hi`. If there are such blocks, one search by address passes both: they are the last
 // that it leaves below and above.
-pub fn touching(arena: &[u32], root: usize, lo: usize, hi: usize) -> Sides
-    requires { ⌜ (hi ≤ cells formOne (now arena)) × ((t : Tree) × Clear formOne links (now arena) root lo hi t) ⌝ }
-    ensures { λ r. ⌜ TouchFound formOne links (now (arena .entry)) root lo hi (r .lo) (r .hi) ⌝ }
+pub fn touching(form: u32, arena: &[u32], root: usize, lo: usize, hi: usize) -> Sides
+    requires { ⌜ hi ≤ cells (formOf form) (now arena) ⌝ }
+    requires { ⌜ ((t : Tree) × Clear (formOf form) (now arena) root lo hi t) ⌝ }
+    ensures { λ r. ⌜ TouchFound (formOf form) (now (arena .entry)) root lo hi (r .lo) (r .hi) ⌝ }
 {
     let mut below: usize = 0;
     let mut above: usize = 0;
@@ -399,14 +409,14 @@ pub fn touching(arena: &[u32], root: usize, lo: usize, hi: usize) -> Sides
         let c = l - 1;
         if lo < c {
             above = l;
-            l = left_of(arena, c);
+            l = left_of(form, arena, c);
         } else {
             below = l;
-            l = right_of(arena, c);
+            l = right_of(form, arena, c);
         }
     }
     Sides {
-        lo: if_ends(arena, below, lo),
+        lo: if_ends(form, arena, below, lo),
         hi: if_begins(above, hi),
     }
 }

@@ -1,6 +1,6 @@
 -- The map of an arena's cells: where it has 0 there is room for a block, and so it is after an insertion.
 -- Assumes nothing.
-use Prim.Native.Nat.{ℕ, _+_, _-_, _/_, _≤_, _<_}
+use Prim.Native.Nat.{ℕ, _+_, _-_, _*_, _/_, _≤_, _<_}
 use native.Mathlib.Omega.{arith}
 use native.Mathlib.Decide.{ℕ-discrete}
 use mathlib.Core.Path.{_≡_, refl, sym, ap, _∙_, subst}
@@ -14,16 +14,17 @@ use Rattle.words.specs.Counted.{within, every}
 use Rattle.words.proofs.Tests.{false-of, eqb-eq, within-of}
 use Rattle.words.proofs.CountedLaws.{every-at}
 use Rattle.ledger.specs.Runs.{Run, run, covered}
-use Rattle.stored_forms.specs.Tree.{Tree, leaf, inorder, formOne}
+use Rattle.stored_forms.specs.Tree.{Tree, leaf, inorder, formOne, formTwo, formOf}
 use Rattle.stored_forms.specs.Blocks.{In}
-use Rattle.stored_forms.proofs.NodeLaws.{readable-one, covered-in, in-covered}
-use Rattle.tree_nodes.specs.Nodes.{links, cells}
+use Rattle.stored_forms.proofs.NodeLaws.{each-form, readable, covered-in, in-covered}
+use Rattle.tree_nodes.specs.Nodes.{cells}
+use Rattle.tree_nodes.proofs.FormLaws.{few-links}
 use Rattle.free_tree.specs.Shapes.{below, above, insert}
 use Rattle.free_tree.specs.Links.{linkOf}
 use Rattle.free_tree.specs.Held.{Room, Inserted}
 use Rattle.free_tree.proofs.PartLaws.{inorder-parts}
 use Rattle.free_tree.proofs.ChangeLaws.{inorder-insert}
-use Rattle.free_tree.proofs.CellLaws.{outside-first, apart-of}
+use Rattle.free_tree.proofs.CellLaws.{outside-first, apart-of, cell-from, cell-below, from-cell, below-cell}
 use Rattle.free_tree.proofs.StepLaws.{at-small}
 use Rattle.insert_counts.specs.Map.{Paired, Mapped, Fits, Marked}
 
@@ -80,65 +81,80 @@ outside-insert r t u away out i =
 
 -- ---- an arena of zeros
 
-pub wiped-map : {m₀ map₀ m map : Words} → Paired m₀ map₀ → m ≡ replicate (length m₀) 0
-    → map ≡ replicate (length map₀) 0 → Mapped m map 0
-unfolding formOne
-wiped-map {m₀} {map₀} {m} {map} p e f =
+-- a map has few cells
+many-links : (f : ℕ) → 16384 < formOf f .links
+unfolding formOne formTwo
+many-links = each-form (λ F. 16384 < F .links) (omega arith) (omega arith)
+
+pub wiped-map : (f : ℕ) {m₀ map₀ m map : Words} → Paired (formOf f) m₀ map₀ → m ≡ replicate (length m₀) 0
+    → map ≡ replicate (length map₀) 0 → Mapped (formOf f) m map 0
+wiped-map f {m₀} {map₀} {m} {map} p e g =
     let same : length m ≡ length m₀ = ap length e ∙ length-replicate (length m₀) 0 in
-    let same-map : length map ≡ length map₀ = ap length f ∙ length-replicate (length map₀) 0 in
-    let long = p .long in
+    let same-map : length map ≡ length map₀ = ap length g ∙ length-replicate (length map₀) 0 in
+    let long : length map ≡ cells (formOf f) m =
+    same-map ∙ p .long ∙ ap (λ n. n / formOf f .cell) (sym same) in
     let few = p .few in
     record {
       tree = leaf;
-      at = record { at = refl; holds = tt; within = omega arith; small = omega arith };
-      paired = record { long = same-map ∙ long ∙ ap (λ n. n / 2) (sym same); few = omega arith };
+      at = record { at = refl; holds = tt; within = omega arith; small = omega (arith, many-links f) };
+      paired = record { long = long; few = omega arith };
       outside = λ c h z i. i;
-      zeros = λ i h z. ap (λ w. getD w i 0) e ∙ getD-replicate (length m₀) i 0 0 (omega arith);
+      zeros = λ i h z.
+          let n = cells (formOf f) m in
+          let below = below-cell (readable f) i n (omega arith) in
+          let all = from-cell (readable f) (length m) n (omega arith) in
+          ap (λ w. getD w i 0) e ∙ getD-replicate (length m₀) i 0 0 (omega arith);
     }
 
 -- ---- an insertion
 
-module _ {m map : Words} {l : ℕ} where
-  pub root-read : Mapped m map l → Mapped m map (linkOf l)
+module _ (f : ℕ) {m map : Words} {l : ℕ} where
+  pub root-read : Mapped (formOf f) m map l → Mapped (formOf f) m map (linkOf l)
   root-read p =
-      let small = at-small readable-one (p .at) in
-      let e : l ≡ linkOf l = omega arith in
-      subst (Mapped m map) e p
+      let small = at-small (readable f) (p .at) in
+      let e : l ≡ linkOf l = omega (arith, few-links f) in
+      subst (Mapped (formOf f) m map) e p
 
-  module _ {x n : ℕ} (p : Mapped m map l) (f : Fits map x n) where
-    pub room : Room formOne links m l (run x n) (p .tree)
-    unfolding formOne
+  module _ {x n : ℕ} (p : Mapped (formOf f) m map l) (fit : Fits map x n) where
+    pub room : Room (formOf f) m l (run x n) (p .tree)
     room =
         let long = p .paired .long in
-        let inside = f .inside in
+        let inside = fit .inside in
         record {
           tree = p .at;
-          apart = apart-of (run x n) (p .tree) 0 (cells formOne m) (p .at .within) (f .some)
-              (λ u a b. p .outside u (omega arith) (f .free u a b));
-          filled = f .some;
+          apart = apart-of (run x n) (p .tree) 0 (cells (formOf f) m) (p .at .within) (fit .some)
+              (λ u a b. p .outside u (omega arith) (fit .free u a b));
+          filled = fit .some;
           inside = omega arith;
-          zeros = λ i a b. p .zeros i (omega arith) (f .free (i / 2) (omega arith) (omega arith));
+          zeros = λ i a b.
+              let low = cell-from (readable f) i x a in
+              let high = cell-below (readable f) i (x + n) b in
+              p .zeros i (omega arith) (fit .free (i / formOf f .cell) low high);
         }
 
-    pub inserted : {m′ map′ : Words} (k : ℕ) → Marked map map′ x (x + n) → Inserted formOne links m m′ l (run x n) k
-        → Mapped m′ map′ (linkOf k)
-    unfolding formOne
+    pub inserted : {m′ map′ : Words} (k : ℕ) → Marked map map′ x (x + n) → Inserted (formOf f) m m′ l (run x n) k
+        → Mapped (formOf f) m′ map′ (linkOf k)
     inserted {m′} {map′} k mark ins =
         let made = ins (p .tree) room .0 in
         let same = mark .long in
         let few = p .paired .few in
-        let some = f .some in
+        let some = fit .some in
+        let long = p .paired .long in
         record {
           tree = insert (run x n) (p .tree);
           at = made .tree;
-          paired = record { long = same ∙ p .paired .long ∙ ap (λ i. i / 2) (sym (made .long)); few = omega arith };
+          paired = record {
+            long = same ∙ long ∙ ap (λ i. i / formOf f .cell) (sym (made .long));
+            few = omega arith;
+          };
           outside = λ c h z.
               outside-insert (run x n) (p .tree) c (p .outside c (omega arith) (mark .other c z)) (mark .away c z);
           zeros = λ i h z.
-              let c = i / 2 in
+              let c = i / formOf f .cell in
               let was = mark .other c z in
+              let out = p .outside c (omega arith) was in
               made .frame c (
-                outside-first (p .tree) 0 (cells formOne m) c (p .at .within) (p .outside c (omega arith) was),
+                outside-first (p .tree) 0 (cells (formOf f) m) c (p .at .within) out,
                 λ e. mark .away c z (omega arith) (omega arith),
               ) i refl
               ∙ p .zeros i (omega arith) was;

@@ -2,16 +2,19 @@
 // insertion says it stored is held to a count over the arena's words before and after.
 use free_tree::count_of;
 use free_tree::link_of;
+use tree_nodes::forms::cell_count;
 ghost use mathlib.Core.Path.{_≡_};
 ghost use mathlib.Core.Bool.{true};
 ghost use Prim.Native.Nat.{_≤_};
 ghost use lib.ListN.{length};
+ghost use Rattle.stored_forms.specs.Tree.{formOf};
 ghost use Rattle.free_tree.specs.Links.{linkOf};
 ghost use Rattle.insert_counts.specs.Map.{Paired, Mapped, Fits, Marked};
 
-// What a round has come to: the root link, the last random number, insertions, links stored, and insertions whose
+// What a round has come to: the form's number, the root link, the last random number, insertions, links stored, and insertions whose
 // number was another than the count.
 struct Round {
+    form: u32,
     root: usize,
     seed: u64,
     insertions: u64,
@@ -50,15 +53,22 @@ fn mark(map: &mut [u32], lo: usize, hi: usize)
 }
 
 // Inserts the block of `n` cells at cell `x` if it fits. Returns the root link and how many links were stored.
-fn insert_where_free(arena: &mut [u32], map: &mut [u32], root: usize, x: usize, n: usize) -> u64
-    requires { ⌜ Mapped (now arena) (now map) root ⌝ }
-    ensures { λ k. ⌜ Mapped (now (arena .exit)) (now (map .exit)) (linkOf k) ⌝ }
+fn insert_where_free(
+    form: u32,
+    arena: &mut [u32],
+    map: &mut [u32],
+    root: usize,
+    x: usize,
+    n: usize,
+) -> u64
+    requires { ⌜ Mapped (formOf form) (now arena) (now map) root ⌝ }
+    ensures { λ k. ⌜ Mapped (formOf form) (now (arena .exit)) (now (map .exit)) (linkOf k) ⌝ }
 {
     if !fits(map, x, n) {
         return root as u64;
     }
     mark(map, x, x + n);
-    free_tree::insert(arena, root, x, n as u32)
+    free_tree::insert(form, arena, root, x, n as u32)
 }
 
 // ---- the count by words
@@ -75,16 +85,28 @@ fn halves(a: u32, b: u32) -> u64 {
     )
 }
 
-// Links lie in the second word of a cell; a word that is no node's is zero before and after.
-fn links_changed(before: &[u32], after: &[u32]) -> u64 {
+// The same for word `i`, where the form has two links in the second word of a cell, or one in the second and one in the
+// third.
+fn links_in(form: u32, i: usize, a: u32, b: u32) -> u64 {
+    if form == 2 {
+        return one_if(((i % 4 == 1) | (i % 4 == 2)) & (a != b));
+    }
+    if i % 2 == 0 {
+        return 0;
+    }
+    halves(a, b)
+}
+
+// A word that is no node's is zero before and after.
+fn links_changed(form: u32, before: &[u32], after: &[u32]) -> u64 {
     let mut sum = 0;
-    let mut c = 0;
-    while c < after.len() / 2 {
+    let mut i = 0;
+    while i < after.len() {
         sum = std::num::wrapping_add_u64(
             sum,
-            halves(testing::word(before, 2 * c + 1), after[2 * c + 1]),
+            links_in(form, i, testing::word(before, i), after[i]),
         );
-        c += 1;
+        i += 1;
     }
     sum
 }
@@ -103,9 +125,10 @@ fn copy(from: &[u32], to: &mut [u32]) {
 // The round after an insertion that says k: the root link and a number of links. `changed` is the count by words, the
 // root link among them; where the block did not fit it is 0.
 fn counted(round: Round, root: usize, said: u64, changed: u64) -> Round
-    ensures { λ r. ⌜ r .root ≡ root ⌝ }
+    ensures { λ r. ⌜ (r .form ≡ round .form) × (r .root ≡ root) ⌝ }
 {
     Round {
+        form: round.form,
         root,
         seed: round.seed,
         insertions: std::num::wrapping_add_u64(round.insertions, one_if(changed != 0)),
@@ -123,14 +146,18 @@ fn step(
     x: usize,
     n: usize,
 ) -> Round
-    requires { ⌜ Mapped (now arena) (now map) (round .root) ⌝ }
-    ensures { λ r. ⌜ Mapped (now (arena .exit)) (now (map .exit)) (r .root) ⌝ }
+    requires { ⌜ Mapped (formOf (round .form)) (now arena) (now map) (round .root) ⌝ }
+    ensures { λ r. ⌜ Mapped (formOf (r .form)) (now (arena .exit)) (now (map .exit)) (r .root) ⌝ }
 {
+    let form = round.form;
     let old = round.root;
     copy(arena, before);
-    let k = insert_where_free(arena, map, old, x, n);
+    let k = insert_where_free(form, arena, map, old, x, n);
     let root = link_of(k);
-    let changed = std::num::wrapping_add_u64(links_changed(before, arena), one_if(root != old));
+    let changed = std::num::wrapping_add_u64(
+        links_changed(form, before, arena),
+        one_if(root != old),
+    );
     counted(round, root, count_of(k), changed)
 }
 
@@ -147,9 +174,10 @@ fn pick(seed: u64, n: usize) -> usize {
 }
 
 fn with_seed(round: Round, seed: u64) -> Round
-    ensures { λ r. ⌜ r .root ≡ round .root ⌝ }
+    ensures { λ r. ⌜ (r .form ≡ round .form) × (r .root ≡ round .root) ⌝ }
 {
     Round {
+        form: round.form,
         root: round.root,
         seed,
         insertions: round.insertions,
@@ -160,8 +188,8 @@ fn with_seed(round: Round, seed: u64) -> Round
 
 // A block of fewer than `most` cells anywhere.
 fn turn(round: Round, arena: &mut [u32], map: &mut [u32], before: &mut [u32], most: usize) -> Round
-    requires { ⌜ Mapped (now arena) (now map) (round .root) ⌝ }
-    ensures { λ r. ⌜ Mapped (now (arena .exit)) (now (map .exit)) (r .root) ⌝ }
+    requires { ⌜ Mapped (formOf (round .form)) (now arena) (now map) (round .root) ⌝ }
+    ensures { λ r. ⌜ Mapped (formOf (r .form)) (now (arena .exit)) (now (map .exit)) (r .root) ⌝ }
 {
     let a = stirred(round.seed);
     let b = stirred(a);
@@ -177,8 +205,8 @@ fn turns(
     most: usize,
     count: usize,
 ) -> Round
-    requires { ⌜ Mapped (now arena) (now map) (start .root) ⌝ }
-    ensures { λ r. ⌜ Mapped (now (arena .exit)) (now (map .exit)) (r .root) ⌝ }
+    requires { ⌜ Mapped (formOf (start .form)) (now arena) (now map) (start .root) ⌝ }
+    ensures { λ r. ⌜ Mapped (formOf (r .form)) (now (arena .exit)) (now (map .exit)) (r .root) ⌝ }
 {
     let mut round = start;
     let mut i = 0;
@@ -192,13 +220,14 @@ fn turns(
 // ---- rounds
 
 // An arena of zeros with no block, and its map. The map has a word for each cell.
-fn opened(arena: &mut [u32], map: &mut [u32], seed: u64) -> Round
-    requires { ⌜ Paired (now arena) (now map) ⌝ }
-    ensures { λ r. ⌜ Mapped (now (arena .exit)) (now (map .exit)) (r .root) ⌝ }
+fn opened(form: u32, arena: &mut [u32], map: &mut [u32], seed: u64) -> Round
+    requires { ⌜ Paired (formOf form) (now arena) (now map) ⌝ }
+    ensures { λ r. ⌜ Mapped (formOf (r .form)) (now (arena .exit)) (now (map .exit)) (r .root) ⌝ }
 {
     words::wipe(arena);
     words::wipe(map);
     Round {
+        form,
         root: 0,
         seed,
         insertions: 0,
@@ -213,14 +242,14 @@ fn report(round: Round) {
     testing::print_count(round.differences, b" differences\n");
 }
 
-fn play(arena: &mut [u32], map: &mut [u32], before: &mut [u32], most: usize, seed: u64) {
-    if map.len() != arena.len() / 2 {
+fn play(form: u32, arena: &mut [u32], map: &mut [u32], before: &mut [u32], most: usize, seed: u64) {
+    if map.len() != cell_count(form, arena.len()) {
         return;
     }
     if 8192 < map.len() {
         return;
     }
-    let start = opened(arena, map, seed);
+    let start = opened(form, arena, map, seed);
     let done = turns(start, arena, map, before, most, 600);
     testing::print_count(arena.len() as u64, b" words: ");
     report(done);
@@ -228,21 +257,21 @@ fn play(arena: &mut [u32], map: &mut [u32], before: &mut [u32], most: usize, see
 
 // 01, T8: beside the block of cells 0 to 2 the block of cells 5 to 7 is inserted.
 fn sheet_blocks(start: Round, arena: &mut [u32], map: &mut [u32], before: &mut [u32]) -> Round
-    requires { ⌜ Mapped (now arena) (now map) (start .root) ⌝ }
-    ensures { λ r. ⌜ Mapped (now (arena .exit)) (now (map .exit)) (r .root) ⌝ }
+    requires { ⌜ Mapped (formOf (start .form)) (now arena) (now map) (start .root) ⌝ }
+    ensures { λ r. ⌜ Mapped (formOf (r .form)) (now (arena .exit)) (now (map .exit)) (r .root) ⌝ }
 {
     let first = step(start, arena, map, before, 0, 3);
     step(first, arena, map, before, 5, 3)
 }
 
-fn bench_sheet(arena: &mut [u32], map: &mut [u32], before: &mut [u32]) {
-    if map.len() != arena.len() / 2 {
+fn bench_sheet(form: u32, arena: &mut [u32], map: &mut [u32], before: &mut [u32]) {
+    if map.len() != cell_count(form, arena.len()) {
         return;
     }
     if 8192 < map.len() {
         return;
     }
-    let start = opened(arena, map, 0);
+    let start = opened(form, arena, map, 0);
     let done = sheet_blocks(start, arena, map, before);
     testing::show(b"T8:", arena);
     report(done);
@@ -287,26 +316,34 @@ fn size_of(round: u64) -> Size {
 }
 
 // The same on the first words.
-fn play_on(arena: &mut [u32], map: &mut [u32], before: &mut [u32], size: Size, seed: u64) {
+fn play_on(
+    form: u32,
+    arena: &mut [u32],
+    map: &mut [u32],
+    before: &mut [u32],
+    size: Size,
+    seed: u64,
+) {
     let w = testing::least(size.words, arena.len());
-    let m = testing::least(size.words / 2, map.len());
+    let m = testing::least(cell_count(form, size.words), map.len());
     let zero = 0;
     let lent = &mut arena[zero..w];
-    play(lent, &mut map[zero..m], before, size.most, seed);
+    play(form, lent, &mut map[zero..m], before, size.most, seed);
 }
 
-fn sheet_on(arena: &mut [u32], map: &mut [u32], before: &mut [u32]) {
-    let w = testing::least(16, arena.len());
-    let m = testing::least(8, map.len());
+// T8's eight cells.
+fn sheet_on(form: u32, words: usize, arena: &mut [u32], map: &mut [u32], before: &mut [u32]) {
+    let w = testing::least(words, arena.len());
+    let m = testing::least(cell_count(form, words), map.len());
     let zero = 0;
     let lent = &mut arena[zero..w];
-    bench_sheet(lent, &mut map[zero..m], before);
+    bench_sheet(form, lent, &mut map[zero..m], before);
 }
 
-fn run(arena: &mut [u32], map: &mut [u32], before: &mut [u32]) {
+fn run(form: u32, arena: &mut [u32], map: &mut [u32], before: &mut [u32]) {
     let mut i = 0;
     while i < 9 {
-        play_on(arena, map, before, size_of(i), i);
+        play_on(form, arena, map, before, size_of(i), i);
         i += 1;
     }
 }
@@ -315,6 +352,8 @@ fn main() {
     let mut arena = [0u32; 16384];
     let mut map = [0u32; 8192];
     let mut before = [0u32; 16384];
-    sheet_on(&mut arena, &mut map, &mut before);
-    run(&mut arena, &mut map, &mut before);
+    sheet_on(1, 16, &mut arena, &mut map, &mut before);
+    run(1, &mut arena, &mut map, &mut before);
+    sheet_on(2, 32, &mut arena, &mut map, &mut before);
+    run(2, &mut arena, &mut map, &mut before);
 }

@@ -1,7 +1,9 @@
 -- The structs that cross to C, as the pools' own. Assumes nothing.
+use Prim.Native.Nat.{ℕ}
 use Rattle.calls.specs.declared.Answer as calls
 use Rattle.tree_check.specs.declared.Head as tree-head
 use Rattle.tree_requests.specs.declared.Outcome as tree
+use Rattle.segment_check.specs.declared.Head as segment-head
 use Rattle.segment_requests.specs.declared.Outcome as segment
 use Rattle.segment_requests.specs.declared.Allocation as segment-allocation
 use Rattle.pool_c.specs.declared.TreeHead.{TreeHead}
@@ -11,7 +13,11 @@ use Rattle.pool_c.specs.declared.SegmentOutcome.{SegmentOutcome}
 use Rattle.pool_c.specs.declared.SegmentAllocation.{SegmentAllocation}
 
 abbrev pub headOf : TreeHead → tree-head.Head
-headOf h = record { root = h .root; next = h .next }
+headOf h = record { root = h .root; next = h .next; form = h .form }
+
+-- the head of the segment pool is one number, and crosses as that
+abbrev pub segmentHead : ℕ → segment-head.Head
+segmentHead next = record { next = next }
 
 abbrev pub answerOf : Answer → calls.Answer
 answerOf r = record {
@@ -25,11 +31,11 @@ abbrev pub treeOutcome : TreeOutcome → tree.Outcome
 treeOutcome r = record { head = headOf (r .head); answer = answerOf (r .answer) }
 
 abbrev pub segmentOutcome : SegmentOutcome → segment.Outcome
-segmentOutcome r = record { head = record { next = r .next }; answer = answerOf (r .answer) }
+segmentOutcome r = record { head = segmentHead (r .next); answer = answerOf (r .answer) }
 
 abbrev pub segmentAllocation : SegmentAllocation → segment-allocation.Allocation
 segmentAllocation r = record {
-  head = record { next = r .next };
+  head = segmentHead (r .next);
   answer = answerOf (r .answer);
   places = r .places;
 }

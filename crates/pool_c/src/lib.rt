@@ -11,13 +11,14 @@ ghost use Rattle.tree_check.specs.Gate.{treePool, noHead};
 ghost use Rattle.segment_check.specs.Gate.{segmentPool};
 ghost use Rattle.tree_requests.specs.Outcomes as tree;
 ghost use Rattle.segment_requests.specs.Outcomes as segment;
-ghost use Rattle.pool_c.specs.Structs.{headOf, answerOf, treeOutcome, segmentOutcome, segmentAllocation};
+ghost use Rattle.pool_c.specs.Structs.{headOf, segmentHead, answerOf, treeOutcome, segmentOutcome, segmentAllocation};
 
 // lf_tree_head
 #[repr(C)]
 pub struct TreeHead {
     pub root: u32,
     pub next: u32,
+    pub form: u32,
 }
 
 // lf_answer, in two halves: a caller in C reads eight bytes of it at a time, and finds them soonest if they were
@@ -93,6 +94,7 @@ fn c_tree_outcome(done: tree_requests::Outcome) -> TreeOutcome
         head: TreeHead {
             root: after.root,
             next: after.next,
+            form: after.form,
         },
         answer: c_answer(done.answer),
     }
@@ -122,11 +124,16 @@ fn c_segment_allocation(done: segment_requests::Allocation) -> SegmentAllocation
 // ---- the tree pool
 
 #[no_mangle]
-pub extern "C" fn lf_tree_format(arena: &mut [u32], table: &mut [u32], first: u32) -> TreeOutcome
-    ensures { λ r. ⌜ tree.handed (treeOutcome r) (now (arena .exit)) (now (table .exit)) []
-        ≡ resultOf (step treeEngine (format first) (treePool noHead (now (arena .entry)) (now (table .entry)))) ⌝ }
+pub extern "C" fn lf_tree_format(
+    form: u32,
+    arena: &mut [u32],
+    table: &mut [u32],
+    first: u32,
+) -> TreeOutcome
+    ensures { λ r. ⌜ tree.formatted form (treeOutcome r) (now (arena .exit)) (now (table .exit))
+        ≡ resultOf (step treeEngine (format first) (treePool (noHead form) (now (arena .entry)) (now (table .entry)))) ⌝ }
 {
-    let done = tree_pool::format(arena, table, first);
+    let done = tree_pool::format(form, arena, table, first);
     c_tree_outcome(done)
 }
 
@@ -144,6 +151,7 @@ pub extern "C" fn lf_tree_allocate(
     let pool = tree_check::Head {
         root: head.root,
         next: head.next,
+        form: head.form,
     };
     let done = tree_pool::allocate(pool, arena, table, words);
     c_tree_outcome(done)
@@ -165,6 +173,7 @@ pub extern "C" fn lf_tree_release(
     let pool = tree_check::Head {
         root: head.root,
         next: head.next,
+        form: head.form,
     };
     let named = Row {
         ticket,
@@ -191,6 +200,7 @@ pub extern "C" fn lf_tree_find(
     let pool = tree_check::Head {
         root: head.root,
         next: head.next,
+        form: head.form,
     };
     let named = Row {
         ticket,
@@ -216,6 +226,7 @@ pub extern "C" fn lf_tree_list(
     let pool = tree_check::Head {
         root: head.root,
         next: head.next,
+        form: head.form,
     };
     let done = tree_pool::list(pool, arena, table, requests, answers);
     c_tree_outcome(done)
@@ -234,7 +245,7 @@ pub extern "C" fn lf_segment_format(
     ensures { λ r. ⌜
         segment.handed segments (segmentOutcome r) (now (arena .exit)) (now (table .exit)) (now (index .exit)) []
         ≡ resultOf (step segmentEngine (format first)
-        (segmentPool segments 0 (now (arena .entry)) (now (table .entry)) (now (index .entry)))) ⌝ }
+        (segmentPool segments (segmentHead 0) (now (arena .entry)) (now (table .entry)) (now (index .entry)))) ⌝ }
 {
     let done = segment_pool::format(segments, arena, table, index, first);
     c_segment_outcome(done)
@@ -255,9 +266,9 @@ pub extern "C" fn lf_segment_allocate(
       r .places,
     )
         ≡ segment.allocated
-        (segmentPool segments next (now (arena .entry)) (now (table .entry)) (now (index .entry))) words ⌝ }
+        (segmentPool segments (segmentHead next) (now (arena .entry)) (now (table .entry)) (now (index .entry))) words ⌝ }
 {
-    let head = segment_requests::Head { next };
+    let head = segment_check::Head { next };
     let done = segment_pool::allocate(head, segments, arena, table, index, words);
     c_segment_allocation(done)
 }
@@ -276,9 +287,9 @@ pub extern "C" fn lf_segment_release(
     ensures { λ r. ⌜
         segment.handed segments (segmentOutcome r) (now (arena .exit)) (now (table .exit)) (now (index .exit)) []
         ≡ resultOf (step segmentEngine (release (row ticket address words))
-        (segmentPool segments next (now (arena .entry)) (now (table .entry)) (now (index .entry)))) ⌝ }
+        (segmentPool segments (segmentHead next) (now (arena .entry)) (now (table .entry)) (now (index .entry)))) ⌝ }
 {
-    let head = segment_requests::Head { next };
+    let head = segment_check::Head { next };
     let named = Row {
         ticket,
         address,
@@ -301,9 +312,9 @@ pub extern "C" fn lf_segment_find(
 ) -> Answer
     ensures { λ r. ⌜ answerOf r
         ≡ step segmentEngine (find (row ticket address words))
-        (segmentPool segments next (now (arena .entry)) (now (table .entry)) (now (index .entry))) .answer ⌝ }
+        (segmentPool segments (segmentHead next) (now (arena .entry)) (now (table .entry)) (now (index .entry))) .answer ⌝ }
 {
-    let head = segment_requests::Head { next };
+    let head = segment_check::Head { next };
     let named = Row {
         ticket,
         address,
@@ -327,9 +338,9 @@ pub extern "C" fn lf_segment_list(
         segment.handed segments (segmentOutcome r) (now (arena .exit)) (now (table .exit)) (now (index .exit))
         (now (answers .exit) ∷ [])
         ≡ resultOf (step segmentEngine (list (now (requests .entry)) (now (answers .entry)))
-        (segmentPool segments next (now (arena .entry)) (now (table .entry)) (now (index .entry)))) ⌝ }
+        (segmentPool segments (segmentHead next) (now (arena .entry)) (now (table .entry)) (now (index .entry)))) ⌝ }
 {
-    let head = segment_requests::Head { next };
+    let head = segment_check::Head { next };
     let done = segment_pool::list(head, segments, arena, table, index, requests, answers);
     c_segment_outcome(done)
 }

@@ -6,17 +6,17 @@ use mathlib.Core.Bool.{Bool, true, false, cond, _||_}
 use mathlib.Core.List.{List, [], _∷_}
 use native.Mathlib.Omega.{arith}
 use lib.Dec.{eqb, leb, ltb}
-use lib.ListN.{length, replicate, length-replicate}
+use lib.ListN.{length, getD, replicate, length-replicate}
 use Rattle.words.specs.Lists.{Words}
 use Rattle.words.specs.Places.{stampFrom}
 use Rattle.words.proofs.Tests.{eqb-ne, false-of, lt-of, of-le, of-gt}
 use Rattle.ledger.specs.Records.{emptyRow, tableOf, recordWords, slots}
 use Rattle.ledger.specs.Units.{owned}
-use Rattle.stored_forms.specs.Tree.{formOne, formRule}
+use Rattle.stored_forms.specs.Tree.{formOf, formRule}
 use Rattle.calls.specs.Pool.{Pool, lengths, store, sound}
 use Rattle.calls.specs.Step as machine
 use Rattle.calls.specs.Step.{format, step, blank, accepted}
-use Rattle.calls.specs.Engines.{treeEngine, treeEngineOf}
+use Rattle.calls.specs.Engines.{treeEngine}
 use Rattle.calls.proofs.GateLaws.{format-done}
 use Rattle.calls.proofs.Engines.{tree-demand2}
 use Rattle.call_parts.specs.Parts.{formatNumber}
@@ -25,10 +25,11 @@ use Rattle.tree_check.specs.Gate.{treePool, noHead}
 use Rattle.tree_check.proofs.GateLaws.{in-range}
 use Rattle.tree_requests.specs.declared.Outcome.{Outcome}
 use Rattle.call_parts.specs.Results.{Result, resultOf}
-use Rattle.tree_requests.specs.Outcomes.{handed}
+use Rattle.tree_requests.specs.Outcomes.{inForm, formatted}
 use Rattle.tree_pool.proofs.FormatLaws.{blank-owned}
 use Rattle.text.specs.Fields.{lineOf}
-use Rattle.pool_text.specs.Meaning.{serving, stopped, served, fresh, opening, opened, refusalLine, mostTextWords}
+use Rattle.pool_text.specs.Meaning.{serving, stopped, served, textForm, fresh, opening, opened, refusalLine}
+use Rattle.pool_text.specs.Meaning.{mostTextWords}
 
 abbrev zeroWords : ℕ → Words
 zeroWords n = replicate n 0
@@ -43,35 +44,38 @@ stamp-none {A} o v h i (x ∷ a) (y ∷ b) e =
     rw (h i) (ap (λ (l : List A). v i ∷ l) (stamp-none o v h (suc i) a b (omega arith)))
 
 abbrev at : Words → Words → Pool
-at a t = treePool noHead a t
+at a t = treePool (noHead textForm) a t
 
 module _ (a b t u : Words) (ea : length a ≡ length b) (et : length t ≡ length u) where
   same-lengths : lengths treeEngine (at a t) ≡ lengths treeEngine (at b u)
-  unfolding lengths treeEngine treeEngineOf
+  unfolding lengths treeEngine
   same-lengths = rw (ea, et)
 
   same-store : (first : ℕ) → store treeEngine (blank treeEngine (at a t)) first (at a t)
       ≡ store treeEngine (blank treeEngine (at b u)) first (at b u)
-  unfolding store treeEngine treeEngineOf
+  unfolding store treeEngine
   same-store first =
       let W = length b in
       let L = replicate (slots u) emptyRow in
       rw (ea, et)
       (ap
       (λ (x : Words). record {
-        head = record { root = treeEngine .root 0 W L; next = first };
-        shape = 0;
+        head = record { own = treeEngine .own textForm W L; next = first };
+        shape = textForm;
         arena = x;
         table = tableOf L;
-        index = treeEngine .index 0 W L;
+        index = treeEngine .index textForm W L;
       })
-      (stamp-none (owned (formRule formOne) L) (treeEngine .word 0 W L) (blank-owned (slots u)) 0 a b ea))
+      (stamp-none (owned (formRule (formOf textForm)) L) (treeEngine .word textForm W L)
+      (blank-owned (formRule (formOf textForm)) (slots u)) 0 a b ea))
 
--- a format's number goes by the lengths and the first ticket
-number-of : (p : Pool) (first : ℕ)
-    → step treeEngine (format first) p .answer .number ≡ formatNumber (lengths treeEngine p) first
-number-of p first =
-    format-answers treeEngine p first (lengths treeEngine p) refl (formatNumber (lengths treeEngine p) first) refl
+-- a format's number goes by the lengths and the first ticket, for its form is known
+number-of : (a t : Words) (first : ℕ)
+    → step treeEngine (format first) (at a t) .answer .number ≡ formatNumber true (lengths treeEngine (at a t)) first
+unfolding treeEngine
+number-of a t first =
+    let right = lengths treeEngine (at a t) in
+    format-answers treeEngine (at a t) first true refl right refl (formatNumber true right first) refl
 
 -- the meaning's fresh pool
 abbrev zeros : ℕ → ℕ → Pool
@@ -87,10 +91,11 @@ module _ (w s first : ℕ) (ns : List ℕ) where
   unfolding fresh
   many-slots l =
       let wrong : lengths treeEngine (zeros w s) ≡ false = false-of (lengths treeEngine (zeros w s)) (λ t.
-      let few = in-range noHead (zeroWords w) (zeroWords (recordWords * s)) t .few in
+      let few = in-range (noHead textForm) (zeroWords w) (zeroWords (recordWords * s)) t .few in
       let long = length-replicate {A = ℕ} (recordWords * s) 0 in
       absurd (omega (arith, few, long, l))) in
-      refused-opening 8 (number-of (zeros w s) first ∙ ap (λ (b : Bool). formatNumber b first) wrong)
+      refused-opening 8
+      (number-of (zeroWords w) (zeroWords (recordWords * s)) first ∙ ap (λ (b : Bool). formatNumber true b first) wrong)
       (λ z. omega arith)
 
   pub too-large : (ltb 8192 w || ltb 256 s) ≡ true → opened w s first ns ≡ served stopped (refusalLine 8)
@@ -109,7 +114,7 @@ module _ (w s first : ℕ) (ns : List ℕ) where
 
 -- the code's format of words that lay anywhere
 module _ (a t : Words) (w s first : ℕ) (ns : List ℕ) (ea : length a ≡ w) (et : length t ≡ recordWords * s) (d : Outcome)
-    (b u : Words) (e : handed d b u [] ≡ resultOf (step treeEngine (format first) (at a t))) (h : w ≤ 8192) where
+    (b u : Words) (e : formatted textForm d b u ≡ resultOf (step treeEngine (format first) (at a t))) (h : w ≤ 8192) where
   arena-length : length a ≡ length (zeroWords w)
   arena-length = ea ∙ sym (length-replicate {A = ℕ} w 0)
 
@@ -122,8 +127,8 @@ module _ (a t : Words) (w s first : ℕ) (ns : List ℕ) (ea : length a ≡ w) (
   number-is : fresh w s first .answer .number ≡ d .answer .number
   unfolding fresh
   number-is =
-      number-of (zeros w s) first ∙ ap (λ (b : Bool). formatNumber b first) (sym same-as-zeros)
-      ∙ sym (number-of (at a t) first) ∙ sym (ap (λ (x : Result). x .answer .number) e)
+      number-of (zeroWords w) (zeroWords (recordWords * s)) first
+      ∙ ap (λ (b : Bool). formatNumber true b first) (sym same-as-zeros) ∙ sym (number-of a t first) ∙ sym (ap (λ (x : Result). x .answer .number) e)
 
   pub opens-not : d .answer .number ≢ 0 → opened w s first ns ≡ served stopped (refusalLine (d .answer .number))
   unfolding opened
@@ -136,9 +141,16 @@ module _ (a t : Words) (w s first : ℕ) (ns : List ℕ) (ea : length a ≡ w) (
     there : accepted (step treeEngine (format first) (at a t) .answer) ≡ true
     there = ap (λ (x : Result). accepted (x .answer)) (sym e) ∙ ap (λ (k : ℕ). eqb k 0) z
 
+    in-form : inForm textForm (treePool (d .head) b u) ≡ store treeEngine (blank treeEngine (at a t)) first (at a t)
+    in-form = ap (λ (x : Result). x .pool) (e ∙ ap resultOf (format-done treeEngine (at a t) first there .1))
+
+    -- the head has the form that it was given
+    form-is : d .head .form ≡ textForm
+    unfolding store treeEngine
+    form-is = ap (λ (p : Pool). getD (p .head .own) 1 0) in-form
+
     stored-there : treePool (d .head) b u ≡ store treeEngine (blank treeEngine (at a t)) first (at a t)
-    stored-there =
-        ap (λ (x : Result). x .pool) (e ∙ ap resultOf (format-done treeEngine (at a t) first there .1))
+    stored-there = ap (λ (f : ℕ). inForm f (treePool (d .head) b u)) form-is ∙ in-form
 
     pool-is : treePool (d .head) b u ≡ fresh w s first .pool
     unfolding fresh

@@ -62,9 +62,14 @@ served s said = record { state = s; said = said }
 abbrev pub mostTextWords : ℕ
 mostTextWords = 8192
 
+-- 02, ticket 3: "The text program stays form 1."
+abbrev pub textForm : ℕ
+textForm = 1
+
 -- a new pool of w words and s records, with this first ticket
 unfoldable pub fresh : ℕ → ℕ → ℕ → Outcome
-fresh w s first = step treeEngine (format first) (treePool noHead (replicate w 0) (replicate (recordWords * s) 0))
+fresh w s first =
+    step treeEngine (format first) (treePool (noHead textForm) (replicate w 0) (replicate (recordWords * s) 0))
 
 -- "N, number"
 abbrev pub refusalLine : ℕ → Bytes

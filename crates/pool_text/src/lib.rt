@@ -19,11 +19,11 @@ ghost use Rattle.calls.specs.Engines.{treeEngine};
 ghost use Rattle.call_parts.specs.Parts.{actOf};
 ghost use Rattle.call_parts.specs.Results.{resultOf, acted};
 ghost use Rattle.tree_check.specs.Gate.{treePool, noHead};
-ghost use Rattle.tree_requests.specs.Outcomes.{handed};
+ghost use Rattle.tree_requests.specs.Outcomes.{handed, formatted};
 ghost use Rattle.text.specs.Fields.{pairOf, tripleOf, Wrote};
 ghost use Rattle.text.specs.Lines.{feed, finish};
 ghost use Rattle.pool_text.specs.Meaning.{begins, askOf, giveOf, requestOf, opened, threeNumbers, twoNumbers};
-ghost use Rattle.pool_text.specs.Meaning.{firstLine, refusalLine, answerLine, serve};
+ghost use Rattle.pool_text.specs.Meaning.{textForm, firstLine, refusalLine, answerLine, serve};
 ghost use Rattle.pool_text.specs.Session.{begun, standingOf, Lent, Became, Going, ahead, landed, mostAnswer};
 
 // ---- what a line asks
@@ -133,15 +133,18 @@ fn stop(out: &mut [u8], at: usize, number: u32) -> Line
     }
 }
 
+// The form of the program's pool.
+const FORM: u32 = 1;
+
 // Formats the first n words of the arena and the first t words of the table.
 fn format_front(arena: &mut [u32], n: usize, table: &mut [u32], t: usize, first: u32) -> Outcome
     requires { ⌜ (n ≤ length (now arena)) × (t ≤ length (now table)) ⌝ }
-    ensures { λ r. ⌜ handed r (take n (now (arena .exit))) (take t (now (table .exit))) []
-        ≡ resultOf (step treeEngine (format first) (treePool noHead (take n (now (arena .entry)))
+    ensures { λ r. ⌜ formatted textForm r (take n (now (arena .exit))) (take t (now (table .exit)))
+        ≡ resultOf (step treeEngine (format first) (treePool (noHead textForm) (take n (now (arena .entry)))
         (take t (now (table .entry))))) ⌝ }
 {
     let start = 0;
-    tree_pool::format(&mut arena[start..n], &mut table[start..t], first)
+    tree_pool::format(FORM, &mut arena[start..n], &mut table[start..t], first)
 }
 
 // A P line that names these sizes and this first ticket by these numbers, which are echoed: a pool in the first words of

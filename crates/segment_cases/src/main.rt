@@ -10,7 +10,7 @@
 //   allocate N         release T A W      find T A W      look T A W
 //   list N K V..       a list of N words, V over and over, with K words for its answers, which start as sevens
 use ledger::Row;
-use segment_requests::Head;
+use segment_check::Head;
 use segment_requests::Outcome;
 use testing::first_ticket;
 use testing::is;

@@ -31,6 +31,7 @@ use Rattle.calls.specs.Pool.{Pool, store, lengths, samePool, stored}
 use Rattle.calls.specs.Engines.{segmentEngine}
 use Rattle.calls.proofs.StoreLaws.{same-pool-eq, same-pool-same}
 use Rattle.segment_check.specs.Gate.{asWords, segmentPool, Ranged}
+use Rattle.segment_check.specs.declared.Head.{Head}
 
 -- ---- the lent lengths
 
@@ -43,14 +44,14 @@ pub record InRange (S : ℕ) (v : List ℤ) (t x : Words) : Type 0 where
   pub few : slots t ≤ 256
   pub indexed : length x ≡ 3 * S
 
-module _ (S next : ℕ) (v : List ℤ) (t x : Words) where
+module _ (S : ℕ) (h : Head) (v : List ℤ) (t x : Words) where
   pub lengths-are : ((((((leb 2 (length v) && leb (length v) 16384) && isPower S depth) && eqb (length t % 3) 0)
       && leb 1 (slots t)) && leb (slots t) 256) && eqb (length x) (3 * S))
-      ≡ lengths segmentEngine (segmentPool S next v t x)
+      ≡ lengths segmentEngine (segmentPool S h v t x)
   unfolding lengths segmentEngine segmentRange
   lengths-are = rw (length-map v)
 
-  pub in-range : lengths segmentEngine (segmentPool S next v t x) ≡ true → InRange S v t x
+  pub in-range : lengths segmentEngine (segmentPool S h v t x) ≡ true → InRange S v t x
   in-range h =
       let e = lengths-are ∙ h in
       record {
@@ -97,81 +98,81 @@ ranged-end v i below end j = go (decLe i j)
 -- ---- the pool
 
 -- b is what the check of the table says
-not-stored : (S next : ℕ) (v : List ℤ) (t x : Words) (b : Bool)
-    → b ≡ valid segmentRule (length v) next (recordsOf t) → b ≡ false
-    → false ≡ stored segmentEngine (segmentPool S next v t x)
+not-stored : (S : ℕ) (h : Head) (v : List ℤ) (t x : Words) (b : Bool)
+    → b ≡ valid segmentRule (length v) (h .next) (recordsOf t) → b ≡ false
+    → false ≡ stored segmentEngine (segmentPool S h v t x)
 unfolding stored segmentEngine
-not-stored S next v t x b e off = let bad = sym e ∙ off in sym (rw (length-map v, bad))
+not-stored S h v t x b e off = let bad = sym e ∙ off in sym (rw (length-map v, bad))
 
 -- right lengths and a valid table
-record Valid (S next : ℕ) (v : List ℤ) (t x : Words) : Type 0 where
+record Valid (S : ℕ) (h : Head) (v : List ℤ) (t x : Words) : Type 0 where
   pub fit : InRange S v t x
-  pub good : valid segmentRule (length v) next (recordsOf t) ≡ true
+  pub good : valid segmentRule (length v) (h .next) (recordsOf t) ≡ true
 
-module _ {S next : ℕ} {v : List ℤ} {t x : Words} (k : Valid S next v t x) where
+module _ {S : ℕ} {h : Head} {v : List ℤ} {t x : Words} (k : Valid S h v t x) where
   abbrev L : Ledger
   L = recordsOf t
 
   abbrev p : Pool
-  p = segmentPool S next v t x
+  p = segmentPool S h v t x
 
   -- arena and index of the ledger
   abbrev Right : Type 0
   Right = (v ≡ arenaOf L v) × (x ≡ segmentIndex S (length v) L)
 
-  right-store : Right → p ≡ store segmentEngine L next p
+  right-store : Right → p ≡ store segmentEngine L (h .next) p
   unfolding store segmentEngine
-  right-store h =
+  right-store same =
       let n : length (asWords v) ≡ length v = length-map v (ofZ w32) in
       let arena : asWords v ≡ stamp (owned segmentRule L) (segmentWord (length (asWords v)) L) (asWords v) =
-      ap asWords (h .0) ∙ arena-words L v
+      ap asWords (same .0) ∙ arena-words L v
       ∙ ap (λ m. stamp (owned segmentRule L) (segmentWord m L) (asWords v)) (sym n) in
       let table = table-records t (k .fit .threes) in
-      let index : x ≡ segmentIndex S (length (asWords v)) L = h .1 ∙ ap (λ m. segmentIndex S m L) (sym n) in
+      let index : x ≡ segmentIndex S (length (asWords v)) L = same .1 ∙ ap (λ m. segmentIndex S m L) (sym n) in
       λ i. record {
-        head = record { root = []; next = next };
+        head = record { own = []; next = h .next };
         shape = S;
         arena = arena i;
         table = sym table i;
         index = index i;
       }
 
-  store-right : Ranged v → p ≡ store segmentEngine L next p → Right
+  store-right : Ranged v → p ≡ store segmentEngine L (h .next) p → Right
   unfolding store segmentEngine
   store-right fits e =
       let n : length (asWords v) ≡ length v = length-map v (ofZ w32) in (
-        words-arena next L v (k .good) (k .fit .most) fits
+        words-arena (h .next) L v (k .good) (k .fit .most) fits
             (ap (λ (q : Pool). q .arena) e
             ∙ ap (λ m. stamp (owned segmentRule L) (segmentWord m L) (asWords v)) n),
         ap (λ (q : Pool). q .index) e ∙ ap (λ m. segmentIndex S m L) n,
       )
 
-  stored-same : stored segmentEngine p ≡ samePool p (store segmentEngine L next p)
+  stored-same : stored segmentEngine p ≡ samePool p (store segmentEngine L (h .next) p)
   unfolding stored segmentEngine
   stored-same =
-      let good : valid segmentRule (length (asWords v)) next L ≡ true = rw (length-map v) (k .good) in
+      let good : valid segmentRule (length (asWords v)) (h .next) L ≡ true = rw (length-map v) (k .good) in
       rw good
 
-  stored-by : (r : Bool) → (r ≡ true → Right) → (p ≡ store segmentEngine L next p → r ≡ true)
-      → r ≡ stored segmentEngine (segmentPool S next v t x)
+  stored-by : (r : Bool) → (r ≡ true → Right) → (p ≡ store segmentEngine L (h .next) p → r ≡ true)
+      → r ≡ stored segmentEngine (segmentPool S h v t x)
   stored-by r from to =
-      let q = store segmentEngine L next p in
+      let q = store segmentEngine L (h .next) p in
       bool-iff r (stored segmentEngine p)
       (λ e. stored-same ∙ ap (samePool p) (sym (right-store (from e))) ∙ same-pool-same p)
       (λ e. to (same-pool-eq p q (sym stored-same ∙ e)))
 
-  stored-is : Ranged v → (r : Bool) → Says r Right → r ≡ stored segmentEngine (segmentPool S next v t x)
+  stored-is : Ranged v → (r : Bool) → Says r Right → r ≡ stored segmentEngine (segmentPool S h v t x)
   stored-is fits r says = stored-by r (says .0) (λ e. says .1 (store-right fits e))
 
 -- what the check says of the lent memory is what `stored` says of the pool
-pub stored-says : {S : ℕ} (next : ℕ) {v : List ℤ} {t x : Words} → InRange S v t x → Ranged v → (r : Bool)
-    → Says r (Shown next v t x S) → r ≡ stored segmentEngine (segmentPool S next v t x)
-stored-says {S} next {v} {t} {x} fit fits r says = go (valid segmentRule (length v) next (recordsOf t)) refl
+pub stored-says : {S : ℕ} (h : Head) {v : List ℤ} {t x : Words} → InRange S v t x → Ranged v → (r : Bool)
+    → Says r (Shown (h .next) v t x S) → r ≡ stored segmentEngine (segmentPool S h v t x)
+stored-says {S} h {v} {t} {x} fit fits r says = go (valid segmentRule (length v) (h .next) (recordsOf t)) refl
   where
-    go : (b : Bool) → b ≡ valid segmentRule (length v) next (recordsOf t)
-        → r ≡ stored segmentEngine (segmentPool S next v t x)
+    go : (b : Bool) → b ≡ valid segmentRule (length v) (h .next) (recordsOf t)
+        → r ≡ stored segmentEngine (segmentPool S h v t x)
     go false e =
-        false-of r (λ h. true≢false (sym (says .0 h .0) ∙ sym e)) ∙ not-stored S next v t x false e refl
+        false-of r (λ h. true≢false (sym (says .0 h .0) ∙ sym e)) ∙ not-stored S h v t x false e refl
     go true e =
         stored-is (record { fit = fit; good = sym e }) fits r
         ((λ h. (says .0 h .1, says .0 h .2)), (λ (arena, index). says .1 (sym e, arena, index)))

@@ -37,6 +37,11 @@ ghost use Rattle.segment_check.specs.Laid.{Lays, LaysAll, Heads, Sets, G
 // A unit of the segment pool is one word, and a block has one before its address: the control word.
 pub const WORDS: Rule = Rule { unit: 1, lead: 1 };
 
+// What a call of the segment pool is passed and hands back: the next ticket, 0 when none is left.
+pub struct Head {
+    pub next: u32,
+}
+
 // ---- the map, 64 words of the arena to an entry
 
 // Whether bit k is set.
@@ -414,25 +419,25 @@ pub fn ranged(arena: &[i32])
 }
 
 // Whether head and lent memory are the stored form of a ledger.
-fn is_stored(s: u32, next: u32, arena: &[i32], table: &[u32], index: &[u32]) -> bool
-    requires { ⌜ lengths segmentEngine (segmentPool s next (now arena) (now table) (now index)) ≡ true ⌝ }
+fn is_stored(s: u32, head: Head, arena: &[i32], table: &[u32], index: &[u32]) -> bool
+    requires { ⌜ lengths segmentEngine (segmentPool s head (now arena) (now table) (now index)) ≡ true ⌝ }
     ensures { λ r. ⌜ r
-        ≡ stored segmentEngine (segmentPool s next (now (arena .entry)) (now (table .entry)) (now (index .entry))) ⌝ }
+        ≡ stored segmentEngine (segmentPool s head (now (arena .entry)) (now (table .entry)) (now (index .entry))) ⌝ }
 {
     ranged(arena);
     let segments = segments_of(s, arena.len());
-    is_shown(next, &*arena, &*table, &*index, segments)
+    is_shown(head.next, &*arena, &*table, &*index, segments)
 }
 
 // The number of the tests that stand before every call: 8, 1, or 0 for a sound pool.
-pub fn gate_number(s: u32, next: u32, arena: &[i32], table: &[u32], index: &[u32]) -> u32
+pub fn gate_number(s: u32, head: Head, arena: &[i32], table: &[u32], index: &[u32]) -> u32
     ensures { λ r. ⌜ GateIs segmentEngine
-        (segmentPool s next (now (arena .entry)) (now (table .entry)) (now (index .entry))) r ⌝ }
+        (segmentPool s head (now (arena .entry)) (now (table .entry)) (now (index .entry))) r ⌝ }
 {
     if !right_lengths(s, &*arena, &*table, &*index) {
         return 8;
     }
-    if !is_stored(s, next, &*arena, &*table, &*index) {
+    if !is_stored(s, head, &*arena, &*table, &*index) {
         return 1;
     }
     0

@@ -5,15 +5,15 @@
 use call_parts::Named;
 use calls::Answer;
 use ledger::Row;
+use segment_check::Head;
 use segment_requests::Allocation;
-use segment_requests::Head;
 use segment_requests::Outcome;
 ghost use mathlib.Core.Path.{_≡_};
 ghost use mathlib.Core.List.{[], _∷_};
 ghost use Rattle.calls.specs.Step.{format, release, find, look, list, step};
 ghost use Rattle.calls.specs.Engines.{segmentEngine};
 ghost use Rattle.call_parts.specs.Results.{resultOf, wholeSlice, sliceOf};
-ghost use Rattle.segment_check.specs.Gate.{asWords, segmentPool};
+ghost use Rattle.segment_check.specs.Gate.{asWords, segmentPool, noHead};
 ghost use Rattle.segment_requests.specs.Outcomes.{handed, outcomeOf, allocated};
 
 // ---- find and look
@@ -22,9 +22,9 @@ ghost use Rattle.segment_requests.specs.Outcomes.{handed, outcomeOf, allocated}
 pub fn find(head: Head, s: u32, arena: &[i32], table: &[u32], index: &[u32], named: Row) -> Answer
     ensures { λ r. ⌜ r
         ≡ step segmentEngine (find named)
-        (segmentPool s (head .next) (now (arena .entry)) (now (table .entry)) (now (index .entry))) .answer ⌝ }
+        (segmentPool s head (now (arena .entry)) (now (table .entry)) (now (index .entry))) .answer ⌝ }
 {
-    let number = segment_check::gate_number(s, head.next, &*arena, &*table, &*index);
+    let number = segment_check::gate_number(s, head, &*arena, &*table, &*index);
     if number != 0 {
         return call_parts::refused(number);
     }
@@ -46,7 +46,7 @@ pub fn look<'a>(
 ) -> &'a [i32]
     ensures { λ r. ⌜ wholeSlice r
         ≡ sliceOf (step segmentEngine (look named (asWords (now (placeholder .entry))))
-        (segmentPool s (head .next) (now (arena .entry)) (now (table .entry)) (now (index .entry))) .shown)
+        (segmentPool s head (now (arena .entry)) (now (table .entry)) (now (index .entry))) .shown)
         (arena .entry) (placeholder .entry) ⌝ }
 {
     let answer = find(head, s, arena, table, index, named);
@@ -72,10 +72,10 @@ pub fn format(
 ) -> Outcome
     ensures { λ r. ⌜ handed s r (now (arena .exit)) (now (table .exit)) (now (index .exit)) []
         ≡ resultOf (step segmentEngine (format first)
-        (segmentPool s 0 (now (arena .entry)) (now (table .entry)) (now (index .entry)))) ⌝ }
+        (segmentPool s noHead (now (arena .entry)) (now (table .entry)) (now (index .entry)))) ⌝ }
 {
     let right = segment_check::right_lengths(s, &*arena, &*table, &*index);
-    let number = call_parts::format_number(right, first);
+    let number = call_parts::format_number(true, right, first);
     if number != 0 {
         return Outcome {
             head: Head { next: 0 },
@@ -117,10 +117,10 @@ pub fn allocate(
 ) -> Allocation
     ensures { λ r. ⌜
         (handed s (outcomeOf r) (now (arena .exit)) (now (table .exit)) (now (index .exit)) [], r .places)
-        ≡ allocated (segmentPool s (head .next) (now (arena .entry)) (now (table .entry)) (now (index .entry)))
+        ≡ allocated (segmentPool s head (now (arena .entry)) (now (table .entry)) (now (index .entry)))
         words ⌝ }
 {
-    let number = segment_check::gate_number(s, head.next, &*arena, &*table, &*index);
+    let number = segment_check::gate_number(s, head, &*arena, &*table, &*index);
     if number != 0 {
         let refused = segment_requests::refused_with(head, number);
         return with_places(refused, 0);
@@ -142,9 +142,9 @@ pub fn release(
 ) -> Outcome
     ensures { λ r. ⌜ handed s r (now (arena .exit)) (now (table .exit)) (now (index .exit)) []
         ≡ resultOf (step segmentEngine (release named)
-        (segmentPool s (head .next) (now (arena .entry)) (now (table .entry)) (now (index .entry)))) ⌝ }
+        (segmentPool s head (now (arena .entry)) (now (table .entry)) (now (index .entry)))) ⌝ }
 {
-    let number = segment_check::gate_number(s, head.next, &*arena, &*table, &*index);
+    let number = segment_check::gate_number(s, head, &*arena, &*table, &*index);
     if number != 0 {
         return segment_requests::refused_with(head, number);
     }
@@ -167,12 +167,12 @@ pub fn list(
 ) -> Outcome
     ensures { λ r. ⌜ handed s r (now (arena .exit)) (now (table .exit)) (now (index .exit)) (now (answers .exit) ∷ [])
         ≡ resultOf (step segmentEngine (list (now (asked .entry)) (now (answers .entry)))
-        (segmentPool s (head .next) (now (arena .entry)) (now (table .entry)) (now (index .entry)))) ⌝ }
+        (segmentPool s head (now (arena .entry)) (now (table .entry)) (now (index .entry)))) ⌝ }
 {
     if !call_parts::list_suits(asked, answers) {
         return segment_requests::refused_with(head, 8);
     }
-    let number = segment_check::gate_number(s, head.next, &*arena, &*table, &*index);
+    let number = segment_check::gate_number(s, head, &*arena, &*table, &*index);
     if number != 0 {
         return segment_requests::refused_with(head, number);
     }

@@ -41,7 +41,7 @@ use Rattle.calls.specs.Search.{placesBy}
 use Rattle.calls.proofs.ActLaws.{Asked, ask-done}
 use Rattle.calls.proofs.GrantLaws.{over, zeroed, grant-store, next-above}
 use Rattle.record_table.proofs.SlotLaws.{empty-found}
-use Rattle.segment_requests.specs.declared.Head.{Head}
+use Rattle.segment_check.specs.declared.Head.{Head}
 use Rattle.segment_requests.specs.Granting.{Grantable}
 use Rattle.segment_requests.specs.Outcomes.{placesAsked}
 use Rattle.segment_check.specs.Gate.{asWords, segmentPool}
@@ -49,11 +49,11 @@ use Rattle.segment_check.proofs.GateLaws.{InRange}
 use Rattle.segment_requests.proofs.StoredLaws.{sound-range, sound-form, stored-pool}
 
 -- the machine's fit, by the arena's own length
-pub fit-is : (S next n : ℕ) (v : List ℤ) (t x : Words)
-    → fitOf segmentEngine (segmentPool S next v t x) n
+pub fit-is : (S : ℕ) (h : Head) (n : ℕ) (v : List ℤ) (t x : Words)
+    → fitOf segmentEngine (segmentPool S h v t x) n
     ≡ lowestFit (free segmentRule (recordsOf t)) (length v) (span segmentRule n)
 unfolding fitOf segmentEngine
-fit-is S next n v t x = rw (length-map v (ofZ w32), div-one (length v))
+fit-is S h n v t x = rw (length-map v (ofZ w32), div-one (length v))
 
 -- ---- what the search says
 
@@ -101,7 +101,7 @@ some-words n size = let z = eqb-false n 0 (or-l (eqb n 0) (ltb 16384 n) size) in
 
 module _ (h : Head) (S : ℕ) (v : List ℤ) (t x : Words) (n slot at : ℕ) (f : Grantable h S v t x n slot at) where
   abbrev lent : Pool
-  lent = segmentPool S (h .next) v t x
+  lent = segmentPool S h v t x
 
   abbrev L : Ledger
   L = recordsOf t
@@ -110,7 +110,7 @@ module _ (h : Head) (S : ℕ) (v : List ℤ) (t x : Words) (n slot at : ℕ) (f 
   new = row (h .next) (addressAt segmentRule at) n
 
   pub place-range : InRange S v t x
-  place-range = sound-range S (h .next) v t x (f .ok)
+  place-range = sound-range S h v t x (f .ok)
 
   pub place-slot : slot < slots t
   place-slot = empty-found t slot (f .empty) .0
@@ -125,14 +125,14 @@ module _ (h : Head) (S : ℕ) (v : List ℤ) (t x : Words) (n slot at : ℕ) (f 
     size = f .size;
     slot = empty-found t slot (f .empty) .1;
     ticket = eqb-ne (h .next) 0 (f .ticket);
-    fit = fit-is S (h .next) n v t x ∙ f .fit;
+    fit = fit-is S h n v t x ∙ f .fit;
   }
 
   pub place-granting : {r : Segments} → Divided S (length v) r
       → Granting L (enter new L) v x (r .count) (r .size) at (span segmentRule n)
   unfolding sound-form
   place-granting {r} d =
-      granting L v x (r .count) (r .size) (sound-form S (h .next) v t x (f .ok) (f .ranged) d) (nextAfter (h .next)) n
+      granting L v x (r .count) (r .size) (sound-form S h v t x (f .ok) (f .ranged) d) (nextAfter (h .next)) n
       at (asked .slot) (f .ticket) (next-above (h .next)) (some-words n (f .size)) (f .fit)
 
   pub place-answer : success (row (h .next) (at + 1) n) ≡ answerTo segmentEngine lent (ask n)
@@ -161,7 +161,7 @@ module _ (h : Head) (S : ℕ) (v : List ℤ) (t x : Words) (n slot at : ℕ) (f 
 
   pub place-pool : (b : List ℤ) (u y : Words) → Becomes (enter new L) ground S b y
       → u ≡ tableOf (set L slot (row (h .next) (at + 1) n))
-      → segmentPool S (nextAfter (h .next)) b u y ≡ poolAfter segmentEngine lent (ask n)
+      → segmentPool S (record { next = nextAfter (h .next) }) b u y ≡ poolAfter segmentEngine lent (ask n)
   place-pool b u y becomes e =
       stored-pool (over lent (zeroed segmentEngine lent n at)) (enter new L) (nextAfter (h .next)) ground b u y
       ground-words becomes

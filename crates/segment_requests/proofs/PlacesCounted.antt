@@ -165,7 +165,7 @@ act-places p n ok = ap (placesBy p) (sym (answer-is p ok n))
 -- a call that the gate does not refuse is one on a sound pool
 reached : (p : Pool) (n k : ℕ) → k ≢ 8 → k ≢ 1 → step segmentEngine (allocate n) p .answer .number ≡ k
     → sound segmentEngine p ≡ true
-unfolding sound
+unfolding sound segmentEngine
 reached p n k a b e = go (lengths segmentEngine p) refl (stored segmentEngine p) refl
   where
     other : (x : ℕ) → GateIs segmentEngine p x → x ≢ 0 → k ≢ x → ⊥
@@ -175,7 +175,7 @@ reached p n k a b e = go (lengths segmentEngine p) refl (stored segmentEngine p)
 
     go : (l : Bool) → lengths segmentEngine p ≡ l → (s : Bool) → stored segmentEngine p ≡ s
         → (lengths segmentEngine p && stored segmentEngine p) ≡ true
-    go false l s t = absurd (other 8 (is-eight segmentEngine p l) (omega arith) a)
+    go false l s t = absurd (other 8 (is-eight segmentEngine p refl l) (omega arith) a)
     go true l false t = absurd (other 1 (is-one segmentEngine p l t) (omega arith) b)
     go true l true t = rw (l, t)
 

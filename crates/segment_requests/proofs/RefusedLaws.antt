@@ -15,14 +15,14 @@ use Rattle.call_parts.specs.Results.{acted}
 use Rattle.call_parts.proofs.AskLaws.{RefusedBy}
 use Rattle.call_parts.proofs.ResultLaws.{acted-refused}
 use Rattle.segment_check.specs.Gate.{segmentPool}
-use Rattle.segment_requests.specs.declared.Head.{Head}
+use Rattle.segment_check.specs.declared.Head.{Head}
 use Rattle.segment_requests.specs.declared.Outcome.{Outcome}
 use Rattle.segment_requests.specs.Outcomes.{handed, refusedWith, grantOutcome, releaseOutcome, effectIn, placesIn}
 use Rattle.segment_requests.specs.Outcomes.{placesAsked}
 
 module _ (h : Head) (S : ℕ) (v : List ℤ) (t x : Words) where
   abbrev p : Pool
-  p = segmentPool S (h .next) v t x
+  p = segmentPool S h v t x
 
   pub refused-acted : (act : Act) (o : Outcome) (n : ℕ) → o ≡ refusedWith h n → RefusedBy segmentEngine p act n
       → handed S o v t x [] ≡ acted segmentEngine act p

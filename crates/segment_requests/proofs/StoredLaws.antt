@@ -21,28 +21,29 @@ use Rattle.calls.specs.Pool.{Pool, store, sound}
 use Rattle.calls.specs.Engines.{segmentEngine}
 use Rattle.calls.proofs.StoreLaws.{sound-lengths, sound-valid, is-store}
 use Rattle.calls.proofs.Engines.{segment-laws}
+use Rattle.segment_check.specs.declared.Head.{Head}
 use Rattle.segment_check.specs.Gate.{asWords, segmentPool, Ranged}
 use Rattle.segment_check.proofs.GateLaws.{InRange, in-range, sized}
 
 -- ---- a sound pool
 
-module _ (S next : ℕ) (v : List ℤ) (t x : Words) (ok : sound segmentEngine (segmentPool S next v t x) ≡ true) where
+module _ (S : ℕ) (h : Head) (v : List ℤ) (t x : Words) (ok : sound segmentEngine (segmentPool S h v t x) ≡ true) where
   abbrev L : Ledger
   L = recordsOf t
 
   abbrev p : Pool
-  p = segmentPool S next v t x
+  p = segmentPool S h v t x
 
   long : length (asWords v) ≡ length v
   long = length-map v (ofZ w32)
 
   pub sound-range : InRange S v t x
-  sound-range = in-range S next v t x (sound-lengths segmentEngine segment-laws p ok)
+  sound-range = in-range S h v t x (sound-lengths segmentEngine segment-laws p ok)
 
-  pub sound-good : valid segmentRule (length v) next L ≡ true
+  pub sound-good : valid segmentRule (length v) (h .next) L ≡ true
   unfolding segmentEngine
   sound-good =
-      subst (λ (m : ℕ). valid segmentRule m next L ≡ true) long (sound-valid segmentEngine segment-laws p ok)
+      subst (λ (m : ℕ). valid segmentRule m (h .next) L ≡ true) long (sound-valid segmentEngine segment-laws p ok)
 
   unfoldable pub sound-form : Ranged v → {r : Segments} → Divided S (length v) r → Sound L v x (r .count) (r .size)
   unfolding segmentEngine store long
@@ -50,9 +51,9 @@ module _ (S next : ℕ) (v : List ℤ) (t x : Words) (ok : sound segmentEngine (
       let e = is-store segmentEngine segment-laws p ok in
       record {
         sizes = sized sound-range d;
-        next = next;
+        next = h .next;
         good = sound-good;
-        arena = words-arena next L v sound-good (sound-range .most) fits
+        arena = words-arena (h .next) L v sound-good (sound-range .most) fits
             (ap (λ (q : Pool). q .arena) e
             ∙ ap (λ (m : ℕ). stamp (owned segmentRule L) (segmentWord m L) (asWords v)) long);
         index = ap (λ (q : Pool). q .index) e ∙ ap₂ (λ (s m : ℕ). segmentIndex s m L) (sym (d .count)) long;
@@ -61,7 +62,7 @@ module _ (S next : ℕ) (v : List ℤ) (t x : Words) (ok : sound segmentEngine (
 -- ---- what is stored
 
 pub stored-pool : (p : Pool) (L : Ledger) (n : ℕ) (v v′ : List ℤ) (t x : Words) → p .arena ≡ asWords v
-    → Becomes L v (p .shape) v′ x → t ≡ tableOf L → segmentPool (p .shape) n v′ t x ≡ store segmentEngine L n p
+    → Becomes L v (p .shape) v′ x → t ≡ tableOf L → segmentPool (p .shape) (record { next = n }) v′ t x ≡ store segmentEngine L n p
 unfolding segmentEngine store
 stored-pool p L n v v′ t x e b table =
     let long : length (asWords v) ≡ length v = length-map v (ofZ w32) in
@@ -73,7 +74,7 @@ stored-pool p L n v v′ t x e b table =
     b .index ∙ ap (λ (m : ℕ). segmentIndex (p .shape) m L) (sym long)
     ∙ ap (λ (ws : Words). segmentIndex (p .shape) (length ws) L) (sym e) in
     λ i. record {
-      head = record { root = []; next = n };
+      head = record { own = []; next = n };
       shape = p .shape;
       arena = arena i;
       table = table i;

@@ -16,13 +16,13 @@ use Rattle.calls.specs.Pool.{sound}
 use Rattle.calls.specs.Engines.{segmentEngine}
 use Rattle.record_table.specs.declared.Found.the-variants.{At}
 use Rattle.record_table.specs.Slots.{emptySlot}
-use Rattle.segment_requests.specs.declared.Head.{Head}
+use Rattle.segment_check.specs.declared.Head.{Head}
 use Rattle.segment_check.specs.Gate.{segmentPool, Ranged}
 
 -- The pool is sound, n is a good size, slot `slot` is the lowest empty one, a ticket is left, and the lowest fit for n
 -- words is at unit `at`.
 pub record Grantable (h : Head) (s : ℕ) (v : List ℤ) (t x : Words) (n slot at : ℕ) : Type 0 where
-  pub ok : sound segmentEngine (segmentPool s (h .next) v t x) ≡ true
+  pub ok : sound segmentEngine (segmentPool s h v t x) ≡ true
   pub ranged : Ranged v
   pub size : (eqb n 0 || ltb 16384 n) ≡ false
   pub empty : emptySlot (recordsOf t) ≡ At slot

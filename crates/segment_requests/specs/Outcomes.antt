@@ -12,14 +12,14 @@ use Rattle.calls.specs.Engines.{segmentEngine}
 use Rattle.calls.specs.Search.{placesBy, placesOf}
 use Rattle.call_parts.specs.Results.{Result, result, resultOf}
 use Rattle.segment_check.specs.Gate.{segmentPool}
-use Rattle.segment_requests.specs.declared.Head.{Head}
+use Rattle.segment_check.specs.declared.Head.{Head}
 use Rattle.segment_requests.specs.declared.Outcome.{Outcome}
 use Rattle.segment_requests.specs.declared.Allocation.{Allocation}
 
 -- all that a call with S segments hands back and leaves: answer, head, arena, table, index, and the answer buffer of a
 -- list call
 abbrev pub handed : ℕ → Outcome → List ℤ → Words → Words → List Words → Result
-handed S r arena table index buffers = result (r .answer) (segmentPool S (r .head .next) arena table index) buffers
+handed S r arena table index buffers = result (r .answer) (segmentPool S (r .head) arena table index) buffers
 
 -- the head as it came, with a refusal
 abbrev pub refusedWith : Head → ℕ → Outcome

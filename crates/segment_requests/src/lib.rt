@@ -5,6 +5,7 @@ use call_parts::Request;
 use calls::Answer;
 use ledger::Row;
 use record_table::Found as Slot;
+use segment_check::Head;
 ghost use mathlib.Core.Path.{_≡_};
 ghost use mathlib.Core.Bool.{true};
 ghost use mathlib.Core.List.{[]};
@@ -19,11 +20,6 @@ ghost use Rattle.segment_check.specs.Gate.{segmentPool};
 ghost use Rattle.segment_requests.specs.Granting.{Grantable};
 ghost use Rattle.segment_requests.specs.Outcomes.{handed, refusedWith, grantOutcome, releaseOutcome, effectIn, placesIn};
 ghost use Rattle.segment_requests.specs.Outcomes.{placesAsked};
-
-// What a call is passed and hands back: the next ticket, 0 when none is left.
-pub struct Head {
-    pub next: u32,
-}
 
 // A head with the answer.
 pub struct Outcome {
@@ -75,7 +71,7 @@ fn place(
     ensures { λ r. ⌜
         handed s (grantOutcome head words r) (now (arena .exit)) (now (table .exit)) (now (index .exit)) []
         ≡ acted segmentEngine (ask words)
-        (segmentPool s (head .next) (now (arena .entry)) (now (table .entry)) (now (index .entry))) ⌝ }
+        (segmentPool s head (now (arena .entry)) (now (table .entry)) (now (index .entry))) ⌝ }
 {
     let n = record_table::span_of(segment_check::WORDS, words);
     let segments = segment_index::segments_of(s, arena.len());
@@ -108,13 +104,13 @@ pub fn grant(
     index: &mut [u32],
     words: u32,
 ) -> u64
-    requires { ⌜ sound segmentEngine (segmentPool s (head .next) (now arena) (now table) (now index)) ≡ true ⌝ }
+    requires { ⌜ sound segmentEngine (segmentPool s head (now arena) (now table) (now index)) ≡ true ⌝ }
     ensures { λ r. ⌜
         handed s (grantOutcome head words (effectIn r)) (now (arena .exit)) (now (table .exit)) (now (index .exit)) []
         ≡ acted segmentEngine (ask words)
-        (segmentPool s (head .next) (now (arena .entry)) (now (table .entry)) (now (index .entry))) ⌝ }
+        (segmentPool s head (now (arena .entry)) (now (table .entry)) (now (index .entry))) ⌝ }
     ensures { λ r. ⌜ placesIn r
-        ≡ placesAsked (segmentPool s (head .next) (now (arena .entry)) (now (table .entry)) (now (index .entry)))
+        ≡ placesAsked (segmentPool s head (now (arena .entry)) (now (table .entry)) (now (index .entry)))
         words ⌝ }
 {
     if (words == 0) | (16384 < words) {
@@ -172,12 +168,12 @@ fn give_back(
     named: Row,
     slot: usize,
 ) -> u32
-    requires { ⌜ (sound segmentEngine (segmentPool s (head .next) (now arena) (now table) (now index))
+    requires { ⌜ (sound segmentEngine (segmentPool s head (now arena) (now table) (now index))
         ≡ true) × (namedIn (now table) named ≡ Named.Slot slot) ⌝ }
     ensures { λ r. ⌜
         handed s (releaseOutcome head named r) (now (arena .exit)) (now (table .exit)) (now (index .exit)) []
         ≡ acted segmentEngine (give named)
-        (segmentPool s (head .next) (now (arena .entry)) (now (table .entry)) (now (index .entry))) ⌝ }
+        (segmentPool s head (now (arena .entry)) (now (table .entry)) (now (index .entry))) ⌝ }
 {
     segment_check::ranged(arena);
     let at = record_table::first_unit(segment_check::WORDS, named);
@@ -197,11 +193,11 @@ pub fn vacate(
     index: &mut [u32],
     named: Row,
 ) -> u32
-    requires { ⌜ sound segmentEngine (segmentPool s (head .next) (now arena) (now table) (now index)) ≡ true ⌝ }
+    requires { ⌜ sound segmentEngine (segmentPool s head (now arena) (now table) (now index)) ≡ true ⌝ }
     ensures { λ r. ⌜
         handed s (releaseOutcome head named r) (now (arena .exit)) (now (table .exit)) (now (index .exit)) []
         ≡ acted segmentEngine (give named)
-        (segmentPool s (head .next) (now (arena .entry)) (now (table .entry)) (now (index .entry))) ⌝ }
+        (segmentPool s head (now (arena .entry)) (now (table .entry)) (now (index .entry))) ⌝ }
 {
     match call_parts::named_slot(table, named) {
         Named::Refused(number) => number,
@@ -233,10 +229,10 @@ fn serve(
     index: &mut [u32],
     request: Request,
 ) -> Outcome
-    requires { ⌜ sound segmentEngine (segmentPool s (head .next) (now arena) (now table) (now index)) ≡ true ⌝ }
+    requires { ⌜ sound segmentEngine (segmentPool s head (now arena) (now table) (now index)) ≡ true ⌝ }
     ensures { λ r. ⌜ handed s r (now (arena .exit)) (now (table .exit)) (now (index .exit)) []
         ≡ acted segmentEngine (actOf request)
-        (segmentPool s (head .next) (now (arena .entry)) (now (table .entry)) (now (index .entry))) ⌝ }
+        (segmentPool s head (now (arena .entry)) (now (table .entry)) (now (index .entry))) ⌝ }
 {
     match request {
         Request::Ask(words) => {
@@ -262,15 +258,15 @@ fn serve_at(
     answers: &mut [u32],
     i: usize,
 ) -> Head
-    requires { ⌜ sound segmentEngine (segmentPool s (head .next) (now arena) (now table) (now index)) ≡ true ⌝ }
+    requires { ⌜ sound segmentEngine (segmentPool s head (now arena) (now table) (now index)) ≡ true ⌝ }
     requires { ⌜ (4 * i + 3 < length (now asked)) × (4 * i + 3 < length (now answers)) ⌝ }
-    ensures { λ r. ⌜ segmentPool s (r .next) (now (arena .exit)) (now (table .exit)) (now (index .exit))
+    ensures { λ r. ⌜ segmentPool s r (now (arena .exit)) (now (table .exit)) (now (index .exit))
         ≡ poolAfter segmentEngine
-        (segmentPool s (head .next) (now (arena .entry)) (now (table .entry)) (now (index .entry)))
+        (segmentPool s head (now (arena .entry)) (now (table .entry)) (now (index .entry)))
         (requestAt (now (asked .entry)) i) ⌝ }
     ensures { λ _. ⌜ now (answers .exit)
         ≡ withAnswer (now (answers .entry)) i (answerTo segmentEngine
-        (segmentPool s (head .next) (now (arena .entry)) (now (table .entry)) (now (index .entry)))
+        (segmentPool s head (now (arena .entry)) (now (table .entry)) (now (index .entry)))
         (requestAt (now (asked .entry)) i)) ⌝ }
 {
     let request = call_parts::request_at(asked, i);
@@ -289,12 +285,12 @@ pub fn serve_all(
     asked: &[u32],
     answers: &mut [u32],
 ) -> Head
-    requires { ⌜ sound segmentEngine (segmentPool s (head .next) (now arena) (now table) (now index)) ≡ true ⌝ }
+    requires { ⌜ sound segmentEngine (segmentPool s head (now arena) (now table) (now index)) ≡ true ⌝ }
     requires { ⌜ (length (now asked) % 4 ≡ 0) × (length (now asked) ≤ length (now answers)) ⌝ }
     ensures { λ r. ⌜
-        (segmentPool s (r .next) (now (arena .exit)) (now (table .exit)) (now (index .exit)), now (answers .exit))
+        (segmentPool s r (now (arena .exit)) (now (table .exit)) (now (index .exit)), now (answers .exit))
         ≡ ran segmentEngine (now (asked .entry)) (now (answers .entry))
-        (segmentPool s (head .next) (now (arena .entry)) (now (table .entry)) (now (index .entry))) ⌝ }
+        (segmentPool s head (now (arena .entry)) (now (table .entry)) (now (index .entry))) ⌝ }
 {
     let mut after = head;
     let mut i = 0;

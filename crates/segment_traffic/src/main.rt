@@ -3,7 +3,7 @@
 // all; the memory must then be as a format leaves it.
 use calls::Answer;
 use ledger::Row;
-use segment_requests::Head;
+use segment_check::Head;
 use testing::Tally;
 use testing::all_are;
 use testing::book_grant;
@@ -136,7 +136,7 @@ fn past(held: Answer) -> usize {
 fn plan(book: &[u32], map: &[u32], slots: usize, next: u32, words: u32) -> Answer {
     let start = first_run(map, span_of(words));
     let address = (start % 65536 + 1) as u32;
-    testing::plan(book, slots, next, words, start < map.len(), address)
+    testing::plan(book, slots, next, 16384, words, start < map.len(), address)
 }
 
 // The record with the address of its control word, and with a word more.

@@ -13,7 +13,8 @@ use lib.ListN.{length, getD}
 use Rattle.words.specs.Lists.{Words, any}
 use Rattle.words.specs.Counted.{within}
 use Rattle.words.specs.Places.{stamp}
-use Rattle.words.proofs.Tests.{bool-iff, and-i, not-true, not-false, within-in, within-low, within-high}
+use Rattle.words.proofs.Tests.{bool-iff, and-l, and-r, and-i, eqb-eq, le-of, not-true, not-false}
+use Rattle.words.proofs.Tests.{within-in, within-low, within-high}
 use Rattle.words.proofs.ListLaws.{any-getD, any-at}
 use Rattle.words.proofs.PlaceLaws.{length-stamp, stamp-keeps, stamp-sets, stamp-is}
 use Rattle.ledger.specs.Records.{Ledger, emptyRow, isLive}
@@ -21,7 +22,7 @@ use Rattle.ledger.specs.Units.{addressAt, first, past, valid, covers, free, own
 use Rattle.ledger.specs.Runs.{Run, run, runsFrom, freeRuns, covered, Gapped}
 use Rattle.ledger.proofs.UnitLaws.{valid-at, covers-of, owned-covered}
 use Rattle.ledger.proofs.RunLaws.{gapped-weaken, runs-are}
-use Rattle.stored_forms.specs.Tree.{inorder, Form, formRule, cellRun, freeTree, nodeWord}
+use Rattle.stored_forms.specs.Tree.{inorder, Form, formRule, treeRange, cellRun, freeTree, nodeWord}
 use Rattle.stored_forms.proofs.TreeLaws.{inorder-treeOf}
 use Rattle.stored_forms.specs.Blocks.{Within, Holds, In}
 use Rattle.stored_forms.proofs.NodeLaws.{Readable, in-range, covered-in, in-covered}
@@ -30,10 +31,10 @@ use Rattle.stored_forms.proofs.NodeLaws.{gapped-within, holds-stored, s
 -- ---- runs of units as runs of cells, p to a unit
 
 module _ (p : ℕ) (some-cells : 0 < p) where
-  abbrev scaled : Run → Run
+  abbrev pub scaled : Run → Run
   scaled r = run (r .start * p) (r .size * p)
 
-  gapped-scaled : (k e : ℕ) (rs : List Run) → Gapped k e rs → Gapped (k * p) (e * p) (map scaled rs)
+  pub gapped-scaled : (k e : ℕ) (rs : List Run) → Gapped k e rs → Gapped (k * p) (e * p) (map scaled rs)
   gapped-scaled k e [] g = tt
   gapped-scaled k e (r ∷ rs) g =
       let end = r .start + r .size in
@@ -62,16 +63,26 @@ module _ (p : ℕ) (some-cells : 0 < p) where
           within-in (lo * p) (hi * p) c (above lo x) (below hi (omega arith))
           ∙ sym (within-in lo hi (c / p) x (omega arith))
 
-  covered-scaled : (rs : List Run) (c : ℕ) → covered (map scaled rs) c ≡ covered rs (c / p)
+  pub covered-scaled : (rs : List Run) (c : ℕ) → covered (map scaled rs) c ≡ covered rs (c / p)
   covered-scaled [] c = refl
   covered-scaled (r ∷ rs) c =
       ap₂ _||_ (ap (λ e. within (r .start * p) e c) (sym (add-mul (r .start) (r .size) p))
       ∙ within-scaled (r .start) (r .start + r .size) c) (covered-scaled rs c)
 
+-- ---- the range of an arena
+
+pub tree-range : (F : Form) (W : ℕ) → treeRange F W ≡ true → (F .unit ≤ W) × (W ≤ F .most) × (W % F .unit ≡ 0)
+unfolding treeRange
+tree-range F W h = (
+  le-of (F .unit) W (search (and-l, and-r)),
+  le-of W (F .most) (search (and-l, and-r)),
+  eqb-eq (W % F .unit) 0 (search (and-l, and-r)),
+)
+
 -- ---- the free tree in an arena of W words, a whole number of units
 
 module _ (F : Form) (bound : ℕ) (readable : Readable F bound) where
-  cells-pos : 0 < F .unit / F .cell
+  pub cells-pos : 0 < F .unit / F .cell
   cells-pos = go (F .unit / F .cell) refl
     where
       go : (n : ℕ) → F .unit / F .cell ≡ n → 0 < n
@@ -82,7 +93,7 @@ module _ (F : Form) (bound : ℕ) (readable : Readable F bound) where
 
   module _ (W : ℕ) (whole : W % F .unit ≡ 0) (L : Ledger) where
     -- cells to a unit, times units, are the arena's cells
-    cells-are : W / F .unit * (F .unit / F .cell) ≡ W / F .cell
+    pub cells-are : W / F .unit * (F .unit / F .cell) ≡ W / F .cell
     cells-are =
         let n = W / F .unit in
         let p = F .unit / F .cell in
@@ -91,7 +102,7 @@ module _ (F : Form) (bound : ℕ) (readable : Readable F bound) where
         ∙ omega (arith, div-add-mod W (F .unit)) in
         sym (mul-div-right (n * p) (readable .cells)) ∙ ap (λ w. w / F .cell) words
 
-    runs-of-tree : inorder (freeTree F W L) ≡ map (cellRun F) (freeRuns (formRule F) W L)
+    pub runs-of-tree : inorder (freeTree F W L) ≡ map (cellRun F) (freeRuns (formRule F) W L)
     unfolding freeTree
     runs-of-tree = inorder-treeOf (map (cellRun F) (freeRuns (formRule F) W L))
 
@@ -106,7 +117,7 @@ module _ (F : Form) (bound : ℕ) (readable : Readable F bound) where
         (rw runs-of-tree (rw (zero-mul p, cells-are) at gaps))
 
     -- a word's cell is in a block of the tree where its unit is free
-    free-cell : (i : ℕ) → i < W
+    pub free-cell : (i : ℕ) → i < W
         → covered (inorder (freeTree F W L)) (i / F .cell) ≡ free (formRule F) L (i / F .unit)
     unfolding freeRuns
     free-cell i h =

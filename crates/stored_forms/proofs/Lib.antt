@@ -3,4 +3,5 @@ pub mod TreeLaws
 pub mod SegmentLaws
 pub mod NodeLaws
 pub mod FreeTreeLaws
+pub mod ScaledLaws
 pub mod SearchLaws

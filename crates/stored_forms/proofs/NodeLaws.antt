@@ -6,8 +6,9 @@ use native.Mathlib.Omega.{arith}
 use native.Mathlib.Decide.{decLe}
 use mathlib.Core.Path.{_≡_, refl, sym, ap, _∙_, subst}
 use mathlib.Core.Logic.{_≢_, inl, inr}
-use mathlib.Core.Bool.{Bool, true, false, _||_, false≢true, or-assoc, or-true}
+use mathlib.Core.Bool.{Bool, true, false, cond, _||_, false≢true, or-assoc, or-true}
 use mathlib.Core.List.{List, [], _∷_, _++_}
+use lib.Dec.{eqb}
 use lib.ListN.{length, getD, drop, length-drop}
 use lib.Seq.{length-take-le, getD-take, getD-drop, ext-getD}
 use Rattle.words.specs.Lists.{Words}
@@ -16,7 +17,7 @@ use Rattle.words.proofs.Tests.{of-lt, of-ge, within-in, within-low, within-high
 use Rattle.ledger.specs.Runs.{Run, covered, Gapped}
 use Rattle.ledger.proofs.RunLaws.{covered-append}
 use Rattle.ledger.proofs.RunLaws.{gapped-weaken}
-use Rattle.stored_forms.specs.Tree.{Tree, leaf, node, inorder, Form, formOne, cellWords}
+use Rattle.stored_forms.specs.Tree.{Tree, leaf, node, inorder, Form, formOne, formTwo, formOf, cellWords}
 use Rattle.stored_forms.specs.Tree.{lengthAt, leftAt, rightAt, link, nodeWord}
 use Rattle.stored_forms.specs.Blocks.{Within, In, NotFirst, Holds}
 
@@ -44,6 +45,34 @@ readable-one = record {
   left-back = λ n l r a b. omega arith;
   right-back = λ n l r a b. omega arith;
 }
+
+readable-two : Readable formTwo 4294967296
+unfolding formTwo
+readable-two = record {
+  cells = omega arith;
+  units = omega arith;
+  whole = refl;
+  node-length = λ n l r. refl;
+  length-back = λ n l r a b. refl;
+  left-back = λ n l r a b. refl;
+  right-back = λ n l r a b. refl;
+}
+
+-- what is said of each form is said of the form of any number
+pub each-form : (P : Form → Type 0) → P formOne → P formTwo → (f : ℕ) → P (formOf f)
+unfolding formOf
+each-form P one two f = go (eqb f 2)
+  where
+    go : (b : Bool) → P (cond b formTwo formOne)
+    go true = two
+    go false = one
+
+pub readable : (f : ℕ) → Readable (formOf f) (formOf f .links)
+unfolding formOne formTwo
+readable = each-form (λ F. Readable F (F .links)) readable-one readable-two
+
+pub form-unit : (f : ℕ) → 0 < formOf f .unit
+form-unit f = readable f .units
 
 -- ---- blocks of a tree
 

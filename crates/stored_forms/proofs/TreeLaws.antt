@@ -1,22 +1,19 @@
 -- The tree of the free runs: it has them from left to right, it is the only such tree, and its leftmost fit is the
 -- first run that is long enough. 01, "Stored form of the tree pool". Assumes nothing.
-use Prim.Native.Nat.{ℕ, _/_, _≤_}
-use native.Mathlib.Nat.{mul-one}
+use Prim.Native.Nat.{ℕ, _≤_}
 use native.Mathlib.Omega.{arith}
 use mathlib.Core.Path.{_≡_, refl, sym, ap, ap₂, _∙_}
 use mathlib.Core.Bool.{Bool, true, false, cond, not, false≢true}
-use mathlib.Core.List.{List, [], _∷_, _++_, map, append-nil}
+use mathlib.Core.List.{List, [], _∷_, _++_, append-nil}
 use mathlib.Core.Option.{none, some}
 use lib.Dec.{leb}
 use Rattle.words.specs.Lists.{all}
 use Rattle.words.proofs.Tests.{and-l, and-r, and-i, not-true, le-of, of-le, lt-of, of-lt, not-le, of-gt, absurd-some}
 use Rattle.words.proofs.ListLaws.{all-imp, all-append, all-append-r}
-use Rattle.ledger.specs.Records.{Ledger}
-use Rattle.ledger.specs.Units.{free, lowestFit}
-use Rattle.ledger.specs.Runs.{Run, freeRuns}
-use Rattle.ledger.proofs.FitLaws.{firstFit, startOf, fit-first}
+use Rattle.ledger.specs.Runs.{Run}
+use Rattle.ledger.proofs.FitLaws.{firstFit}
 use Rattle.stored_forms.specs.Tree.{Tree, leaf, node, addLeft, treeOf, inorder, shorterThan, noLongerThan, Heaped}
-use Rattle.stored_forms.specs.Tree.{IsTreeOf, formOne, formRule, cellRun, freeTree}
+use Rattle.stored_forms.specs.Tree.{IsTreeOf}
 use Rattle.stored_forms.specs.Blocks.{rootFits, leftmost}
 
 -- ---- the runs of the tree, from left to right
@@ -170,27 +167,3 @@ leftmost-first m (node a q b) h = go (leb m (q .size)) refl (rootFits m a) refl 
         rw (e, k) (f .1 ∙ sym (first-in m (inorder a) (q ∷ inorder b) (f .0) (sym ih ∙ f .1)))
     go true e false k ih = rw (e, k) (sym (first-past m (inorder a) (q ∷ inorder b) (root-longest m a (h .2) k) ∙ rw e))
     go false e d k ih = rw e (sym (first-none m (inorder a ++ q ∷ inorder b) (root-longest m (node a q b) h e)))
-
--- ---- the first form: a unit is a cell
-
-pub cellRun-one : (r : Run) → cellRun formOne r ≡ r
-unfolding formOne
-cellRun-one r = rw (mul-one (r .start), mul-one (r .size))
-
-pub cellRuns-one : (rs : List Run) → map (cellRun formOne) rs ≡ rs
-cellRuns-one [] = refl
-cellRuns-one (r ∷ rs) = ap₂ (λ (x : Run) (l : List Run). x ∷ l) (cellRun-one r) (cellRuns-one rs)
-
-pub freeTree-one : (W : ℕ) (L : Ledger) → freeTree formOne W L ≡ treeOf (freeRuns (formRule formOne) W L)
-unfolding freeTree
-freeTree-one W L = ap treeOf (cellRuns-one (freeRuns (formRule formOne) W L))
-
--- the block that leftmost fit finds begins at the lowest unit from which enough units are free: demand 2's
-pub leftmost-lowest : (W : ℕ) (L : Ledger) (m : ℕ) → 1 ≤ m
-    → startOf (leftmost m (freeTree formOne W L)) ≡ lowestFit (free (formRule formOne) L) (W / formOne .unit) m
-unfolding freeRuns
-leftmost-lowest W L m one =
-    let runs = freeRuns (formRule formOne) W L in
-    ap (λ (t : Tree). startOf (leftmost m t)) (freeTree-one W L)
-    ∙ ap startOf (leftmost-first m (treeOf runs) (heaped-treeOf runs) ∙ ap (firstFit m) (inorder-treeOf runs))
-    ∙ sym (fit-first (free (formRule formOne) L) (W / formOne .unit) m one)

@@ -2,7 +2,7 @@
 -- 01, "Stored form of the tree pool". Assumes nothing.
 use Prim.Native.Nat.{ℕ, suc, _+_, _-_, _*_, _/_, _%_}
 use mathlib.Core.Path.{_≡_}
-use mathlib.Core.Bool.{Bool, true, cond, _&&_}
+use mathlib.Core.Bool.{Bool, true, cond, _&&_, _||_}
 use mathlib.Core.List.{List, [], _∷_, _++_, map}
 use lib.Dec.{eqb, leb, ltb}
 use lib.ListN.{getD, take, drop}
@@ -58,6 +58,8 @@ pub record Form : Type 0 where
   -- words to a unit, and to a cell
   pub unit : ℕ
   pub cell : ℕ
+  -- every link is below this number
+  pub links : ℕ
   -- the arena's largest number of words, and the most words that can be asked for (number 2)
   pub most : ℕ
   pub limit : ℕ
@@ -74,6 +76,7 @@ unfoldable pub formOne : Form
 formOne = record {
   unit = 2;
   cell = 2;
+  links = 65536;
   most = 16384;
   limit = 16384;
   node = twoWords;
@@ -81,6 +84,31 @@ formOne = record {
   leftOf = λ ws. getD ws 1 0 % 65536;
   rightOf = λ ws. getD ws 1 0 / 65536;
 }
+
+-- 02, ticket 3: "a cell of four words holding length, left link, right link and 0, requests rounded up to four words, arena
+-- a multiple of four from 4 up", to 1,048,576 words; "Limit 2 reads 1,048,576 for form 2."
+abbrev pub fourWords : ℕ → ℕ → ℕ → Words
+fourWords n l r = n ∷ l ∷ r ∷ 0 ∷ []
+
+unfoldable pub formTwo : Form
+formTwo = record {
+  unit = 4;
+  cell = 4;
+  links = 4294967296;
+  most = 1048576;
+  limit = 1048576;
+  node = fourWords;
+  lengthOf = λ ws. getD ws 0 0;
+  leftOf = λ ws. getD ws 1 0;
+  rightOf = λ ws. getD ws 2 0;
+}
+
+-- "a form number, 1 or 2"; of any other the form is never looked at
+abbrev pub isForm : ℕ → Bool
+isForm f = eqb f 1 || eqb f 2
+
+unfoldable pub formOf : ℕ → Form
+formOf f = cond (eqb f 2) formTwo formOne
 
 module _ (F : Form) where
   abbrev pub formRule : Rule

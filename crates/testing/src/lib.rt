@@ -444,9 +444,17 @@ fn refusal(number: u32) -> Answer {
     }
 }
 
-// What an allocation has to answer, where the lowest fit, if there is one, is at this address.
-pub fn plan(book: &[u32], slots: usize, next: u32, words: u32, fits: bool, address: u32) -> Answer {
-    if (words == 0) | (words > 16384) {
+// What an allocation of at most `limit` words has to answer, where the lowest fit, if there is one, is at this address.
+pub fn plan(
+    book: &[u32],
+    slots: usize,
+    next: u32,
+    limit: u32,
+    words: u32,
+    fits: bool,
+    address: u32,
+) -> Answer {
+    if (words == 0) | (words > limit) {
         return refusal(2);
     }
     if slot_of(book, slots, 0) == slots {

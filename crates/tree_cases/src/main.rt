@@ -1,15 +1,15 @@
 // Runs the calls that the script on standard input asks for on a tree pool, and writes each line with what came of it.
 //
 // A line is a command, known by its first two letters, with its numbers; '#' starts a comment.
-//   lend W T           arena of W words and table of T words, all zero
+//   lend W T           arena of W words and table of T words, all zero; a head of form 1 with no block and no ticket
 //   arena I V..        words written into the arena from word I on
 //   table I V..        words written into the table from word I on
-//   head R N           root link and next ticket
-//   format F           with first ticket F, or 1 if there is no number
+//   head R N M         root link, next ticket and form; form 1 if it has two numbers
+//   format M F         of form M with first ticket F; each is 1 if it is not there
+//   words I N          shows N words of the arena from word I on
 //   allocate N         release T A W      find T A W      look T A W
 //   list N K V..       a list of N words, V over and over, with K words for its answers, which start as sevens
 use ledger::Row;
-use testing::first_ticket;
 use testing::is;
 use testing::least;
 use testing::print;
@@ -39,6 +39,7 @@ fn show_memory(head: Head, arena: &[u32], table: &[u32]) {
     print(b"  head");
     print_number(head.root);
     print_number(head.next);
+    print_number(head.form);
     print(b"\n");
     show(b"  arena", arena);
     show(b"  table", table);
@@ -50,11 +51,31 @@ fn show_outcome(outcome: Outcome, arena: &[u32], table: &[u32]) -> Head {
     outcome.head
 }
 
+// So many words of the arena, as far as there are any.
+fn show_words(arena: &[u32], from: usize, count: usize) {
+    let a = least(from, arena.len());
+    let n = least(count, arena.len() - a);
+    show(b"  words", &arena[a..a + n]);
+}
+
 // ---- commands
 
+// Number i of a line, or 1 if it has not so many.
+fn number_or_one(given: &[u32], count: usize, i: usize) -> u32 {
+    if i < count { word(given, i) } else { 1 }
+}
+
+fn head_of(given: &[u32], count: usize) -> Head {
+    Head {
+        root: word(given, 0),
+        next: word(given, 1),
+        form: number_or_one(given, count, 2),
+    }
+}
+
 // A refused format hands back a head of zeros; the pool keeps the head that it had.
-fn run_format(head: Head, arena: &mut [u32], table: &mut [u32], first: u32) -> Head {
-    let outcome = tree_pool::format(arena, table, first);
+fn run_format(head: Head, arena: &mut [u32], table: &mut [u32], form: u32, first: u32) -> Head {
+    let outcome = tree_pool::format(form, arena, table, first);
     let new = show_outcome(outcome, arena, table);
     let answer = outcome.answer;
     if answer.number == 0 { new } else { head }
@@ -116,7 +137,8 @@ fn serve(
     count: usize,
 ) -> Head {
     if is(line, b'f', b'o') {
-        return run_format(head, arena, table, first_ticket(given, count));
+        let form = number_or_one(given, count, 0);
+        return run_format(head, arena, table, form, number_or_one(given, count, 1));
     }
     if is(line, b'a', b'l') {
         return run_allocate(head, arena, table, word(given, 0));
@@ -133,7 +155,7 @@ fn serve(
     set(head, line, arena, table, given, count)
 }
 
-// The commands that set the lent memory and the head.
+// The commands that set the lent memory and the head, or show words.
 fn set(
     head: Head,
     line: &[u8],
@@ -151,10 +173,10 @@ fn set(
         return head;
     }
     if is(line, b'h', b'e') {
-        return Head {
-            root: word(given, 0),
-            next: word(given, 1),
-        };
+        return head_of(given, count);
+    }
+    if is(line, b'w', b'o') {
+        show_words(arena, word(given, 0) as usize, word(given, 1) as usize);
     }
     head
 }
@@ -180,12 +202,19 @@ fn serve_line(
     run_list(head, arena, table, &asked[zero..n], &mut answers[zero..k])
 }
 
+// The head of a pool of form 1 that has no free block and no ticket left.
+const NO_BLOCK: Head = Head {
+    root: 0,
+    next: 0,
+    form: 1,
+};
+
 // Zeros in both buffers, and so many of their words lent.
 fn lend(arena: &mut [u32], table: &mut [u32], given: &[u32]) -> Pool {
     words::wipe(arena);
     words::wipe(table);
     Pool {
-        head: Head { root: 0, next: 0 },
+        head: NO_BLOCK,
         words: word(given, 0) as usize,
         slots: word(given, 1) as usize,
     }
@@ -234,7 +263,7 @@ fn run(
     answers: &mut [u32],
 ) {
     let mut pool = Pool {
-        head: Head { root: 0, next: 0 },
+        head: NO_BLOCK,
         words: 0,
         slots: 0,
     };
@@ -250,7 +279,7 @@ fn run(
 fn main() {
     let mut text = io::large_buffer();
     let n = io::read_full(0, &mut text);
-    let mut arena = [0u32; 16400];
+    let mut arena = [0u32; 300000];
     let mut table = [0u32; 800];
     let mut given = [0u32; 256];
     let mut asked = [0u32; 4200];

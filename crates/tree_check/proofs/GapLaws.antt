@@ -1,36 +1,26 @@
 -- Records side by side, and runs with gaps between them. Assumes nothing.
-use Prim.Native.Nat.{ℕ, suc, _+_, _-_, _*_, _≤_}
+use Prim.Native.Nat.{ℕ, suc, _+_, _≤_}
 use native.Mathlib.Omega.{arith}
-use mathlib.Core.Path.{_≡_, sym, _∙_}
 use mathlib.Core.Bool.{Bool, _&&_}
 use mathlib.Core.List.{List, [], _∷_, _++_}
-use lib.ListN.{getD}
-use Rattle.words.specs.Lists.{Words, zeroAt}
-use Rattle.words.specs.Counted.{every}
-use Rattle.words.proofs.Tests.{and-l, and-r, and-i, eqb-eq}
-use Rattle.words.proofs.CountedLaws.{every-at, every-of}
+use Rattle.words.specs.Lists.{Words}
+use Rattle.words.proofs.Tests.{and-l, and-r, and-i}
 use Rattle.ledger.specs.Runs.{Run, Gapped}
 use Rattle.ledger.proofs.RunLaws.{gapped-weaken}
+use Rattle.stored_forms.specs.Tree.{Form}
+use Rattle.tree_nodes.specs.Nodes.{Clear}
 use Rattle.tree_check.specs.Maps.{Leads}
 use Rattle.words.specs.Flags.{Says}
 use Rattle.tree_check.specs.Walk.{earliest, NodeFollows}
 
 -- ---- one node
 
-module _ {m map : Words} {k c z : ℕ} where
-  pub placed : (x y : Bool) → earliest k ≤ c → Says x (Leads map k c)
-      → y ≡ every (zeroAt m) (2 * c + 2) (2 * (c + z) - (2 * c + 2)) → Says (x && y) (NodeFollows m map k c z)
+module _ {F : Form} {m map : Words} {k c z : ℕ} where
+  pub placed : (x y : Bool) → earliest k ≤ c → Says x (Leads map k c) → Says y (Clear F m c z)
+      → Says (x && y) (NodeFollows F m map k c z)
   placed x y apart led clear = (
-    (λ e. record {
-      apart = apart;
-      led = led .0 (and-l x y e);
-      clear = λ i lo hi.
-          eqb-eq (getD m i 0) 0
-          (every-at (zeroAt m) (2 * c + 2) (2 * (c + z) - (2 * c + 2)) (sym clear ∙ and-r x y e) i lo (omega arith));
-    }),
-    λ p. and-i x y (led .1 (p .led))
-        (clear ∙ every-of (zeroAt m) (2 * c + 2) (2 * (c + z) - (2 * c + 2))
-        (λ i lo hi. rw (p .clear i lo (omega arith)))),
+    (λ e. record { apart = apart; led = led .0 (and-l x y e); clear = clear .0 (and-r x y e) }),
+    λ p. and-i x y (led .1 (p .led)) (clear .1 (p .clear)),
   )
 
 -- ---- runs with gaps between them

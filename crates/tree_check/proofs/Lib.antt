@@ -4,7 +4,6 @@ pub mod LeadLaws
 pub mod SpanLaws
 pub mod MapLaws
 pub mod GapLaws
-pub mod ReadLaws
 pub mod LimitLaws
 pub mod WalkLaws
 pub mod ApartLaws

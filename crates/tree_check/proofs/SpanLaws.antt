@@ -11,9 +11,9 @@ use lib.Seq.{getD-set-same, getD-set-other}
 use Rattle.words.specs.Lists.{Words, all, isZero}
 use Rattle.words.proofs.Tests.{eqb-eq}
 use Rattle.words.proofs.ListLaws.{zeros-at}
-use Rattle.tree_check.specs.Maps.{pairAt, isEntries, firstAt, cellsAt, Covers, Adds}
+use Rattle.tree_check.specs.Maps.{fourAt, isEntries, firstAt, cellsAt, Covers, Adds}
 use Rattle.record_table.specs.Leads.{here, more}
-use Rattle.tree_check.specs.Maps.{Next, Leads, Bare, Grows}
+use Rattle.tree_check.specs.Maps.{home, Next, Leads, Bare, Spare, Grows, FourPut}
 use Rattle.tree_check.proofs.LeadLaws.{byte-next, byte-found}
 
 -- ---- no span
@@ -23,7 +23,15 @@ pub no-units : (map : Words) → all isZero map ≡ true → (p : ℕ) → cells
 no-units map zeros p = go (isEntries map) refl
   where
     go : (b : Bool) → isEntries map ≡ b → cellsAt map p ≡ 0
-    go true e = rw e (omega (arith, zeros-at map zeros (4 * p + 2), zeros-at map zeros (4 * p + 2 + 1)))
+    go true e =
+        let none = zeros-at map zeros in
+        rw e (omega (
+          arith,
+          none (8 * p + 4),
+          none (8 * p + 4 + 1),
+          none (8 * p + 4 + 2),
+          none (8 * p + 4 + 3),
+        ))
     go false e = rw e (zeros-at map zeros p)
 
 -- ---- a span that is noted
@@ -122,176 +130,205 @@ module _ {map map′ : Words} {lo n at left : ℕ} (s : Spanning map map′ lo n
             let is = put-others left k out ∙ was in
             let some = f .some in
             subst (Next (set map′ at left) k) is (byte-next (set map′ at left) k same (omega arith));
-        bare = λ p b l h e. absurd (false≢true (sym same ∙ e));
-        leads = λ p b l h out. put-led left (s .some) (set map′ at left) same (λ k a b. refl) (here (s .sum));
+        bare = λ p spare e. absurd (false≢true (sym same ∙ e));
+        leads = λ p spare out. put-led left (s .some) (set map′ at left) same (λ k a b. refl) (here (s .sum));
       }
 
--- in the four bytes of an entry
-module _ (map : Words) (i a b c d : ℕ) where
+-- in the eight bytes of an entry
+pub record EntryPut (map map′ : Words) (i lo n : ℕ) : Type 0 where
+  pub first : fourAt map′ i ≡ lo
+  pub units : fourAt map′ (i + 4) ≡ n
+  pub others : (k : ℕ) → (i ≤ k → k < i + 8 → ⊥) → getD map′ k 0 ≡ getD map k 0
+  pub long : length map′ ≡ length map
+
+-- four bytes that are the same in both maps
+same-four : (map map′ : Words) (i : ℕ) → ((k : ℕ) → i ≤ k → k < i + 4 → getD map′ k 0 ≡ getD map k 0)
+    → fourAt map′ i ≡ fourAt map i
+same-four map map′ i same =
+    let a = same i (omega arith) (omega arith) in
+    let b = same (i + 1) (omega arith) (omega arith) in
+    let c = same (i + 2) (omega arith) (omega arith) in
+    let d = same (i + 3) (omega arith) (omega arith) in
+    omega arith
+
+-- a number written in four bytes
+module _ (map : Words) (i x : ℕ) (room : i + 3 < length map) (small : x < 4294967296) where
   abbrev one : Words
-  one = set map i a
+  one = set map i (x % 256)
 
   abbrev two : Words
-  two = set one (i + 1) b
+  two = set one (i + 1) (x / 256 % 256)
 
   abbrev three : Words
-  three = set two (i + 2) c
+  three = set two (i + 2) (x / 65536 % 256)
 
-  abbrev noted : Words
-  noted = set three (i + 3) d
+  abbrev four : Words
+  four = set three (i + 3) (x / 16777216)
 
-  noted-other : (k : ℕ) → (i ≤ k → k ≤ i + 3 → ⊥) → getD noted k 0 ≡ getD map k 0
-  noted-other k out =
-      getD-set-other three (i + 3) k d 0 (λ e. out (omega arith) (omega arith))
-      ∙ getD-set-other two (i + 2) k c 0 (λ e. out (omega arith) (omega arith))
-      ∙ getD-set-other one (i + 1) k b 0 (λ e. out (omega arith) (omega arith))
-      ∙ getD-set-other map i k a 0 (λ e. out (omega arith) (omega arith))
+  -- a byte that is written, behind the later ones
+  past-two : (k : ℕ) → k < i + 2 → getD four k 0 ≡ getD two k 0
+  past-two k h =
+      getD-set-other three (i + 3) k (x / 16777216) 0 (λ e. omega arith)
+      ∙ getD-set-other two (i + 2) k (x / 65536 % 256) 0 (λ e. omega arith)
 
-  module _ (h : i + 3 < length map) where
-    noted-first : pairAt noted i ≡ a + 256 * b
-    noted-first =
-        let low : getD noted i 0 ≡ a =
-        getD-set-other three (i + 3) i d 0 (λ e. omega arith) ∙ getD-set-other two (i + 2) i c 0 (λ e. omega arith)
-        ∙ getD-set-other one (i + 1) i b 0 (λ e. omega arith) ∙ getD-set-same map i a 0 (omega arith) in
-        let high : getD noted (i + 1) 0 ≡ b =
-        getD-set-other three (i + 3) (i + 1) d 0 (λ e. omega arith)
-        ∙ getD-set-other two (i + 2) (i + 1) c 0 (λ e. omega arith)
-        ∙ getD-set-same one (i + 1) b 0 (simp length-set (omega arith)) in
-        omega arith
+  pub four-put : FourPut map four i x
+  four-put =
+      let a = past-two i (omega arith) ∙ getD-set-other one (i + 1) i (x / 256 % 256) 0 (λ e. omega arith)
+      ∙ getD-set-same map i (x % 256) 0 (omega arith) in
+      let b = past-two (i + 1) (omega arith)
+      ∙ getD-set-same one (i + 1) (x / 256 % 256) 0 (simp length-set (omega arith)) in
+      let c = getD-set-other three (i + 3) (i + 2) (x / 16777216) 0 (λ e. omega arith)
+      ∙ getD-set-same two (i + 2) (x / 65536 % 256) 0 (simp length-set (omega arith)) in
+      let d = getD-set-same three (i + 3) (x / 16777216) 0 (simp length-set (omega arith)) in
+      record {
+        is = omega arith;
+        others = λ k out.
+            getD-set-other three (i + 3) k (x / 16777216) 0 (λ e. out (omega arith) (omega arith))
+            ∙ getD-set-other two (i + 2) k (x / 65536 % 256) 0 (λ e. out (omega arith) (omega arith))
+            ∙ getD-set-other one (i + 1) k (x / 256 % 256) 0 (λ e. out (omega arith) (omega arith))
+            ∙ getD-set-other map i k (x % 256) 0 (λ e. out (omega arith) (omega arith));
+        long = simp length-set;
+      }
 
-    noted-units : pairAt noted (i + 2) ≡ c + 256 * d
-    noted-units =
-        let low : getD noted (i + 2) 0 ≡ c =
-        getD-set-other three (i + 3) (i + 2) d 0 (λ e. omega arith)
-        ∙ getD-set-same two (i + 2) c 0 (simp length-set (omega arith)) in
-        let last : i + 2 + 1 ≡ i + 3 = omega arith in
-        let high : getD noted (i + 2 + 1) 0 ≡ d =
-        ap (λ k. getD noted k 0) last ∙ getD-set-same three (i + 3) d 0 (simp length-set (omega arith)) in
-        omega arith
+pub entry-put : {map one two : Words} {i lo n : ℕ} → FourPut map one i lo → FourPut one two (i + 4) n
+    → EntryPut map two i lo n
+entry-put {map} {one} {two} {i} x y = record {
+  first = same-four one two i (λ k a b. y .others k (λ l h. omega arith)) ∙ x .is;
+  units = y .is;
+  others = λ k out. y .others k (λ l h. out (omega arith) (omega arith)) ∙ x .others k (λ l h. out l (omega arith));
+  long = y .long ∙ x .long;
+}
 
-    pub adds-entry : (lo n : ℕ) → a + 256 * b ≡ lo → c + 256 * d ≡ n → isEntries map ≡ true → i % 4 ≡ 0
-        → Adds map noted lo n
-    adds-entry lo n el en entries whole u (p, l, m) out = go (ℕ-discrete (4 * p) i) (rw same at l) (rw same at m)
-      where
-        same : isEntries noted ≡ true
-        same = simp length-set entries
+-- at a place that is empty in the map
+module _ {map map′ : Words} {i lo n : ℕ} (put : EntryPut map map′ i lo n) (some : 0 < n)
+    (entries : isEntries map ≡ true) (whole : i % 8 ≡ 0) (empty : fourAt map (i + 4) ≡ 0) where
+  still : isEntries map′ ≡ true
+  still = let long = put .long in rw long entries
 
-        go : Dec (4 * p ≡ i) → pairAt noted (4 * p) ≤ u → u < pairAt noted (4 * p) + pairAt noted (4 * p + 2)
-            → Covers map u
-        go (yes e) l m =
-            absurd (out (omega (arith, noted-first, rw e at l)) (omega (arith, noted-first, noted-units, rw e at m)))
-        go (no e) l m =
-            let first = noted-other (4 * p) (λ x y. omega arith) in
-            let first′ = noted-other (4 * p + 1) (λ x y. omega arith) in
-            let units = noted-other (4 * p + 2) (λ x y. omega arith) in
-            let units′ = noted-other (4 * p + 2 + 1) (λ x y. omega arith) in
-            (p, rw entries (omega arith), rw entries (omega arith))
+  home-still : (k : ℕ) → home (length map′) k ≡ home (length map) k
+  home-still k = ap (λ j. home j k) (put .long)
 
-    -- a place that is empty in the map
-    module _ (lo n : ℕ) (el : a + 256 * b ≡ lo) (en : c + 256 * d ≡ n) (some : 0 < n) (entries : isEntries map ≡ true)
-        (whole : i % 4 ≡ 0) (empty : pairAt map (i + 2) ≡ 0) where
-      still : isEntries noted ≡ true
-      still = simp length-set entries
+  put-first : (p : ℕ) → 8 * p ≡ i → firstAt map′ p ≡ lo
+  put-first p e = rw (still, e) (put .first)
 
-      other-first : (p : ℕ) → 4 * p ≢ i → firstAt noted p ≡ firstAt map p
-      other-first p e =
-          let first = noted-other (4 * p) (λ x y. e (omega arith)) in
-          let first′ = noted-other (4 * p + 1) (λ x y. e (omega arith)) in
-          rw (still, entries) (omega arith)
+  put-units : (p : ℕ) → 8 * p ≡ i → cellsAt map′ p ≡ n
+  put-units p e = rw (still, e) (put .units)
 
-      other-units : (p : ℕ) → 4 * p ≢ i → cellsAt noted p ≡ cellsAt map p
-      other-units p e =
-          let units = noted-other (4 * p + 2) (λ x y. e (omega arith)) in
-          let units′ = noted-other (4 * p + 2 + 1) (λ x y. e (omega arith)) in
-          rw (still, entries) (omega arith)
+  other-first : (p : ℕ) → 8 * p ≢ i → firstAt map′ p ≡ firstAt map p
+  other-first p e =
+      rw (still, entries) (same-four map map′ (8 * p) (λ k a b. put .others k (λ l h. e (omega arith))))
 
-      -- a place with cells is another one
-      apart : (p : ℕ) → 0 < cellsAt map p → 4 * p ≢ i
-      apart p h e =
-          let is : pairAt map (4 * p + 2) ≡ 0 = ap (λ j. pairAt map (j + 2)) e ∙ empty in
-          let units : 0 < pairAt map (4 * p + 2) = rw entries at h in
-          omega arith
+  other-units : (p : ℕ) → 8 * p ≢ i → cellsAt map′ p ≡ cellsAt map p
+  other-units p e =
+      rw (still, entries) (same-four map map′ (8 * p + 4) (λ k a b. put .others k (λ l h. e (omega arith))))
 
-      entry-keeps : (k x : ℕ) → Next map k x → Next noted k x
-      entry-keeps k x f =
-          let there = f .units in
-          let more-than = f .some in
-          let away = apart (f .place) (omega arith) in
-          let (low, before) = f .reached entries in
-          record {
-            place = f .place;
-            is = other-first (f .place) away ∙ f .is;
-            units = other-units (f .place) away ∙ f .units;
-            some = f .some;
-            reached = λ e. (
-              low,
-              λ q l h.
-                  let (full, unlike) = before q l h in
-                  let off = apart q full in
-                  let same = other-units q off in
-                  (omega arith, λ is. unlike (sym (other-first q off) ∙ is)),
-            );
-          }
+  -- a place with cells is another one
+  apart : (p : ℕ) → 0 < cellsAt map p → 8 * p ≢ i
+  apart p h e =
+      let is : fourAt map (8 * p + 4) ≡ 0 = ap (λ j. fourAt map (j + 4)) e ∙ empty in
+      let units : 0 < fourAt map (8 * p + 4) = rw entries at h in
+      omega arith
 
-      -- the search for cell lo has met no empty place before
-      module _ (begin : 4 * (lo / 128) ≤ i) (met : (q : ℕ) → lo / 128 ≤ q → 4 * q < i → 0 < cellsAt map q) where
-        entry-bare : (p : ℕ) → Bare map p → lo / 128 ≤ p → p < 96 → Bare noted (p + 1)
-        entry-bare p bare l h e q g =
-            other-units q (λ is. let full = met p l (omega arith) in omega (arith, bare entries p (omega arith)))
-            ∙ bare entries q (omega arith)
+  entry-adds : Adds map map′ lo n
+  entry-adds u (p, l, m) out = go (ℕ-discrete (8 * p) i)
+    where
+      go : Dec (8 * p ≡ i) → Covers map u
+      go (yes e) =
+          let first = put-first p e in
+          let units = put-units p e in
+          absurd (out (omega arith) (omega arith))
+      go (no e) =
+          let first = other-first p e in
+          let units = other-units p e in
+          (p, omega arith, omega arith)
 
-        entry-leads : (Covers map lo → ⊥) → Leads noted lo (lo + n)
-        entry-leads out =
-            let place : 4 * (i / 4) ≡ i = omega arith in
-            more {k = lo} {n = n} (record {
-              place = i / 4;
-              is = rw (still, place) (noted-first ∙ el);
-              units = rw (still, place) (noted-units ∙ en);
-              some = some;
-              reached = λ e. (
-                omega arith,
-                λ q l g.
-                    let full = met q l (omega arith) in
-                    let off = apart q full in
-                    let same = other-units q off in (
-                      omega arith,
-                      λ is.
-                          let first = sym (other-first q off) ∙ is in
-                          out (q, omega arith, omega arith),
-                    ),
-              );
-            }) (here refl)
+  entry-keeps : (k x : ℕ) → Next map k x → Next map′ k x
+  entry-keeps k x f =
+      let there = f .units in
+      let more-than = f .some in
+      let away = apart (f .place) (omega arith) in
+      let (low, before) = f .reached entries in
+      let begin = home-still k in
+      record {
+        place = f .place;
+        is = other-first (f .place) away ∙ f .is;
+        units = other-units (f .place) away ∙ f .units;
+        some = f .some;
+        reached = λ e. (
+          omega arith,
+          λ q l h.
+              let (full, unlike) = before q (omega arith) h in
+              let off = apart q full in
+              let same = other-units q off in
+              (omega arith, λ is. unlike (sym (other-first q off) ∙ is)),
+        );
+      }
 
-        pub entry-grows : Grows map noted lo n
-        entry-grows = record {
-          adds = adds-entry lo n el en entries whole;
-          keeps = λ k x o f. entry-keeps k x f;
-          bare = entry-bare;
-          leads = λ p b l h out. entry-leads out;
-        }
+  -- the search for cell lo has met no empty place before
+  module _ (begin : 8 * home (length map) lo ≤ i)
+      (met : (q : ℕ) → home (length map) lo ≤ q → 8 * q < i → 0 < cellsAt map q) where
+    entry-bare : (p : ℕ) → Spare map lo p → Bare map′ (p + 1)
+    entry-bare p spare e q g =
+        let (l, h, bare) = spare entries in
+        other-units q (λ is. let full = met p l (omega arith) in omega (arith, bare p (omega arith)))
+        ∙ bare q (omega arith)
+
+    entry-leads : (Covers map lo → ⊥) → Leads map′ lo (lo + n)
+    entry-leads out =
+        let place : 8 * (i / 8) ≡ i = omega arith in
+        let at-home = home-still lo in
+        more {k = lo} {n = n} (record {
+          place = i / 8;
+          is = put-first (i / 8) place;
+          units = put-units (i / 8) place;
+          some = some;
+          reached = λ e. (
+            omega arith,
+            λ q l g.
+                let full = met q (omega arith) (omega arith) in
+                let off = apart q full in
+                let same = other-units q off in (
+                  omega arith,
+                  λ is.
+                      let first = sym (other-first q off) ∙ is in
+                      out (q, omega arith, omega arith),
+                ),
+          );
+        }) (here refl)
+
+    pub entry-grows : Grows map map′ lo n
+    entry-grows = record {
+      adds = entry-adds;
+      keeps = λ k x o f. entry-keeps k x f;
+      bare = entry-bare;
+      leads = λ p spare out. entry-leads out;
+    }
 
 -- the search for a place goes on
-pub entry-met : (map : Words) (lo i : ℕ) → isEntries map ≡ true → i % 4 ≡ 0
-    → ((q : ℕ) → lo / 128 ≤ q → 4 * q < i → 0 < cellsAt map q) → 0 < pairAt map (i + 2)
-    → (q : ℕ) → lo / 128 ≤ q → 4 * q < i + 4 → 0 < cellsAt map q
-entry-met map lo i entries whole met full q l h = go (decLt (4 * q) i)
+pub entry-met : (map : Words) (lo i : ℕ) → isEntries map ≡ true → i % 8 ≡ 0
+    → ((q : ℕ) → home (length map) lo ≤ q → 8 * q < i → 0 < cellsAt map q) → 0 < fourAt map (i + 4)
+    → (q : ℕ) → home (length map) lo ≤ q → 8 * q < i + 8 → 0 < cellsAt map q
+entry-met map lo i entries whole met full q l h = go (decLt (8 * q) i)
   where
-    go : Dec (4 * q < i) → 0 < cellsAt map q
+    go : Dec (8 * q < i) → 0 < cellsAt map q
     go (yes g) = met q l g
-    go (no g) = let at : 4 * q ≡ i = omega arith in rw (entries, at) full
+    go (no g) = let at : 8 * q ≡ i = omega arith in rw (entries, at) full
 
 -- nothing is written where all places from the first on are taken
-pub entry-full : (map : Words) (lo n i : ℕ) → length map ≤ i + 3 → isEntries map ≡ true
-    → ((q : ℕ) → lo / 128 ≤ q → 4 * q < i → 0 < cellsAt map q) → Grows map map lo n
+pub entry-full : (map : Words) (lo n i : ℕ) → length map ≤ i + 7 → isEntries map ≡ true
+    → ((q : ℕ) → home (length map) lo ≤ q → 8 * q < i → 0 < cellsAt map q) → Grows map map lo n
 entry-full map lo n i end entries met =
-    let size = eqb-eq (length map) 384 entries in
-    let none : (p : ℕ) → Bare map p → lo / 128 ≤ p → p < 96 → ⊥ =
-    λ p b l h. let full = met p l (omega arith) in omega (arith, b entries p (omega arith)) in
+    let size = eqb-eq (length map % 8) 1 entries in
+    let none : (p : ℕ) → Spare map lo p → ⊥ =
+    λ p spare.
+    let (l, h, bare) = spare entries in
+    let full = met p l (omega arith) in
+    omega (arith, bare p (omega arith)) in
     record {
       adds = λ u k out. k;
       keeps = λ k x out f. f;
-      bare = λ p b l h. absurd (none p b l h);
-      leads = λ p b l h. absurd (none p b l h);
+      bare = λ p spare. absurd (none p spare);
+      leads = λ p spare. absurd (none p spare);
     }
 
 -- no cells are noted
@@ -299,8 +336,8 @@ pub grows-none : (map : Words) (lo n : ℕ) → n ≡ 0 → Grows map map lo n
 grows-none map lo n e = record {
   adds = λ u k out. k;
   keeps = λ k x out f. f;
-  bare = λ p b l h e q g. b e q (omega arith);
-  leads = λ p b l h out. here {k = lo} (omega arith);
+  bare = λ p spare e q g. spare e .2 q (omega arith);
+  leads = λ p spare out. here {k = lo} (omega arith);
 }
 
 -- ---- a span that is read
@@ -312,34 +349,36 @@ getD-past (x ∷ l) (suc k) h = getD-past l k (omega arith)
 
 -- a search in entries has come to the one at byte i
 pub record Searching (map : Words) (k i : ℕ) : Type 0 where
-  pub whole : i % 4 ≡ 0
-  pub begin : 4 * (k / 128) ≤ i
-  pub met : (q : ℕ) → k / 128 ≤ q → 4 * q < i → (0 < cellsAt map q) × (firstAt map q ≢ k)
+  pub whole : i % 8 ≡ 0
+  pub begin : 8 * home (length map) k ≤ i
+  pub met : (q : ℕ) → home (length map) k ≤ q → 8 * q < i → (0 < cellsAt map q) × (firstAt map q ≢ k)
 
-pub search-start : (map : Words) (k : ℕ) → Searching map k (4 * (k / 128))
-search-start map k = record { whole = omega arith; begin = omega arith; met = λ q l h. absurd (omega arith) }
+pub search-start : (map : Words) (k h : ℕ) → h ≡ home (length map) k → Searching map k (8 * h)
+search-start map k h e =
+    record { whole = omega arith; begin = omega arith; met = λ q l h. absurd (omega arith) }
 
 module _ {map : Words} {k i : ℕ} (entries : isEntries map ≡ true) (s : Searching map k i) where
-  pub search-more : 0 < pairAt map (i + 2) → pairAt map i ≢ k → Searching map k (i + 4)
+  pub search-more : 0 < fourAt map (i + 4) → fourAt map i ≢ k → Searching map k (i + 8)
   search-more some unlike =
       let whole = s .whole in
       let begin = s .begin in
-      record { whole = omega arith; begin = omega arith; met = λ q l h. go q l h (decLt (4 * q) i) }
+      record { whole = omega arith; begin = omega arith; met = λ q l h. go q l h (decLt (8 * q) i) }
     where
-      go : (q : ℕ) → k / 128 ≤ q → 4 * q < i + 4 → Dec (4 * q < i) → (0 < cellsAt map q) × (firstAt map q ≢ k)
+      go : (q : ℕ) → home (length map) k ≤ q → 8 * q < i + 8 → Dec (8 * q < i)
+          → (0 < cellsAt map q) × (firstAt map q ≢ k)
       go q l h (yes g) = s .met q l g
       go q l h (no g) =
           let whole = s .whole in
-          let at : 4 * q ≡ i = omega arith in
+          let at : 8 * q ≡ i = omega arith in
           (rw (entries, at) some, rw (entries, at) unlike)
 
-  pub search-found : (n : ℕ) → 0 < n → pairAt map i ≡ k → n ≡ pairAt map (i + 2) → Next map k n
+  pub search-found : (n : ℕ) → 0 < n → fourAt map i ≡ k → n ≡ fourAt map (i + 4) → Next map k n
   search-found n some first units =
       let whole = s .whole in
       let begin = s .begin in
-      let place : 4 * (i / 4) ≡ i = omega arith in
+      let place : 8 * (i / 8) ≡ i = omega arith in
       record {
-        place = i / 4;
+        place = i / 8;
         is = rw (entries, place) first;
         units = rw (entries, place) (sym units);
         some = some;
@@ -347,32 +386,34 @@ module _ {map : Words} {k i : ℕ} (entries : isEntries map ≡ true) (s : Searc
       }
 
   -- an empty entry, or the end
-  pub search-none : (x : ℕ) → Next map k x → (i + 3 < length map → pairAt map (i + 2) ≡ 0) → ⊥
+  pub search-none : (x : ℕ) → Next map k x → (i + 7 < length map → fourAt map (i + 4) ≡ 0) → ⊥
   search-none x f empty =
-      let whole = s .whole in
-      let size = eqb-eq (length map) 384 entries in
-      let units : pairAt map (4 * f .place + 2) ≡ x = rw entries at (f .units) in
+      let units : fourAt map (8 * f .place + 4) ≡ x = rw entries at (f .units) in
       let some = f .some in
       let (low, before) = f .reached entries in
-      go low before units some (decLt (4 * f .place) i) (decLt i (4 * f .place)) (decLt (i + 3) (length map))
+      go low before units some (decLt (8 * f .place) i) (decLt i (8 * f .place)) (decLt (i + 7) (length map))
     where
-      go : k / 128 ≤ f .place → ((q : ℕ) → k / 128 ≤ q → q < f .place → (0 < cellsAt map q) × (firstAt map q ≢ k))
-          → pairAt map (4 * f .place + 2) ≡ x → 0 < x → Dec (4 * f .place < i) → Dec (i < 4 * f .place)
-          → Dec (i + 3 < length map) → ⊥
+      go : home (length map) k ≤ f .place
+          → ((q : ℕ) → home (length map) k ≤ q → q < f .place → (0 < cellsAt map q) × (firstAt map q ≢ k))
+          → fourAt map (8 * f .place + 4) ≡ x → 0 < x → Dec (8 * f .place < i) → Dec (i < 8 * f .place)
+          → Dec (i + 7 < length map) → ⊥
       go low before units some (yes l) d e = s .met (f .place) low l .1 (f .is)
       go low before units some (no l) (no g) (yes e) =
-          let at : i ≡ 4 * f .place = omega (arith, s .whole) in
-          let zero : pairAt map (4 * f .place + 2) ≡ 0 = ap (λ j. pairAt map (j + 2)) (sym at) ∙ empty e in
+          let at : i ≡ 8 * f .place = omega (arith, s .whole) in
+          let zero : fourAt map (8 * f .place + 4) ≡ 0 = ap (λ j. fourAt map (j + 4)) (sym at) ∙ empty e in
           omega arith
       go low before units some (no l) (yes g) (yes e) =
           let whole = s .whole in
           let begin = s .begin in
-          let place : 4 * (i / 4) ≡ i = omega arith in
-          let full : 0 < pairAt map (i + 2) = rw (entries, place) at (before (i / 4) (omega arith) (omega arith) .0) in
+          let place : 8 * (i / 8) ≡ i = omega arith in
+          let full : 0 < fourAt map (i + 4) = rw (entries, place) at (before (i / 8) (omega arith) (omega arith) .0) in
           omega (arith, empty e)
       go low before units some (no l) d (no e) =
-          let size = eqb-eq (length map) 384 entries in
+          let size = eqb-eq (length map % 8) 1 entries in
           let whole = s .whole in
-          let a = getD-past map (4 * f .place + 2) (omega arith) in
-          let b = getD-past map (4 * f .place + 2 + 1) (omega arith) in
+          let past : length map ≤ 8 * f .place + 4 = omega arith in
+          let b = getD-past map (8 * f .place + 4) past in
+          let b′ = getD-past map (8 * f .place + 4 + 1) (omega arith) in
+          let b″ = getD-past map (8 * f .place + 4 + 2) (omega arith) in
+          let b‴ = getD-past map (8 * f .place + 4 + 3) (omega arith) in
           omega arith

@@ -12,26 +12,27 @@ use Rattle.words.specs.Lists.{Words, all}
 use Rattle.words.specs.Counted.{within}
 use Rattle.words.proofs.Tests.{and-l, or-l, or-r, le-of, lt-of, of-lt, within-in}
 use Rattle.words.proofs.ListLaws.{all-imp, all-append-r}
-use Rattle.ledger.specs.Runs.{Run, run, Gapped, covered}
 use Rattle.ledger.proofs.RunLaws.{covered-append}
-use Rattle.stored_forms.specs.Tree.{Tree, leaf, node, link, inorder, noLongerThan, formOne}
+use Rattle.ledger.specs.Runs.{Run, run, Gapped, covered}
+use Rattle.stored_forms.specs.Tree.{Tree, leaf, node, link, inorder, noLongerThan, Form}
 use Rattle.stored_forms.specs.Tree.{lengthAt, leftAt, rightAt}
-use Rattle.stored_forms.proofs.NodeLaws.{readable-one, holds-reads}
+use Rattle.stored_forms.proofs.NodeLaws.{Readable, holds-reads}
+use Rattle.tree_nodes.specs.Nodes.{Clear}
 use Rattle.record_table.specs.Partition.{total}
 use Rattle.record_table.proofs.PartitionLaws.{total-append}
 use Rattle.tree_check.specs.Maps.{Covers}
-use Rattle.tree_check.specs.Walk.{earliest, under, Ready, Between, NodeFollows, Walked, Apart, ends, LiesAt, Passes}
+use Rattle.tree_check.specs.Walk.{earliest, under, Ready, Between, NodeFollows, Walked}
+use Rattle.tree_check.specs.Walk.{Apart, ends, LiesAt, Passes}
 use Rattle.tree_check.proofs.LeadLaws.{leads-cover}
 use Rattle.tree_check.proofs.GapLaws.{gapped-join}
 use Rattle.tree_check.proofs.LimitLaws.{node-heaped, node-short}
-use Rattle.tree_check.proofs.ReadLaws.{cell-reads}
 
 -- ---- what is found
 
-module _ {m map : Words} {N : ℕ} where
+module _ {F : Form} {m map : Words} {N : ℕ} where
   -- no tree at the link 0
   pub none-found : {l limit k before : ℕ} → l ≡ 0 → k ≤ N → before ≤ k
-      → Walked m map N l limit k before k before
+      → Walked F m map N l limit k before k before
   none-found e h f = record {
     tree = leaf;
     linked = sym e;
@@ -46,10 +47,10 @@ module _ {m map : Words} {N : ℕ} where
     known = λ u a b c. absurd (omega arith);
   }
 
-  module _ {c z lf rt limit k before next sum last free : ℕ} (ready : Ready m map N) (ez : z ≡ lengthAt formOne m c)
-      (el : lf ≡ leftAt formOne m c) (er : rt ≡ rightAt formOne m c) (fit : Between k N limit c z)
-      (x : Walked m map N lf z k before next sum) (inner : next ≤ c) (p : NodeFollows m map next c z)
-      (y : Walked m map N rt (z + 1) (c + z) (sum + z) last free) where
+  module _ {c z lf rt limit k before next sum last free : ℕ} (ez : z ≡ lengthAt F m c)
+      (el : lf ≡ leftAt F m c) (er : rt ≡ rightAt F m c) (fit : Between k N limit c z)
+      (x : Walked F m map N lf z k before next sum) (inner : next ≤ c) (p : NodeFollows F m map next c z)
+      (y : Walked F m map N rt (z + 1) (c + z) (sum + z) last free) where
     abbrev q : Run
     q = run c z
 
@@ -77,8 +78,7 @@ module _ {m map : Words} {N : ℕ} where
         go left own right (yes s) (yes d) (yes f) = y .known u f hi right
 
     -- the sons' trees and the node make the tree
-    pub joined : {l : ℕ} → l ≡ suc c → Walked m map N l limit k before last free
-    unfolding formOne
+    pub joined : {l : ℕ} → l ≡ suc c → Walked F m map N l limit k before last free
     joined at-cell =
         let apart = p .apart in
         let some = fit .some in
@@ -95,8 +95,8 @@ module _ {m map : Words} {N : ℕ} where
           tree = node a q b;
           linked = sym at-cell;
           holds = (
-            cell-reads m c (omega (arith, ready .cells)) ∙ cc (ez, el, er, x .linked, y .linked),
-            (λ i lo hi. p .clear i (omega arith) hi),
+            p .clear .0 ∙ cc (ez, el, er, x .linked, y .linked),
+            p .clear .1,
             x .holds,
             y .holds,
           );
@@ -113,17 +113,23 @@ module _ {m map : Words} {N : ℕ} where
         }
 
 -- what a walk says, said of equal numbers
-pub walked-as : {m map : Words} {N l limit k allowed before next free n s : ℕ} → n ≡ next → s ≡ free
-    → Walked m map N l limit k before next free → Passes m map N l limit k allowed before next free
-    → Walked m map N l limit k before n s × Passes m map N l limit k allowed before n s
+pub walked-as : {F : Form} {m map : Words} {N l limit k allowed before next free n s : ℕ} → n ≡ next → s ≡ free
+    → Walked F m map N l limit k before next free → Passes F m map N l limit k allowed before next free
+    → Walked F m map N l limit k before n s × Passes F m map N l limit k allowed before n s
 walked-as en es x p = rw (en, es) (x, p)
 
 -- a part of the arena
-pub ready-part : {m map : Words} {n N : ℕ} → n ≤ N → Ready m map N → Ready m map n
+pub ready-part : {F : Form} {m map : Words} {n N : ℕ} → n ≤ N → Ready F m map N → Ready F m map n
 ready-part h r =
-    let cells = r .cells in
+    let inside = r .inside in
+    let linked = r .linked in
     let small = r .small in
-    record { places = λ bytes. omega (arith, r .places bytes); cells = omega arith; small = omega arith }
+    record {
+      places = λ bytes. omega (arith, r .places bytes);
+      inside = omega arith;
+      linked = omega arith;
+      small = omega arith;
+    }
 
 -- ---- runs one after another
 
@@ -162,15 +168,15 @@ longer-under : (q r : Run) → noLongerThan q r ≡ true → under (q .size + 1)
 longer-under q r e = of-lt (r .size) (q .size + 1) (omega (arith, le-of (r .size) (q .size) e))
 
 -- it has the node at cell c
-record Here (m map : Words) (N limit k c z : ℕ) (t : Tree) : Type 0 where
+record Here (F : Form) (m map : Words) (N limit k c z : ℕ) (t : Tree) : Type 0 where
   a : Tree
   b : Tree
   is : t ≡ node a (run c z) b
-  lies : LiesAt m map N (suc c) limit k (node a (run c z) b)
+  lies : LiesAt F m map N (suc c) limit k (node a (run c z) b)
 
-module _ {m map : Words} {N : ℕ} (ready : Ready m map N) where
+module _ {F : Form} (back : Readable F (F .links)) {m map : Words} {N : ℕ} (ready : Ready F m map N) where
   -- a node's parts, and the node between them
-  module _ {l limit k : ℕ} {a b : Tree} {q : Run} (x : LiesAt m map N l limit k (node a q b)) where
+  module _ {l limit k : ℕ} {a b : Tree} {q : Run} (x : LiesAt F m map N l limit k (node a q b)) where
     left-apart : Apart map k (inorder a)
     left-apart = apart-left map k (inorder a) (q ∷ inorder b) (x .runs)
 
@@ -188,9 +194,9 @@ module _ {m map : Words} {N : ℕ} (ready : Ready m map N) where
         let inside = x .inside in
         (omega arith, omega arith, omega (arith, end-is))
 
-    sons-in : (link a < 65536) × (link b < 65536)
+    sons-in : (link a < F .links) × (link b < F .links)
     sons-in =
-        let small = ready .small in
+        let reach = ready .linked in
         let inside = x .inside in
         let (low, left-end, high) = places in
         let left-link = link-apart map k a left-apart in
@@ -198,31 +204,31 @@ module _ {m map : Words} {N : ℕ} (ready : Ready m map N) where
         (omega arith, omega (arith, end-is))
 
   -- at the link to cell c it has the root that is read there
-  rooted : {limit k c : ℕ} (t : Tree) → LiesAt m map N (suc c) limit k t
-      → (a : Tree) × (b : Tree) × (t ≡ node a (run c (lengthAt formOne m c)) b)
+  rooted : {limit k c : ℕ} (t : Tree) → LiesAt F m map N (suc c) limit k t
+      → (a : Tree) × (b : Tree) × (t ≡ node a (run c (lengthAt F m c)) b)
   rooted leaf x = absurd (omega (arith, x .linked))
   rooted {c = c} (node a q b) x =
       let small = sons-in x in
       let start : q .start ≡ c = omega (arith, x .linked) in
-      let size = sym (holds-reads formOne 65536 readable-one m a q b (x .holds) (small .0) (small .1) .0)
-      ∙ ap (lengthAt formOne m) start in
+      let size = sym (holds-reads F (F .links) back m a q b (x .holds) (small .0) (small .1) .0)
+      ∙ ap (lengthAt F m) start in
       (a, b, λ i. node a (run (start i) (size i)) b)
 
-  module _ {l limit k c z lf rt : ℕ} (at-cell : l ≡ suc c) (ez : z ≡ lengthAt formOne m c)
-      (el : lf ≡ leftAt formOne m c) (er : rt ≡ rightAt formOne m c) where
+  module _ {l limit k c z lf rt : ℕ} (at-cell : l ≡ suc c) (ez : z ≡ lengthAt F m c)
+      (el : lf ≡ leftAt F m c) (er : rt ≡ rightAt F m c) where
     -- a tree that lies there has the node that is read there
-    here-is : (t : Tree) → LiesAt m map N l limit k t → Here m map N limit k c z t
+    here-is : (t : Tree) → LiesAt F m map N l limit k t → Here F m map N limit k c z t
     here-is t x =
-        let there = subst (λ j. LiesAt m map N j limit k t) at-cell x in
+        let there = subst (λ j. LiesAt F m map N j limit k t) at-cell x in
         let (a, b, e) = rooted t there in
         let is : t ≡ node a (run c z) b = e ∙ ap (λ n. node a (run c n) b) (sym ez) in
-        record { a = a; b = b; is = is; lies = subst (λ (u : Tree). LiesAt m map N (suc c) limit k u) is there }
+        record { a = a; b = b; is = is; lies = subst (λ (u : Tree). LiesAt F m map N (suc c) limit k u) is there }
 
-    module _ {a b : Tree} (x : LiesAt m map N (suc c) limit k (node a (run c z) b)) where
+    module _ {a b : Tree} (x : LiesAt F m map N (suc c) limit k (node a (run c z) b)) where
       reads : (link a ≡ lf) × (link b ≡ rt)
       reads =
           let small = sons-in x in
-          let (_, l, r) = holds-reads formOne 65536 readable-one m a (run c z) b (x .holds) (small .0) (small .1) in
+          let (_, l, r) = holds-reads F (F .links) back m a (run c z) b (x .holds) (small .0) (small .1) in
           (sym l ∙ sym el, sym r ∙ sym er)
 
       node-between : Between k N limit c z
@@ -236,7 +242,7 @@ module _ {m map : Words} {N : ℕ} (ready : Ready m map N) where
             short = lt-of z limit (and-l (under limit (run c z)) (all (under limit) (inorder b)) own);
           }
 
-      left-lies : LiesAt m map N lf z k a
+      left-lies : LiesAt F m map N lf z k a
       left-lies = record {
         linked = reads .0;
         holds = x .holds .2;
@@ -246,7 +252,7 @@ module _ {m map : Words} {N : ℕ} (ready : Ready m map N) where
         inside = let (low, left-end, high) = places x in omega arith;
       }
 
-      right-lies : LiesAt m map N rt (z + 1) (c + z) b
+      right-lies : LiesAt F m map N rt (z + 1) (c + z) b
       right-lies =
           let inside = x .inside in
           record {
@@ -258,16 +264,17 @@ module _ {m map : Words} {N : ℕ} (ready : Ready m map N) where
             inside = omega (arith, end-is x);
           }
 
-      node-follows : {j : ℕ} → j ≡ ends k (inorder a) → NodeFollows m map j c z
-      unfolding formOne
-      node-follows e = rw e (record {
-        apart = behind x .0;
-        led = behind x .1;
-        clear = λ i lo hi. x .holds .1 i (omega arith) hi;
-      })
+      node-clear : Clear F m c z
+      node-clear =
+          let small = sons-in x in
+          let (n, l, r) = holds-reads F (F .links) back m a (run c z) b (x .holds) (small .0) (small .1) in
+          (x .holds .0 ∙ sym (λ i. F .node (n i) (l i) (r i)), x .holds .1)
+
+      node-follows : {j : ℕ} → j ≡ ends k (inorder a) → NodeFollows F m map j c z
+      node-follows e = rw e (record { apart = behind x .0; led = behind x .1; clear = node-clear })
 
     -- the nodes of its parts are fewer
-    few-sons : {t : Tree} {allowed rest : ℕ} (h : Here m map N limit k c z t) → allowed ≡ suc rest
+    few-sons : {t : Tree} {allowed rest : ℕ} (h : Here F m map N limit k c z t) → allowed ≡ suc rest
         → length (inorder t) ≤ allowed → (length (inorder (h .a)) ≤ rest) × (length (inorder (h .b)) ≤ rest)
     few-sons h may few =
         let size = ap (λ (u : Tree). length (inorder u)) (h .is) in
@@ -277,12 +284,12 @@ module _ {m map : Words} {N : ℕ} (ready : Ready m map N) where
     -- ---- the ways through the walk: where a tree lies, none is refused
 
     pub not-between : {allowed before r free : ℕ} → (Between k N limit c z → ⊥)
-        → Passes m map N l limit k allowed before r free
+        → Passes F m map N l limit k allowed before r free
     not-between bad = record { meets = λ t x few. let h = here-is t x in absurd (bad (node-between (h .lies))) }
 
     module _ {allowed rest before next sum : ℕ} (may : allowed ≡ suc rest)
-        (left : Passes m map N lf z k rest before next sum) where
-      pub not-left : {r free : ℕ} → c < next → Passes m map N l limit k allowed before r free
+        (left : Passes F m map N lf z k rest before next sum) where
+      pub not-left : {r free : ℕ} → c < next → Passes F m map N l limit k allowed before r free
       not-left over = record {
         meets = λ t x few.
             let h = here-is t x in
@@ -291,15 +298,16 @@ module _ {m map : Words} {N : ℕ} (ready : Ready m map N) where
             absurd (omega arith);
       }
 
-      pub not-following : {r free : ℕ} → (NodeFollows m map next c z → ⊥) → Passes m map N l limit k allowed before r free
+      pub not-following : {r free : ℕ} → (NodeFollows F m map next c z → ⊥)
+          → Passes F m map N l limit k allowed before r free
       not-following bad = record {
         meets = λ t x few.
             let h = here-is t x in
             absurd (bad (node-follows (h .lies) (left .meets (h .a) (left-lies (h .lies)) (few-sons h may few .0) .0)));
       }
 
-      pub passes-both : {last free : ℕ} → Passes m map N rt (z + 1) (c + z) rest (sum + z) last free
-          → Passes m map N l limit k allowed before last free
+      pub passes-both : {last free : ℕ} → Passes F m map N rt (z + 1) (c + z) rest (sum + z) last free
+          → Passes F m map N l limit k allowed before last free
       passes-both right = record {
         meets = λ t x few.
             let h = here-is t x in
@@ -311,15 +319,15 @@ module _ {m map : Words} {N : ℕ} (ready : Ready m map N) where
             rw (h .is) (omega arith, omega arith);
       }
 
-  pub passes-none : {l limit k allowed before : ℕ} → l ≡ 0 → Passes m map N l limit k allowed before k before
+  pub passes-none : {l limit k allowed before : ℕ} → l ≡ 0 → Passes F m map N l limit k allowed before k before
   passes-none {l} {limit} {k} {allowed} {before} e = record { meets = go }
     where
-      go : (t : Tree) → LiesAt m map N l limit k t → length (inorder t) ≤ allowed
+      go : (t : Tree) → LiesAt F m map N l limit k t → length (inorder t) ≤ allowed
           → (k ≡ ends k (inorder t)) × (before ≡ before + total (inorder t))
       go leaf x few = (refl, omega arith)
       go (node a q b) x few = absurd (omega (arith, x .linked))
 
-  pub not-inside : {l limit k allowed before r free : ℕ} → N < l → Passes m map N l limit k allowed before r free
+  pub not-inside : {l limit k allowed before r free : ℕ} → N < l → Passes F m map N l limit k allowed before r free
   not-inside {k = k} h = record {
     meets = λ t x few.
         let low = link-apart map k t (x .runs) in
@@ -330,10 +338,10 @@ module _ {m map : Words} {N : ℕ} (ready : Ready m map N) where
 
   -- a tree at a link that is not 0 has a node
   pub not-allowed : {l limit k allowed before r free : ℕ} → l ≢ 0 → allowed ≡ 0
-      → Passes m map N l limit k allowed before r free
+      → Passes F m map N l limit k allowed before r free
   not-allowed {l} {limit} {k} {allowed} {before} {r} {free} some none = record { meets = go }
     where
-      go : (t : Tree) → LiesAt m map N l limit k t → length (inorder t) ≤ allowed
+      go : (t : Tree) → LiesAt F m map N l limit k t → length (inorder t) ≤ allowed
           → (r ≡ ends k (inorder t)) × (free ≡ before + total (inorder t))
       go leaf x few = absurd (some (sym (x .linked)))
       go (node a q b) x few = absurd (omega (arith, length-append (inorder a) (q ∷ inorder b)))

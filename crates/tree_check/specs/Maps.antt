@@ -1,6 +1,6 @@
--- The map of a table's records: spans of cells that are held, each in its place; and what the whole test says.
--- 01, "Stored form of the tree pool". Assumes nothing.
-use Prim.Native.Nat.{ℕ, _+_, _*_, _/_, _≤_, _<_}
+-- The map of a table's records: spans of cells that are held, each in its place; and what the whole test says. A unit
+-- is one cell. 01, "Stored form of the tree pool". Assumes nothing.
+use Prim.Native.Nat.{ℕ, _+_, _-_, _*_, _/_, _%_, _≤_, _<_}
 use mathlib.Core.Path.{_≡_}
 use mathlib.Core.Logic.{_≢_}
 use mathlib.Core.Bool.{Bool, true, false, cond}
@@ -10,31 +10,29 @@ use Rattle.words.specs.Lists.{Words}
 use Rattle.ledger.specs.declared.Rule.{Rule}
 use Rattle.ledger.specs.Records.{recordsOf, slots}
 use Rattle.ledger.specs.Units.{valid, free}
-use Rattle.stored_forms.specs.Tree.{link, formOne, formRule, freeTree}
+use Rattle.stored_forms.specs.Tree.{link, formOf, formRule, freeTree}
 use Rattle.stored_forms.specs.Blocks.{Holds}
 use Rattle.record_table.specs.Partition.{Entered}
 use Rattle.record_table.specs.Leads.{Leading, LedThrough}
 use Rattle.tree_check.specs.declared.Head.{Head}
 
--- a unit of the tree pool is one cell of two words
-abbrev pub cellRule : Rule
-cellRule = record { unit = 2; lead = 0 }
+-- four bytes as one number, the lowest first
+abbrev pub fourAt : Words → ℕ → ℕ
+fourAt map i =
+    getD map i 0 + 256 * getD map (i + 1) 0 + 65536 * getD map (i + 2) 0 + 16777216 * getD map (i + 3) 0
 
--- two bytes as one number, the lower one first
-abbrev pub pairAt : Words → ℕ → ℕ
-pairAt map i = getD map i 0 + 256 * getD map (i + 1) 0
-
--- a map of 384 bytes has 96 places of four bytes; any other has a place of one byte for each cell
+-- A map with one byte more than a multiple of eight has places of eight bytes, its entries; any other has a place of
+-- one byte for each cell.
 abbrev pub isEntries : Words → Bool
-isEntries map = eqb (length map) 384
+isEntries map = eqb (length map % 8) 1
 
 -- the first cell of the span at place p
 abbrev pub firstAt : Words → ℕ → ℕ
-firstAt map p = cond (isEntries map) (pairAt map (4 * p)) p
+firstAt map p = cond (isEntries map) (fourAt map (8 * p)) p
 
 -- the cells of the span at place p, 0 where there is none
 abbrev pub cellsAt : Words → ℕ → ℕ
-cellsAt map p = cond (isEntries map) (pairAt map (4 * p + 2)) (getD map p 0)
+cellsAt map p = cond (isEntries map) (fourAt map (8 * p + 4)) (getD map p 0)
 
 -- cell u is in the span at some place
 abbrev pub Covers : Words → ℕ → Type 0
@@ -44,11 +42,21 @@ Covers map u = (p : ℕ) × (firstAt map p ≤ u) × (u < firstAt map p + cellsA
 abbrev pub CoversAll : Words → ℕ → ℕ → Type 0
 CoversAll map lo hi = (u : ℕ) → lo ≤ u → u < hi → Covers map u
 
--- A search from cell k on, which begins at the place k / 128 where the map has entries, comes to place p: no place
--- before it is empty, or has a span from cell k on.
+-- How many places of n bytes of entries a search may begin at: 64 of 96, or 512 of 768. Those behind them are as many
+-- as the records, so that each finds an empty place.
+unfoldable pub homes : ℕ → ℕ
+homes n = cond (eqb n 769) 64 512
+
+-- Where the search for cell k begins. Few records are told apart by their 128 cells; many by the upper bits of a
+-- product, which part cells that lie at equal distances.
+unfoldable pub home : ℕ → ℕ → ℕ
+home n k = cond (eqb n 769) (k / 128 % 64) (k * 2654435761 % 4294967296 / 8388608)
+
+-- A search from cell k on comes to place p, where the map has entries: no place before it is empty, or has a span from
+-- cell k on.
 abbrev pub Reaches : Words → ℕ → ℕ → Type 0
-Reaches map k p = (k / 128 ≤ p)
-    × ((q : ℕ) → k / 128 ≤ q → q < p → (0 < cellsAt map q) × (firstAt map q ≢ k))
+Reaches map k p = (home (length map) k ≤ p)
+    × ((q : ℕ) → home (length map) k ≤ q → q < p → (0 < cellsAt map q) × (firstAt map q ≢ k))
 
 -- the search finds the span of n cells from cell k on
 pub record Next (map : Words) (k n : ℕ) : Type 0 where
@@ -66,6 +74,12 @@ Leads map lo hi = Leading (Next map) hi lo
 abbrev pub Bare : Words → ℕ → Type 0
 Bare map p = isEntries map ≡ true → (q : ℕ) → p ≤ q → cellsAt map q ≡ 0
 
+-- and p is a place that a search from cell lo on may come to
+abbrev pub Spare : Words → ℕ → ℕ → Type 0
+Spare map lo p =
+    isEntries map ≡ true
+    → (home (length map) lo ≤ p) × (p < length map / 8) × ((q : ℕ) → p ≤ q → cellsAt map q ≡ 0)
+
 -- a map with a byte for each cell has one for each of the first N
 abbrev pub Roomy : Words → ℕ → Type 0
 Roomy map N = isEntries map ≡ false → N ≤ length map
@@ -75,31 +89,37 @@ abbrev pub Adds : Words → Words → ℕ → ℕ → Type 0
 Adds map map′ lo n = (u : ℕ) → Covers map′ u → (lo ≤ u → u < lo + n → ⊥) → Covers map u
 
 -- The second map has what is found in the first outside the n cells from cell lo on. If they begin with a cell that it
--- does not cover, and a place is empty behind which all are, they are led through.
+-- does not cover, and a place is left for them, they are led through.
 pub record Grows (map map′ : Words) (lo n : ℕ) : Type 0 where
   pub adds : Adds map map′ lo n
   pub keeps : (k x : ℕ) → (lo ≤ k → k < lo + n → ⊥) → Next map k x → Next map′ k x
-  pub bare : (p : ℕ) → Bare map p → lo / 128 ≤ p → p < 96 → Bare map′ (p + 1)
-  pub leads : (p : ℕ) → Bare map p → lo / 128 ≤ p → p < 96 → (Covers map lo → ⊥) → Leads map′ lo (lo + n)
+  pub bare : (p : ℕ) → Spare map lo p → Bare map′ (p + 1)
+  pub leads : (p : ℕ) → Spare map lo p → (Covers map lo → ⊥) → Leads map′ lo (lo + n)
+
+-- the number x is in the four bytes from byte i on, and no other byte has changed
+pub record FourPut (map map′ : Words) (i x : ℕ) : Type 0 where
+  pub is : fourAt map′ i ≡ x
+  pub others : (k : ℕ) → (i ≤ k → k < i + 4 → ⊥) → getD map′ k 0 ≡ getD map k 0
+  pub long : length map′ ≡ length map
 
 -- the records that a map has room for
 abbrev pub most : Words → ℕ
-most map = cond (isEntries map) 32 256
+most map = cond (isEntries map) (length map / 8 - homes (length map)) 256
 
 -- the map leads through each of the first i records
-abbrev pub Led : Words → Words → ℕ → Type 0
-Led t map i = LedThrough cellRule t (Next map) i
+abbrev pub Led : Rule → Words → Words → ℕ → Type 0
+Led ρ t map i = LedThrough ρ t (Next map) i
 
--- all slots are entered, with so many cells together, and the map covers only cells that
+-- all slots are entered, with so many units together, and the map covers only units that
 -- are held; if the ledger is valid, it leads through each record
-pub record Mapped (W next : ℕ) (t : Words) (held : ℕ) (map : Words) : Type 0 where
-  pub entered : Entered cellRule W next t (slots t) held
-  pub spans : (u : ℕ) → Covers map u → free cellRule (recordsOf t) u ≡ false
-  pub led : valid cellRule W next (recordsOf t) ≡ true → Led t map (slots t)
+pub record Mapped (ρ : Rule) (W next : ℕ) (t : Words) (held : ℕ) (map : Words) : Type 0 where
+  pub entered : Entered ρ W next t (slots t) held
+  pub spans : (u : ℕ) → Covers map u → free ρ (recordsOf t) u ≡ false
+  pub led : valid ρ W next (recordsOf t) ≡ true → Led ρ t map (slots t)
 
--- The table holds a valid ledger, and the arena the tree of its free runs, from the root link on.
+-- The table holds a valid ledger, and the arena the tree of its free runs in the head's form, from the root link on.
 abbrev pub Shown : Head → Words → Words → Type 0
 Shown h m t =
-    (valid (formRule formOne) (length m) (h .next) (recordsOf t) ≡ true)
-    × (link (freeTree formOne (length m) (recordsOf t)) ≡ h .root)
-    × Holds formOne m (freeTree formOne (length m) (recordsOf t))
+    (valid (formRule (formOf (h .form))) (length m) (h .next) (recordsOf t) ≡ true)
+    × (link (freeTree (formOf (h .form)) (length m) (recordsOf t)) ≡ h .root)
+    × Holds (formOf (h .form)) m (freeTree (formOf (h .form)) (length m) (recordsOf t))

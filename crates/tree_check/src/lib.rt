@@ -4,30 +4,34 @@
 pub mod record_map;
 pub mod tree_walk;
 
-use ledger::Rule;
 use record_map::leads_to;
 use record_map::map_rows;
+use tree_nodes::forms::cell_count;
+use tree_nodes::forms::is_form;
+use tree_nodes::forms::is_range;
 use tree_walk::walk_all;
 ghost use mathlib.Core.Path.{_≡_};
 ghost use mathlib.Core.Bool.{true};
-ghost use Prim.Native.Nat.{_/_, _<_, _≤_};
+ghost use Prim.Native.Nat.{_<_, _≤_};
 ghost use lib.ListN.{length};
 ghost use Rattle.words.specs.Lists.{all, isZero};
 ghost use Rattle.words.specs.Flags.{Says};
 ghost use Rattle.ledger.specs.Records.{slots};
+ghost use Rattle.stored_forms.specs.Tree.{formOf};
+ghost use Rattle.tree_nodes.specs.Nodes.{cells};
 ghost use Rattle.calls.specs.Pool.{lengths, stored};
 ghost use Rattle.calls.specs.Step.{GateIs};
 ghost use Rattle.calls.specs.Engines.{treeEngine};
 ghost use Rattle.tree_check.specs.Maps.{Roomy, most, Shown};
+ghost use Rattle.tree_check.specs.Walk.{Linked};
 ghost use Rattle.tree_check.specs.Gate.{treePool, RightLengths};
 
-// A unit of the tree pool is one cell of two words.
-pub const CELLS: Rule = Rule { unit: 2, lead: 0 };
-
-// What a call of the tree pool is passed and hands back: the root link and the next ticket, 0 when none is left.
+// What a call of the tree pool is passed and hands back: the root link, the next ticket, 0 when none is left, and the
+// number of the pool's form.
 pub struct Head {
     pub root: u32,
     pub next: u32,
+    pub form: u32,
 }
 
 // ---- the stored form
@@ -41,37 +45,48 @@ fn is_shown_over(
     seen: &mut [u8],
     m: usize,
 ) -> bool
-    requires { ⌜ (length (now arena) ≤ 16384) × (slots (now table) ≤ 256) × (slots (now table) ≤ most (now map)) ⌝ }
-    requires { ⌜ Roomy (now map) (length (now arena) / 2) × (all isZero (now map) ≡ true) ⌝ }
+    requires { ⌜ Linked (formOf (head .form)) (now arena) ⌝ }
+    requires { ⌜ (slots (now table) ≤ 256) × (slots (now table) ≤ most (now map)) ⌝ }
+    requires { ⌜ Roomy (now map) (cells (formOf (head .form)) (now arena)) × (all isZero (now map) ≡ true) ⌝ }
     requires { ⌜ (0 < m) × (length (now seen) ≡ m) ⌝ }
     ensures { λ r. ⌜ Says r (Shown head (now (arena .entry)) (now (table .entry))) ⌝ }
 {
     let words = arena.len();
-    let held = map_rows(head.next, &*table, words, &mut *map, &mut *seen, m);
+    let held = map_rows(
+        head.form,
+        head.next,
+        &*table,
+        words,
+        &mut *map,
+        &mut *seen,
+        m,
+    );
     if words < held {
         return false;
     }
-    let cells = words / 2;
+    let count = cell_count(head.form, words);
     let allowed = table.len() / 3 + 1;
     let mut sum: usize = 0;
     let end = walk_all(
+        head.form,
         &*arena,
         &*map,
         head.root as usize,
-        cells + 1,
+        count + 1,
         &mut sum,
         allowed,
     );
-    if cells < end {
+    if count < end {
         return false;
     }
     let known = sum + held;
-    leads_to(map, end, cells) & (known == cells)
+    leads_to(map, end, count) & (known == count)
 }
 
 // Map and residues are wiped whole on every call, so that a small pool gets small ones. At most 64 cells:
 fn is_shown_tiny(head: Head, arena: &[u32], table: &[u32]) -> bool
-    requires { ⌜ (length (now arena) ≤ 128) × (slots (now table) ≤ 256) ⌝ }
+    requires { ⌜ Linked (formOf (head .form)) (now arena)
+        × (cells (formOf (head .form)) (now arena) ≤ 64) × (slots (now table) ≤ 256) ⌝ }
     ensures { λ r. ⌜ Says r (Shown head (now (arena .entry)) (now (table .entry))) ⌝ }
 {
     let mut map: [u8; 64] = [0; 64];
@@ -81,7 +96,8 @@ fn is_shown_tiny(head: Head, arena: &[u32], table: &[u32]) -> bool
 
 // At most 512 cells.
 fn is_shown_small(head: Head, arena: &[u32], table: &[u32]) -> bool
-    requires { ⌜ (length (now arena) ≤ 1024) × (slots (now table) ≤ 256) ⌝ }
+    requires { ⌜ Linked (formOf (head .form)) (now arena)
+        × (cells (formOf (head .form)) (now arena) ≤ 512) × (slots (now table) ≤ 256) ⌝ }
     ensures { λ r. ⌜ Says r (Shown head (now (arena .entry)) (now (table .entry))) ⌝ }
 {
     let mut map: [u8; 512] = [0; 512];
@@ -89,20 +105,21 @@ fn is_shown_small(head: Head, arena: &[u32], table: &[u32]) -> bool
     is_shown_over(head, &*arena, &*table, &mut map, &mut seen, 128)
 }
 
-// At most 32 records, by entries. They lie from place first / 128 on: 64 places for 8192 cells, and room behind them
-// for 32 records that crowd the last.
+// At most 32 records, by entries: 64 places where a search may begin, and room behind them for 32 records that crowd
+// the last.
 fn is_shown_sparse(head: Head, arena: &[u32], table: &[u32]) -> bool
-    requires { ⌜ (length (now arena) ≤ 16384) × (slots (now table) ≤ 32) ⌝ }
+    requires { ⌜ Linked (formOf (head .form)) (now arena) × (slots (now table) ≤ 32) ⌝ }
     ensures { λ r. ⌜ Says r (Shown head (now (arena .entry)) (now (table .entry))) ⌝ }
 {
-    let mut map: [u8; 384] = [0; 384];
+    let mut map: [u8; 769] = [0; 769];
     let mut seen: [u8; 128] = [0; 128];
     is_shown_over(head, &*arena, &*table, &mut map, &mut seen, 128)
 }
 
 // At most 2,048 cells.
 fn is_shown_middle(head: Head, arena: &[u32], table: &[u32]) -> bool
-    requires { ⌜ (length (now arena) ≤ 4096) × (slots (now table) ≤ 256) ⌝ }
+    requires { ⌜ Linked (formOf (head .form)) (now arena)
+        × (cells (formOf (head .form)) (now arena) ≤ 2048) × (slots (now table) ≤ 256) ⌝ }
     ensures { λ r. ⌜ Says r (Shown head (now (arena .entry)) (now (table .entry))) ⌝ }
 {
     let mut map: [u8; 2048] = [0; 2048];
@@ -112,7 +129,8 @@ fn is_shown_middle(head: Head, arena: &[u32], table: &[u32]) -> bool
 
 // As many, with many records.
 fn is_shown_busy(head: Head, arena: &[u32], table: &[u32]) -> bool
-    requires { ⌜ (length (now arena) ≤ 4096) × (slots (now table) ≤ 256) ⌝ }
+    requires { ⌜ Linked (formOf (head .form)) (now arena)
+        × (cells (formOf (head .form)) (now arena) ≤ 2048) × (slots (now table) ≤ 256) ⌝ }
     ensures { λ r. ⌜ Says r (Shown head (now (arena .entry)) (now (table .entry))) ⌝ }
 {
     let mut map: [u8; 2048] = [0; 2048];
@@ -120,8 +138,10 @@ fn is_shown_busy(head: Head, arena: &[u32], table: &[u32]) -> bool
     is_shown_over(head, &*arena, &*table, &mut map, &mut seen, 2048)
 }
 
+// At most 8,192 cells.
 fn is_shown_large(head: Head, arena: &[u32], table: &[u32]) -> bool
-    requires { ⌜ (length (now arena) ≤ 16384) × (slots (now table) ≤ 256) ⌝ }
+    requires { ⌜ Linked (formOf (head .form)) (now arena)
+        × (cells (formOf (head .form)) (now arena) ≤ 8192) × (slots (now table) ≤ 256) ⌝ }
     ensures { λ r. ⌜ Says r (Shown head (now (arena .entry)) (now (table .entry))) ⌝ }
 {
     let mut map: [u8; 8192] = [0; 8192];
@@ -129,14 +149,25 @@ fn is_shown_large(head: Head, arena: &[u32], table: &[u32]) -> bool
     is_shown_over(head, &*arena, &*table, &mut map, &mut seen, 2048)
 }
 
-// Pools of more than 1,024 words or 16 records. It stands at two places of its caller, so that the compiler keeps it a
+// Any number of cells, by entries: 512 places where a search may begin, and room for 256 records behind them.
+fn is_shown_vast(head: Head, arena: &[u32], table: &[u32]) -> bool
+    requires { ⌜ Linked (formOf (head .form)) (now arena) × (slots (now table) ≤ 256) ⌝ }
+    ensures { λ r. ⌜ Says r (Shown head (now (arena .entry)) (now (table .entry))) ⌝ }
+{
+    let mut map: [u8; 6145] = [0; 6145];
+    let mut seen: [u8; 2048] = [0; 2048];
+    is_shown_over(head, &*arena, &*table, &mut map, &mut seen, 2048)
+}
+
+// Pools of more than 512 cells or 16 records. It stands at two places of its caller, so that the compiler keeps it a
 // call and its maps out of the frame of small pools.
 fn is_shown_other(head: Head, arena: &[u32], table: &[u32]) -> bool
-    requires { ⌜ (length (now arena) ≤ 16384) × (slots (now table) ≤ 256) ⌝ }
+    requires { ⌜ Linked (formOf (head .form)) (now arena) × (slots (now table) ≤ 256) ⌝ }
     ensures { λ r. ⌜ Says r (Shown head (now (arena .entry)) (now (table .entry))) ⌝ }
 {
     let slots = table.len() / 3;
-    if arena.len() <= 4096 {
+    let count = cell_count(head.form, arena.len());
+    if count <= 2048 {
         if slots <= 16 {
             return is_shown_middle(head, &*arena, &*table);
         }
@@ -145,21 +176,25 @@ fn is_shown_other(head: Head, arena: &[u32], table: &[u32]) -> bool
     if slots <= 32 {
         return is_shown_sparse(head, &*arena, &*table);
     }
-    is_shown_large(head, &*arena, &*table)
+    if count <= 8192 {
+        return is_shown_large(head, &*arena, &*table);
+    }
+    is_shown_vast(head, &*arena, &*table)
 }
 
 // Whether the table holds a valid ledger, and the arena the tree of its free runs.
 fn is_shown(head: Head, arena: &[u32], table: &[u32]) -> bool
-    requires { ⌜ (length (now arena) ≤ 16384) × (slots (now table) ≤ 256) ⌝ }
+    requires { ⌜ Linked (formOf (head .form)) (now arena) × (slots (now table) ≤ 256) ⌝ }
     ensures { λ r. ⌜ Says r (Shown head (now (arena .entry)) (now (table .entry))) ⌝ }
 {
     if 16 < table.len() / 3 {
         return is_shown_other(head, &*arena, &*table);
     }
-    if arena.len() <= 128 {
+    let count = cell_count(head.form, arena.len());
+    if count <= 64 {
         return is_shown_tiny(head, &*arena, &*table);
     }
-    if arena.len() <= 1024 {
+    if count <= 512 {
         return is_shown_small(head, &*arena, &*table);
     }
     is_shown_other(head, &*arena, &*table)
@@ -167,13 +202,12 @@ fn is_shown(head: Head, arena: &[u32], table: &[u32]) -> bool
 
 // ---- the gate
 
-// Whether the lent lengths lie in their ranges.
-pub fn right_lengths(arena: &[u32], table: &[u32]) -> bool
-    ensures { λ r. ⌜ RightLengths (now (arena .entry)) (now (table .entry)) r ⌝ }
+// Whether the lent lengths lie in their ranges, in a form that is known.
+pub fn right_lengths(form: u32, arena: &[u32], table: &[u32]) -> bool
+    ensures { λ r. ⌜ RightLengths form (now (arena .entry)) (now (table .entry)) r ⌝ }
 {
-    let w = arena.len();
     let t = table.len();
-    (2 <= w) & (w <= 16384) & (w % 2 == 0) & (t % 3 == 0) & (1 <= t / 3) & (t / 3 <= 256)
+    is_form(form) & is_range(form, arena.len()) & (t % 3 == 0) & (1 <= t / 3) & (t / 3 <= 256)
 }
 
 // Whether head and lent memory are the stored form of a ledger.
@@ -184,11 +218,14 @@ fn is_stored(head: Head, arena: &[u32], table: &[u32]) -> bool
     is_shown(head, &*arena, &*table)
 }
 
-// The number of the tests that stand before every call: 8, 1, or 0 for a sound pool.
+// The number of the tests that stand before every call: 11, 8, 1, or 0 for a sound pool.
 pub fn gate_number(head: Head, arena: &[u32], table: &[u32]) -> u32
     ensures { λ r. ⌜ GateIs treeEngine (treePool head (now (arena .entry)) (now (table .entry))) r ⌝ }
 {
-    if !right_lengths(&*arena, &*table) {
+    if !is_form(head.form) {
+        return 11;
+    }
+    if !right_lengths(head.form, &*arena, &*table) {
         return 8;
     }
     if !is_stored(head, &*arena, &*table) {

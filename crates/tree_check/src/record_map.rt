@@ -1,71 +1,102 @@
 // The map of a table's records: of each, the cells that it holds, in a row from its first cell on. Free blocks are held
 // against it: what lies between two of them has to be records.
 // Slices are lent on as `&*slice`, which keeps pointer and length in registers (docs/DECISIONS.md, what crosses calls).
-use crate::CELLS;
 use ledger::Row;
 use ledger::Rule;
+use tree_nodes::forms::rule_of;
 ghost use mathlib.Core.Path.{_≡_};
 ghost use mathlib.Core.Bool.{true, false};
 ghost use mathlib.Core.Logic.{_≢_};
-ghost use Prim.Native.Nat.{ℕ, _+_, _*_, _/_, _<_, _≤_};
-ghost use lib.ListN.{length};
+ghost use Prim.Native.Nat.{ℕ, _+_, _/_, _<_, _≤_};
+ghost use lib.ListN.{length, getD};
 ghost use Rattle.words.specs.Lists.{all, isZero};
 ghost use Rattle.words.specs.Flags.{Says};
 ghost use Rattle.ledger.specs.Records.{slots, recordsOf};
 ghost use Rattle.ledger.specs.Units.{first, valid};
-ghost use Rattle.tree_check.specs.Maps.{pairAt, isEntries, cellRule, Next, Leads, Roomy, Grows, most};
+ghost use Rattle.stored_forms.specs.Tree.{formOf, formRule};
+ghost use Rattle.tree_check.specs.Maps.{fourAt, isEntries, home, Next, Leads, Roomy, Grows, FourPut, most};
 ghost use Rattle.tree_check.specs.Maps.{Mapped};
 
 // ---- entries
 
-// A map of 384 bytes has an entry of four bytes for each record: its first cell and its cells, each as two bytes, the
-// lower one first. An entry with no cells is empty. An arena that is large for its records gets such a map, because a
-// map with a byte for each cell is wiped on every call.
+// A map with one byte more than a multiple of eight has an entry of eight bytes for each record: its first cell and its
+// cells, each as four bytes, the lowest first. An entry with no cells is empty. An arena that is large for its records
+// gets such a map, because a map with a byte for each cell is wiped on every call.
 
-// Two bytes as one number.
-fn pair_at(map: &[u8], i: usize) -> usize
-    requires { ⌜ i + 1 < length (now map) ⌝ }
-    ensures { λ r. ⌜ (r < 65536) × (r ≡ pairAt (now (map .entry)) i) ⌝ }
+fn byte_at(map: &[u8], i: usize) -> usize
+    requires { ⌜ i < length (now map) ⌝ }
+    ensures { λ r. ⌜ (r < 256) × (r ≡ getD (now (map .entry)) i 0) ⌝ }
 {
-    map[i] as usize + 256 * map[i + 1] as usize
+    map[i] as usize
 }
 
-// The cells of an entry for the record from cell k on, 0 if there is none. The search begins where entries for cell k
-// begin, and ends at an empty one.
+// Four bytes as one number.
+fn four_at(map: &[u8], i: usize) -> usize
+    requires { ⌜ i + 3 < length (now map) ⌝ }
+    ensures { λ r. ⌜ (r < 4294967296) × (r ≡ fourAt (now (map .entry)) i) ⌝ }
+{
+    byte_at(map, i)
+        + 256 * byte_at(map, i + 1)
+        + 65536 * byte_at(map, i + 2)
+        + 16777216 * byte_at(map, i + 3)
+}
+
+// Writes a number in four bytes.
+fn put_four(map: &mut [u8], i: usize, x: usize)
+    requires { ⌜ (i + 3 < length (now map)) × (x < 4294967296) ⌝ }
+    ensures { λ _. ⌜ FourPut (now (map .entry)) (now (map .exit)) i x ⌝ }
+{
+    map[i] = (x % 256) as u8;
+    map[i + 1] = (x / 256 % 256) as u8;
+    map[i + 2] = (x / 65536 % 256) as u8;
+    map[i + 3] = (x / 16777216) as u8;
+}
+
+// The place where the search for cell k begins, in a map of so many bytes.
+fn home_of(bytes: usize, k: usize) -> usize
+    requires { ⌜ k < 4294967296 ⌝ }
+    ensures { λ r. ⌜ (r ≡ home bytes k) × (r < 512) ⌝ }
+{
+    if bytes == 769 {
+        return k / 128 % 64;
+    }
+    k * 2654435761 % 4294967296 / 8388608
+}
+
+// The cells of an entry for the record from cell k on, 0 if there is none. The search begins at the home of cell k, and
+// ends at an empty entry.
 fn entry_for(map: &[u8], k: usize) -> usize
-    requires { ⌜ isEntries (now map) ≡ true ⌝ }
-    ensures { λ n. ⌜ (n < 65536) × (0 < n → Next (now (map .entry)) k n) ⌝ }
+    requires { ⌜ (isEntries (now map) ≡ true) × (k < 4294967296) ⌝ }
+    ensures { λ n. ⌜ (n < 4294967296) × (0 < n → Next (now (map .entry)) k n) ⌝ }
     ensures { λ n. ⌜ ((x : ℕ) → Next (now (map .entry)) k x → n ≡ x) ⌝ }
 {
-    let mut i = 4 * (k / 128);
-    while i + 3 < map.len() {
-        let n = pair_at(map, i + 2);
+    let mut i = 8 * home_of(map.len(), k);
+    while i + 7 < map.len() {
+        let n = four_at(map, i + 4);
         if n == 0 {
             return 0;
         }
-        if pair_at(map, i) == k {
+        if four_at(map, i) == k {
             return n;
         }
-        i += 4;
+        i += 8;
     }
     0
 }
 
 // Writes an entry for n cells from cell lo on, where the first empty one is. Should all be taken, nothing is written.
 fn note_entry(map: &mut [u8], lo: usize, n: usize)
-    requires { ⌜ (lo < 65536) × (0 < n) × (n < 65536) × (isEntries (now map) ≡ true) ⌝ }
+    requires { ⌜ (lo < 4294967296) × (0 < n) × (n < 4294967296) × (isEntries (now map) ≡ true) ⌝ }
     ensures { λ _. ⌜ Grows (now (map .entry)) (now (map .exit)) lo n ⌝ }
 {
-    let mut i = 4 * (lo / 128);
-    while i + 3 < map.len() {
-        if pair_at(&*map, i + 2) == 0 {
-            map[i] = (lo % 256) as u8;
-            map[i + 1] = (lo / 256) as u8;
-            map[i + 2] = (n % 256) as u8;
-            map[i + 3] = (n / 256) as u8;
+    let mut i = 8 * home_of(map.len(), lo);
+    while i + 7 < map.len() {
+        if four_at(&*map, i + 4) == 0 {
+            put_four(&mut *map, i, lo);
+            put_four(&mut *map, i + 4, n);
             return;
         }
-        i += 4;
+        i += 8;
     }
 }
 
@@ -73,19 +104,19 @@ fn note_entry(map: &mut [u8], lo: usize, n: usize)
 
 // How many cells from cell k on the map knows to be held, 0 if of none.
 fn span_at(map: &[u8], k: usize) -> usize
-    requires { ⌜ Roomy (now map) (k + 1) ⌝ }
-    ensures { λ n. ⌜ (n < 65536) × (0 < n → Next (now (map .entry)) k n) ⌝ }
+    requires { ⌜ (k < 4294967296) × Roomy (now map) (k + 1) ⌝ }
+    ensures { λ n. ⌜ (n < 4294967296) × (0 < n → Next (now (map .entry)) k n) ⌝ }
     ensures { λ n. ⌜ ((x : ℕ) → Next (now (map .entry)) k x → n ≡ x) ⌝ }
 {
-    if map.len() == 384 {
+    if map.len() % 8 == 1 {
         return entry_for(&*map, k);
     }
-    map[k] as usize
+    byte_at(&*map, k)
 }
 
 // Whether records lead from cell lo to cell hi, without a cell left over.
 pub fn leads_to(map: &[u8], lo: usize, hi: usize) -> bool
-    requires { ⌜ (hi < 65536) × Roomy (now map) hi ⌝ }
+    requires { ⌜ (hi < 4294967296) × Roomy (now map) hi ⌝ }
     ensures { λ b. ⌜ Says b (Leads (now (map .entry)) lo hi) ⌝ }
 {
     let mut k = lo;
@@ -117,23 +148,25 @@ fn note_span(map: &mut [u8], lo: usize, n: usize)
 
 // The same in either map, for a record of n cells. An empty one has none, though its address is cell 0's.
 fn note_row(map: &mut [u8], rule: Rule, r: Row, n: usize)
-    requires { ⌜ (0 < rule .unit) × (n ≢ 0 → (first rule r + n < 65536) × Roomy (now map) (first rule r + n)) ⌝ }
+    requires { ⌜ (0 < rule .unit) × (n ≢ 0 → (first rule r + n < 4294967296) × Roomy (now map) (first rule r + n)) ⌝ }
     ensures { λ _. ⌜ Grows (now (map .entry)) (now (map .exit)) (first rule r) n ⌝ }
 {
     if n == 0 {
         return;
     }
     let lo = record_table::first_unit(rule, r);
-    if map.len() == 384 {
+    if map.len() % 8 == 1 {
         note_entry(&mut *map, lo, n);
         return;
     }
     note_span(&mut *map, lo, n);
 }
 
-// Enters all slots, and the records in a map that is all zero. Their cells together, or more than the arena's words if
-// a slot may not be entered, or they have more cells together than that: so no more is noted than the arena has room for.
+// Enters all slots, and the records in a map that is all zero. Their units together, or more than the arena's words if
+// a slot may not be entered, or they have more units together than that: so no more is noted than the arena has room
+// for.
 pub fn map_rows(
+    form: u32,
     next: u32,
     table: &[u32],
     words: usize,
@@ -141,13 +174,14 @@ pub fn map_rows(
     seen: &mut [u8],
     m: usize,
 ) -> usize
-    requires { ⌜ (slots (now table) ≤ 256) × (words ≤ 16384) × Roomy (now map) (words / 2) ⌝ }
+    requires { ⌜ (slots (now table) ≤ 256) × (words ≤ 1048576) × Roomy (now map) (words / formOf form .unit) ⌝ }
     requires { ⌜ (all isZero (now map) ≡ true) × (0 < m) × (length (now seen) ≡ m) ⌝ }
     requires { ⌜ slots (now table) ≤ most (now map) ⌝ }
-    ensures { λ r. ⌜ (r ≤ words → Mapped words next (now (table .entry)) r (now (map .exit))) ⌝ }
-    ensures { λ r. ⌜ (valid cellRule words next (recordsOf (now (table .entry))) ≡ true → r ≤ words) ⌝ }
+    ensures { λ r. ⌜ (r ≤ words
+        → Mapped (formRule (formOf form)) words next (now (table .entry)) r (now (map .exit))) ⌝ }
+    ensures { λ r. ⌜ (valid (formRule (formOf form)) words next (recordsOf (now (table .entry))) ≡ true → r ≤ words) ⌝ }
 {
-    let rule = CELLS;
+    let rule = rule_of(form);
     let mut held: usize = 0;
     let mut i = 0;
     while i < table.len() / 3 {

@@ -2,7 +2,6 @@
 -- pool". Assumes nothing.
 use Prim.Native.Nat.{ℕ, zero, suc, _+_, _*_, _/_, _%_, _<_}
 use native.Mathlib.Omega.{arith}
-use native.Mathlib.Decide.{ℕ-discrete}
 use mathlib.Core.Path.{_≡_, sym, ap, _∙_}
 use mathlib.Core.Logic.{_≢_}
 use lib.ListN.{length, getD, take, drop, set, length-set, length-drop}
@@ -10,7 +9,7 @@ use lib.Seq.{length-take-le, getD-take, getD-drop, ext-getD, getD-set-same, getD
 use Rattle.words.specs.Lists.{Words}
 use Rattle.stored_forms.specs.Tree.{formOne, twoWords, lengthAt, leftAt, rightAt}
 use Rattle.stored_forms.specs.Blocks.{Zeros}
-use Rattle.tree_nodes.specs.Nodes.{cells, NodePut, LeftSet, RightSet, NodeCleared}
+use Rattle.tree_nodes.specs.Nodes.{cells, NodePut}
 
 cell-word : (m : Words) (c j : ℕ) → j < 2 → getD (take 2 (drop (2 * c) m)) j 0 ≡ getD m (2 * c + j) 0
 cell-word m c j h = getD-take 2 (drop (2 * c) m) j 0 h ∙ getD-drop (2 * c) m j 0
@@ -88,23 +87,16 @@ module _ (m : Words) (c : ℕ) where
         ∙ zeros (2 * c + 1) (omega arith) (omega arith))) in
         rw (bare, set-getD m₁ (2 * c + 1) 0) at (one-put n l r)
 
-    pub one-set-left : (l : ℕ) → LeftSet formOne m (set m (2 * c + 1) (l + 65536 * (getD m (2 * c + 1) 0 / 65536))) c l
+    pub one-set-left : (l : ℕ)
+        → NodePut formOne m (set m (2 * c + 1) (l + 65536 * (getD m (2 * c + 1) 0 / 65536))) c (lengthAt formOne m c) l
+        (rightAt formOne m c)
     one-set-left l =
         rw (one-length, one-right)
         (rw (set-getD m (2 * c) 0) at (one-put (getD m (2 * c) 0) l (getD m (2 * c + 1) 0 / 65536)))
 
-    pub one-set-right : (r : ℕ) → RightSet formOne m (set m (2 * c + 1) (getD m (2 * c + 1) 0 % 65536 + 65536 * r)) c r
+    pub one-set-right : (r : ℕ)
+        → NodePut formOne m (set m (2 * c + 1) (getD m (2 * c + 1) 0 % 65536 + 65536 * r)) c (lengthAt formOne m c)
+        (leftAt formOne m c) r
     one-set-right r =
         rw (one-length, one-left)
         (rw (set-getD m (2 * c) 0) at (one-put (getD m (2 * c) 0) (getD m (2 * c + 1) 0 % 65536) r))
-
-    pub one-cleared : NodeCleared formOne m (set (set m (2 * c) 0) (2 * c + 1) 0) c
-    unfolding formOne
-    one-cleared = record { zero = word; frame = stored-other 0 0; long = stored-long 0 0 }
-      where
-        go : (k : ℕ) → k / 2 ≡ c → Dec (k ≡ 2 * c) → getD (stored 0 0) k 0 ≡ 0
-        go k e (yes h) = ap (λ i. getD (stored 0 0) i 0) h ∙ stored-first 0 0
-        go k e (no h) = let f : k ≡ 2 * c + 1 = omega arith in ap (λ i. getD (stored 0 0) i 0) f ∙ stored-second 0 0
-
-        word : (k : ℕ) → k / 2 ≡ c → getD (stored 0 0) k 0 ≡ 0
-        word k e = go k e (ℕ-discrete k (2 * c))

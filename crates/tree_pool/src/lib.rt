@@ -4,6 +4,8 @@ use call_parts::Named;
 use calls::Answer;
 use ledger::Row;
 use tree_check::Head;
+use tree_nodes::forms::cell_count;
+use tree_nodes::forms::is_form;
 use tree_requests::Outcome;
 ghost use mathlib.Core.Path.{_≡_};
 ghost use mathlib.Core.List.{[], _∷_};
@@ -11,7 +13,7 @@ ghost use Rattle.calls.specs.Step.{format, allocate, release, find, look, list,
 ghost use Rattle.calls.specs.Engines.{treeEngine};
 ghost use Rattle.call_parts.specs.Results.{resultOf, wholeSlice, sliceOf};
 ghost use Rattle.tree_check.specs.Gate.{treePool, noHead};
-ghost use Rattle.tree_requests.specs.Outcomes.{handed};
+ghost use Rattle.tree_requests.specs.Outcomes.{handed, formatted};
 
 // ---- find and look
 
@@ -54,25 +56,33 @@ pub fn look<'a>(
 
 // ---- format
 
-// A pool with no record: one free block, and the first ticket as the next. It takes no head and any contents; refused,
-// it writes nothing and hands back a head of zeros.
-pub fn format(arena: &mut [u32], table: &mut [u32], first: u32) -> Outcome
-    ensures { λ r. ⌜ handed r (now (arena .exit)) (now (table .exit)) []
-        ≡ resultOf (step treeEngine (format first) (treePool noHead (now (arena .entry)) (now (table .entry)))) ⌝ }
+// What a refused format hands back.
+const NO_HEAD: Head = Head {
+    root: 0,
+    next: 0,
+    form: 0,
+};
+
+// A pool of the form with no record: one free block, and the first ticket as the next. It takes no head and any
+// contents; refused, it writes nothing and hands back a head of zeros.
+pub fn format(form: u32, arena: &mut [u32], table: &mut [u32], first: u32) -> Outcome
+    ensures { λ r. ⌜ formatted form r (now (arena .exit)) (now (table .exit))
+        ≡ resultOf (step treeEngine (format first) (treePool (noHead form) (now (arena .entry)) (now (table .entry)))) ⌝ }
 {
-    let right = tree_check::right_lengths(arena, table);
-    let number = call_parts::format_number(right, first);
+    let right = tree_check::right_lengths(form, arena, table);
+    let number = call_parts::format_number(is_form(form), right, first);
     if number != 0 {
-        return tree_requests::refused_with(Head { root: 0, next: 0 }, number);
+        return tree_requests::refused_with(NO_HEAD, number);
     }
-    let cells = (arena.len() / 2) as u32;
+    let cells = cell_count(form, arena.len()) as u32;
     words::wipe(arena);
     words::wipe(table);
-    tree_nodes::put_node(arena, 0, cells, 0, 0);
+    tree_nodes::put_node(form, arena, 0, cells, 0, 0);
     Outcome {
         head: Head {
             root: 1,
             next: first,
+            form,
         },
         answer: call_parts::succeeded(call_parts::EMPTY_ROW),
     }
@@ -122,6 +132,9 @@ pub fn list(
         ≡ resultOf (step treeEngine (list (now (asked .entry)) (now (answers .entry))) (treePool head
         (now (arena .entry)) (now (table .entry)))) ⌝ }
 {
+    if !is_form(head.form) {
+        return tree_requests::refused_with(head, 11);
+    }
     if !call_parts::list_suits(asked, answers) {
         return tree_requests::refused_with(head, 8);
     }

@@ -1,74 +1,87 @@
 -- What a sound tree pool shows: the tree of the free runs lies in the arena at the root link. Assumes nothing.
-use Prim.Native.Nat.{ℕ, _/_, _%_, _<_}
+use Prim.Native.Nat.{ℕ, _*_, _/_, _%_, _≤_, _<_}
+use native.Mathlib.Nat.{zero-mul}
 use native.Mathlib.Omega.{arith}
-use mathlib.Core.Path.{_≡_, refl, sym, ap, _∙_, subst}
+use mathlib.Core.Path.{_≡_, sym, ap, _∙_}
 use mathlib.Core.Bool.{true, false}
-use mathlib.Core.List.{List, [], _∷_}
+use mathlib.Core.List.{List}
 use lib.ListN.{length}
 use Rattle.words.specs.Lists.{Words}
+use Rattle.words.proofs.Tests.{and-r}
 use Rattle.ledger.specs.Records.{Ledger, recordsOf}
 use Rattle.ledger.specs.Units.{valid, free, owned}
-use Rattle.ledger.specs.Runs.{Run, covered, freeRuns}
+use Rattle.ledger.specs.Runs.{Run, runsFrom, covered, freeRuns, Gapped}
 use Rattle.ledger.proofs.UnitLaws.{owned-covered}
 use Rattle.ledger.proofs.RunLaws.{runs-are}
-use Rattle.stored_forms.specs.Tree.{formOne, formRule, freeTree, link}
-use Rattle.stored_forms.proofs.TreeLaws.{freeTree-one}
-use Rattle.stored_forms.specs.Blocks.{Holds, Within}
-use Rattle.stored_forms.proofs.NodeLaws.{readable-one}
-use Rattle.stored_forms.proofs.FreeTreeLaws.{tree-within, of-stamped}
+use Rattle.stored_forms.specs.Tree.{Form, formOne, formTwo, formOf, formRule, freeTree, link}
+use Rattle.stored_forms.specs.Blocks.{Holds}
+use Rattle.stored_forms.proofs.NodeLaws.{each-form, readable, form-unit}
+use Rattle.stored_forms.proofs.FreeTreeLaws.{gapped-scaled, cells-are, runs-of-tree, tree-within, free-cell}
+use Rattle.tree_nodes.specs.Nodes.{cells}
 use Rattle.free_blocks.specs.Blocks.{Lies}
-use Rattle.calls.specs.Pool.{Pool, store, sound}
-use Rattle.calls.specs.Engines.{treeEngineOf, treeEngine}
-use Rattle.calls.proofs.StoreLaws.{sound-lengths, sound-valid, is-store}
+use Rattle.calls.specs.Pool.{lengths, stored, sound}
+use Rattle.calls.specs.Engines.{treeEngine}
+use Rattle.calls.proofs.StoreLaws.{sound-lengths, sound-valid}
 use Rattle.calls.proofs.Engines.{tree-laws}
 use Rattle.tree_check.specs.declared.Head.{Head}
 use Rattle.tree_check.specs.Gate.{treePool}
-use Rattle.tree_check.proofs.GateLaws.{InRange, in-range}
+use Rattle.tree_check.proofs.GateLaws.{InRange, in-range, stored-shown}
+use Rattle.tree_requests.specs.Sizes.{perUnit}
+use Rattle.tree_requests.proofs.SizeLaws.{freeCells, some-cells}
 
--- a word that a holder owns lies in no free cell
-pub held-word : (W : ℕ) → W % 2 ≡ 0 → (L : Ledger) (next : ℕ) → valid (formRule formOne) W next L ≡ true → (i : ℕ)
-    → i < W
-    → owned (formRule formOne) L i ≡ true → covered (freeRuns (formRule formOne) W L) (i / 2) ≡ false
-unfolding formOne freeRuns
-held-word W even L next good i l o =
-    runs-are (free (formRule formOne) L) (W / 2) .cover (i / 2) (omega arith)
-    ∙ owned-covered (formRule formOne) (omega arith) W next L good i o
+-- in each form there are links for all of the largest arena
+many-links : (f : ℕ) (a : Words) → length a ≤ formOf f .most → 2 * cells (formOf f) a < formOf f .links
+unfolding formOne formTwo
+many-links =
+    each-form (λ F. (a : Words) → length a ≤ F .most → 2 * cells F a < F .links) (λ a l. omega arith) (λ a l. omega arith)
+
+module _ (f W : ℕ) (whole : W % formOf f .unit ≡ 0) (L : Ledger) where
+  abbrev F : Form
+  F = formOf f
+
+  -- a word that a holder owns lies in no free cell
+  pub held-word : (next : ℕ) → valid (formRule F) W next L ≡ true → (i : ℕ) → i < W → owned (formRule F) L i ≡ true
+      → covered (freeCells F W L) (i / F .cell) ≡ false
+  held-word next good i l o =
+      ap (λ (rs : List Run). covered rs (i / F .cell)) (sym (runs-of-tree F (F .links) (readable f) W whole L))
+      ∙ free-cell F (F .links) (readable f) W whole L i l
+      ∙ owned-covered (formRule F) (form-unit f) W next L good i o
+
+  pub cells-gapped : Gapped 0 (W / F .cell) (freeCells F W L)
+  unfolding freeRuns
+  cells-gapped =
+      let p = perUnit F in
+      let N = W / F .unit in
+      let gaps = gapped-scaled p (some-cells f) 0 N (runsFrom (free (formRule F) L) 0 N)
+      (runs-are (free (formRule F) L) N .gapped) in
+      rw (zero-mul p, cells-are F (F .links) (readable f) W whole L) at gaps
 
 module _ (h : Head) (a t : Words) (ok : sound treeEngine (treePool h a t) ≡ true) where
-  pub sound-range : InRange a t
+  abbrev G : Form
+  G = formOf (h .form)
+
+  pub sound-range : InRange G a t
   sound-range = in-range h a t (sound-lengths treeEngine tree-laws (treePool h a t) ok)
 
-  pub sound-good : valid (formRule formOne) (length a) (h .next) (recordsOf t) ≡ true
-  unfolding treeEngine treeEngineOf
+  pub sound-good : valid (formRule G) (length a) (h .next) (recordsOf t) ≡ true
+  unfolding treeEngine
   sound-good = sound-valid treeEngine tree-laws (treePool h a t) ok
 
-  abbrev pub runs : List Run
-  runs = freeRuns (formRule formOne) (length a) (recordsOf t)
-
-  is-tree : (link (freeTree formOne (length a) (recordsOf t)) ≡ h .root)
-      × Holds formOne a (freeTree formOne (length a) (recordsOf t))
-  unfolding treeEngine treeEngineOf store formOne
+  is-tree : (link (freeTree G (length a) (recordsOf t)) ≡ h .root) × Holds G a (freeTree G (length a) (recordsOf t))
+  unfolding sound
   is-tree =
-      let e = is-store treeEngine tree-laws (treePool h a t) ok in
-      let stamped = of-stamped formOne 65536 readable-one (length a) (sound-range .even)
-      (recordsOf t) (h .next) sound-good a a refl
-      (ap (λ (p : Pool). p .arena) e) in
-      (sym (head-of (ap (λ (p : Pool). p .head .root) e)), stamped .2)
-    where
-      head-of : {x y : ℕ} → x ∷ [] ≡ y ∷ [] → x ≡ y
-      head-of {x} {y} e = cc
+      let p = treePool h a t in
+      stored-shown h (record { fit = sound-range; good = sound-good })
+      (and-r (lengths treeEngine p) (stored treeEngine p) ok)
 
-  pub sound-lies : Lies a (h .root) runs
-  unfolding formOne freeRuns
-  sound-lies =
-      let e = freeTree-one (length a) (recordsOf t) in
-      record {
-        tree = record {
-          at = ap link (sym e) ∙ is-tree .0;
-          holds = subst (Holds formOne a) e (is-tree .1);
-          within = subst (Within 0 (length a / 2)) e
-              (tree-within formOne 65536 readable-one (length a) (sound-range .even) (recordsOf t));
-          small = omega (arith, sound-range .most);
-        };
-        gapped = runs-are (free (formRule formOne) (recordsOf t)) (length a / 2) .gapped;
-      }
+  pub sound-lies : Lies G a (h .root) (freeCells G (length a) (recordsOf t))
+  unfolding freeTree
+  sound-lies = record {
+    tree = record {
+      at = is-tree .0;
+      holds = is-tree .1;
+      within = tree-within G (G .links) (readable (h .form)) (length a) (sound-range .whole) (recordsOf t);
+      small = many-links (h .form) a (sound-range .most);
+    };
+    gapped = cells-gapped (h .form) (length a) (sound-range .whole) (recordsOf t);
+  }

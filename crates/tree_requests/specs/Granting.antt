@@ -6,9 +6,7 @@ use mathlib.Core.Bool.{true, false, _||_}
 use lib.Dec.{eqb, ltb}
 use Rattle.words.specs.Lists.{Words}
 use Rattle.ledger.specs.Records.{recordsOf}
-use Rattle.ledger.specs.Units.{span}
-use Rattle.stored_forms.specs.Tree.{formOne, formRule}
-use Rattle.tree_nodes.specs.Nodes.{links}
+use Rattle.stored_forms.specs.Tree.{formOf}
 use Rattle.free_tree.specs.Held.{LeftmostFound, Seat}
 use Rattle.calls.specs.Pool.{sound}
 use Rattle.calls.specs.Engines.{treeEngine}
@@ -16,13 +14,14 @@ use Rattle.record_table.specs.declared.Found.the-variants.{At}
 use Rattle.record_table.specs.Slots.{emptySlot}
 use Rattle.tree_check.specs.declared.Head.{Head}
 use Rattle.tree_check.specs.Gate.{treePool}
+use Rattle.tree_requests.specs.Sizes.{cellSpan}
 
 -- The pool is sound, n is a good size, slot `slot` is the lowest empty one, a ticket is left, and the leftmost fit
 -- for n words is the block at the link `block`, whose father is at the link `father`, 0 for none.
 pub record Grantable (h : Head) (a t : Words) (n slot block father : ℕ) : Type 0 where
   pub ok : sound treeEngine (treePool h a t) ≡ true
-  pub size : (eqb n 0 || ltb 16384 n) ≡ false
+  pub size : (eqb n 0 || ltb (formOf (h .form) .limit) n) ≡ false
   pub empty : emptySlot (recordsOf t) ≡ At slot
   pub ticket : h .next ≢ 0
-  pub fit : LeftmostFound formOne links a (h .root) (span (formRule formOne) n) block
-  pub seat : Seat formOne links a (h .root) block father
+  pub fit : LeftmostFound (formOf (h .form)) a (h .root) (cellSpan (formOf (h .form)) n) block
+  pub seat : Seat (formOf (h .form)) a (h .root) block father

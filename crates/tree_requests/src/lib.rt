@@ -1,12 +1,15 @@
 // The tree pool's cores: what a request does on a sound pool, and the outcome that it comes to. Whoever keeps a pool of
 // its own sound may use them; the calls of tree_pool check first.
+pub mod sizes;
+
 use call_parts::Named;
 use call_parts::Request;
 use calls::Answer;
 use ledger::Row;
 use record_table::Found as Slot;
-use tree_check::CELLS;
+use sizes::cells_of;
 use tree_check::Head;
+use tree_nodes::forms::cell_count;
 ghost use mathlib.Core.Path.{_≡_};
 ghost use mathlib.Core.List.{[]};
 ghost use Prim.Native.Nat.{_+_, _*_, _%_, _<_, _≤_};
@@ -20,20 +23,12 @@ ghost use Rattle.call_parts.specs.Results.{acted, ran};
 ghost use Rattle.tree_check.specs.Gate.{treePool};
 ghost use Rattle.tree_requests.specs.Granting.{Grantable};
 ghost use Rattle.tree_requests.specs.Outcomes.{handed, refusedWith, grantOutcome, releaseOutcome};
+ghost use Rattle.tree_requests.specs.Outcomes.{effectNumber, effectRoot, effectAddress};
 
 // A head with the answer: what a call hands back.
 pub struct Outcome {
     pub head: Head,
     pub answer: Answer,
-}
-
-// What a request on a sound pool has come to, as far as its caller does not know it: number, root link, and the
-// address of the block that was granted. It is small, because a struct comes back through memory: an outcome that is
-// read there at once costs a wait.
-pub struct Effect {
-    pub number: u32,
-    pub root: u32,
-    pub address: u32,
 }
 
 // A refusal: the head as it came.
@@ -46,18 +41,29 @@ pub fn refused_with(head: Head, number: u32) -> Outcome
     }
 }
 
-// ---- allocate
+// ---- effects
+
+// What a request on a sound pool has come to, as far as its caller does not know it: number, root link, and the
+// address of the block that was granted. They come back as one number, because a struct comes back through memory: what
+// is read there at once costs a wait.
 
 // The effect of a request that is refused: none.
-fn no_effect(number: u32) -> Effect
-    ensures { λ r. ⌜ r .number ≡ number ⌝ }
+fn no_effect(number: u32) -> u64
+    requires { ⌜ number < 16 ⌝ }
+    ensures { λ r. ⌜ effectNumber r ≡ number ⌝ }
 {
-    Effect {
-        number,
-        root: 0,
-        address: 0,
-    }
+    number as u64
 }
+
+// The effect of a request that was served.
+fn effect(root: usize, address: u32) -> u64
+    requires { ⌜ (root < 4294967296) × (address < 268435456) ⌝ }
+    ensures { λ r. ⌜ (effectNumber r ≡ 0) × (effectRoot r ≡ root) × (effectAddress r ≡ address) ⌝ }
+{
+    16 * (root as u64 + 4294967296 * address as u64)
+}
+
+// ---- allocate
 
 // Takes the first cells of the block that was found, under the next ticket. The block's father was found with it.
 fn place(
@@ -68,34 +74,32 @@ fn place(
     slot: usize,
     block: usize,
     father: usize,
-) -> Effect
+) -> u64
     requires { ⌜ Grantable head (now arena) (now table) words slot block father ⌝ }
     ensures { λ r. ⌜ handed (grantOutcome head words r) (now (arena .exit)) (now (table .exit)) []
         ≡ acted treeEngine (ask words) (treePool head (now (arena .entry)) (now (table .entry))) ⌝ }
 {
-    let cells = record_table::span_of(CELLS, words);
-    let root = free_blocks::take_cells(arena, head.root as usize, block, father, cells);
-    let address = (2 * (block - 1)) as u32;
+    let form = head.form;
+    let cells = cells_of(form, words);
+    let root = free_blocks::take_cells(form, arena, head.root as usize, block, father, cells);
+    let address = sizes::first_word(form, block - 1) as u32;
     let new = Row {
         ticket: head.next,
         address,
         words,
     };
     record_table::write_row(table, slot, new);
-    Effect {
-        number: 0,
-        root: root as u32,
-        address,
-    }
+    effect(root, address)
 }
 
 // An allocation on a sound pool: the tests in the order of their numbers, then the leftmost fit.
-pub fn grant(head: Head, arena: &mut [u32], table: &mut [u32], words: u32) -> Effect
+pub fn grant(head: Head, arena: &mut [u32], table: &mut [u32], words: u32) -> u64
     requires { ⌜ sound treeEngine (treePool head (now arena) (now table)) ≡ true ⌝ }
     ensures { λ r. ⌜ handed (grantOutcome head words r) (now (arena .exit)) (now (table .exit)) []
         ≡ acted treeEngine (ask words) (treePool head (now (arena .entry)) (now (table .entry))) ⌝ }
 {
-    if (words == 0) | (16384 < words) {
+    let form = head.form;
+    if (words == 0) | (sizes::limit_of(form) < words) {
         return no_effect(2);
     }
     let Slot::At(slot) = record_table::empty_slot(table) else {
@@ -105,8 +109,8 @@ pub fn grant(head: Head, arena: &mut [u32], table: &mut [u32], words: u32) -> Ef
     if next == 0 {
         return no_effect(4);
     }
-    let cells = record_table::span_of(CELLS, words);
-    let found = free_tree::leftmost_fit(arena, head.root as usize, cells as u32);
+    let cells = cells_of(form, words);
+    let found = free_tree::leftmost_fit(form, arena, head.root as usize, cells as u32);
     let block = found.at;
     let father = found.over;
     if block == 0 {
@@ -116,22 +120,23 @@ pub fn grant(head: Head, arena: &mut [u32], table: &mut [u32], words: u32) -> Ef
 }
 
 // The outcome of an allocation with this effect.
-pub fn outcome_of_grant(head: Head, words: u32, done: Effect) -> Outcome
+pub fn outcome_of_grant(head: Head, words: u32, done: u64) -> Outcome
     ensures { λ r. ⌜ r ≡ grantOutcome head words done ⌝ }
 {
-    let number = done.number;
+    let number = (done % 16) as u32;
     if number != 0 {
         return refused_with(head, number);
     }
     let new = Row {
         ticket: head.next,
-        address: done.address,
+        address: (done / 68719476736) as u32,
         words,
     };
     Outcome {
         head: Head {
-            root: done.root,
+            root: (done / 16 % 4294967296) as u32,
             next: call_parts::next_after(head.next),
+            form: head.form,
         },
         answer: call_parts::succeeded(new),
     }
@@ -140,25 +145,22 @@ pub fn outcome_of_grant(head: Head, words: u32, done: Effect) -> Outcome
 // ---- release
 
 // Gives back the cells of the named record, which stands in the slot, and empties the slot.
-fn give_back(head: Head, arena: &mut [u32], table: &mut [u32], named: Row, slot: usize) -> Effect
+fn give_back(head: Head, arena: &mut [u32], table: &mut [u32], named: Row, slot: usize) -> u64
     requires { ⌜ (sound treeEngine (treePool head (now arena) (now table))
         ≡ true) × (namedIn (now table) named ≡ Named.Slot slot) ⌝ }
     ensures { λ r. ⌜ handed (releaseOutcome head named r) (now (arena .exit)) (now (table .exit)) []
         ≡ acted treeEngine (give named) (treePool head (now (arena .entry)) (now (table .entry))) ⌝ }
 {
-    let lo = record_table::first_unit(CELLS, named);
-    let hi = record_table::past_unit(CELLS, named);
-    let root = free_blocks::give_cells(arena, head.root as usize, lo, hi);
+    let form = head.form;
+    let lo = cell_count(form, named.address as usize);
+    let hi = lo + cells_of(form, named.words);
+    let root = free_blocks::give_cells(form, arena, head.root as usize, lo, hi);
     record_table::write_row(table, slot, call_parts::EMPTY_ROW);
-    Effect {
-        number: 0,
-        root: root as u32,
-        address: 0,
-    }
+    effect(root, 0)
 }
 
 // A release on a sound pool.
-pub fn vacate(head: Head, arena: &mut [u32], table: &mut [u32], named: Row) -> Effect
+pub fn vacate(head: Head, arena: &mut [u32], table: &mut [u32], named: Row) -> u64
     requires { ⌜ sound treeEngine (treePool head (now arena) (now table)) ≡ true ⌝ }
     ensures { λ r. ⌜ handed (releaseOutcome head named r) (now (arena .exit)) (now (table .exit)) []
         ≡ acted treeEngine (give named) (treePool head (now (arena .entry)) (now (table .entry))) ⌝ }
@@ -170,17 +172,19 @@ pub fn vacate(head: Head, arena: &mut [u32], table: &mut [u32], named: Row) -> E
 }
 
 // The outcome of a release with this effect.
-pub fn outcome_of_release(head: Head, named: Row, done: Effect) -> Outcome
+pub fn outcome_of_release(head: Head, named: Row, done: u64) -> Outcome
     ensures { λ r. ⌜ r ≡ releaseOutcome head named done ⌝ }
 {
-    let number = done.number;
+    let number = (done % 16) as u32;
     if number != 0 {
         return refused_with(head, number);
     }
+    let form = head.form;
     Outcome {
         head: Head {
-            root: done.root,
+            root: (done / 16 % 4294967296) as u32,
             next: head.next,
+            form,
         },
         answer: call_parts::succeeded(named),
     }

@@ -1,6 +1,6 @@
-// Random traffic on the tree pool, held to a plain ledger whose units are cells of two words. Each holder writes its
-// ticket into all words of its cells, and they are read again before its release. A round ends with the release of
-// all; the memory must then be as a format leaves it.
+// Random traffic on the tree pool, held to a plain ledger whose units are cells of two words, or of four in form 2.
+// Each holder writes its ticket into all words of its cells, and they are read again before its release. A round ends
+// with the release of all; the memory must then be as a format leaves it.
 use calls::Answer;
 use ledger::Row;
 use testing::Tally;
@@ -13,6 +13,7 @@ use testing::entry;
 use testing::first_run;
 use testing::least;
 use testing::next_after;
+use testing::print;
 use testing::print_count;
 use testing::put_all;
 use testing::same;
@@ -26,8 +27,10 @@ struct Round {
     tally: Tally,
 }
 
-// A round's sizes: words of arena, records of table, the number that requested words stay below, first ticket, calls.
+// A round's form and sizes: words of arena, records of table, the number that requested words stay below, first ticket,
+// calls.
 struct Size {
+    form: u32,
     words: usize,
     records: usize,
     most: u64,
@@ -35,8 +38,9 @@ struct Size {
     count: usize,
 }
 
-fn sized(words: usize, records: usize, most: u64, next: u32, count: usize) -> Size {
+fn sized(form: u32, words: usize, records: usize, most: u64, next: u32, count: usize) -> Size {
     Size {
+        form,
         words,
         records,
         most,
@@ -45,46 +49,86 @@ fn sized(words: usize, records: usize, most: u64, next: u32, count: usize) -> Si
     }
 }
 
-// Eight rounds; in the third the tickets run out.
-fn size_of(round: usize) -> Size {
+// Eight rounds of form 1; in the third the tickets run out.
+fn size_of_one(round: usize) -> Size {
     match round {
-        0 => sized(2, 1, 4, 1, 200),
-        1 => sized(24, 4, 9, 1, 3000),
-        2 => sized(24, 4, 9, 4294967100, 3000),
-        3 => sized(64, 256, 3, 1, 3000),
-        4 => sized(600, 16, 60, 65536, 4000),
-        5 => sized(1030, 256, 4, 1, 4000),
-        6 => sized(4096, 100, 120, 2147483647, 4000),
-        _ => sized(16384, 256, 300, 1, 4000),
+        0 => sized(1, 2, 1, 4, 1, 200),
+        1 => sized(1, 24, 4, 9, 1, 3000),
+        2 => sized(1, 24, 4, 9, 4294967100, 3000),
+        3 => sized(1, 64, 256, 3, 1, 3000),
+        4 => sized(1, 600, 16, 60, 65536, 4000),
+        5 => sized(1, 1030, 256, 4, 1, 4000),
+        6 => sized(1, 4096, 100, 120, 2147483647, 4000),
+        _ => sized(1, 16384, 256, 300, 1, 4000),
     }
+}
+
+// Eight rounds of form 2; in the third the tickets run out, and the last has links above 65,535.
+fn size_of_two(round: usize) -> Size {
+    match round {
+        0 => sized(2, 4, 1, 8, 1, 200),
+        1 => sized(2, 48, 4, 17, 1, 3000),
+        2 => sized(2, 48, 4, 17, 4294967100, 3000),
+        3 => sized(2, 128, 256, 6, 1, 3000),
+        4 => sized(2, 1200, 16, 120, 65536, 4000),
+        5 => sized(2, 2060, 256, 8, 1, 4000),
+        6 => sized(2, 16388, 100, 500, 2147483647, 4000),
+        _ => sized(2, 300000, 256, 3000, 1, 600),
+    }
+}
+
+fn size_of(round: usize) -> Size {
+    if round < 8 {
+        return size_of_one(round);
+    }
+    size_of_two(round - 8)
 }
 
 // ---- cells
 
-fn cells_of(words: u32) -> usize {
-    words as usize / 2 + words as usize % 2
+// How many cells so many words are.
+fn cell_count(form: u32, words: usize) -> usize {
+    if form == 2 { words / 4 } else { words / 2 }
 }
 
-fn first_cell(held: Answer) -> usize {
-    held.address as usize / 2
+// The first word of a cell.
+fn word_of(form: u32, cell: usize) -> u32 {
+    let c = (cell % 1048576) as u32;
+    if form == 2 { c * 4 } else { c * 2 }
 }
 
-fn past_cell(held: Answer) -> usize {
-    std::num::wrapping_add_usize(first_cell(held), cells_of(held.words))
+// The most words that can be asked for.
+fn limit_of(form: u32) -> u32 {
+    if form == 2 { 1048576 } else { 16384 }
+}
+
+// How many cells a request takes: its words rounded up.
+fn cells_of(form: u32, words: u32) -> usize {
+    let n = words as usize;
+    if form == 2 { (n + 3) / 4 } else { (n + 1) / 2 }
+}
+
+fn first_cell(form: u32, held: Answer) -> usize {
+    cell_count(form, held.address as usize)
+}
+
+fn past_cell(form: u32, held: Answer) -> usize {
+    std::num::wrapping_add_usize(first_cell(form, held), cells_of(form, held.words))
 }
 
 // What an allocation has to answer.
-fn plan(book: &[u32], map: &[u32], slots: usize, next: u32, words: u32) -> Answer {
-    let start = first_run(map, cells_of(words));
-    let address = ((start % 2147483648) * 2) as u32;
-    testing::plan(book, slots, next, words, start < map.len(), address)
+fn plan(form: u32, book: &[u32], map: &[u32], slots: usize, next: u32, words: u32) -> Answer {
+    let start = first_run(map, cells_of(form, words));
+    let address = word_of(form, start);
+    let limit = limit_of(form);
+    testing::plan(book, slots, next, limit, words, start < map.len(), address)
 }
 
 // The record with the address of the next cell, and with a word less.
-fn near(row: Row) -> Row {
+fn near(form: u32, row: Row) -> Row {
     Row {
         ticket: row.ticket,
-        address: std::num::wrapping_add_u32(row.address, 2),
+        address: std::num::wrapping_add_u32(row.address, word_of(form, 1)),
         words: std::num::wrapping_sub_u32(row.words, 1),
     }
 }
@@ -93,7 +137,8 @@ fn near(row: Row) -> Row {
 
 // The round after a call: the pool's head, its answer, and whether all was as the ledger has it.
 fn counted(round: Round, head: Head, next: u32, answer: Answer, agrees: bool) -> Round {
-    let all = agrees & (head.next == next);
+    let before = round.head;
+    let all = agrees & (head.next == next) & (head.form == before.form);
     Round {
         head,
         tally: testing::counted(round.tally, next, answer, all),
@@ -101,12 +146,12 @@ fn counted(round: Round, head: Head, next: u32, answer: Answer, agrees: bool) ->
 }
 
 // Whether the granted words are zero; the holder then writes all of them.
-fn hold(granted: Answer, arena: &mut [u32]) -> bool {
+fn hold(form: u32, granted: Answer, arena: &mut [u32]) -> bool {
     if granted.number != 0 {
         return true;
     }
-    let from = first_cell(granted) % 8192 * 2;
-    let to = past_cell(granted) % 8193 * 2;
+    let from = word_of(form, first_cell(form, granted)) as usize;
+    let to = word_of(form, past_cell(form, granted)) as usize;
     let clear = all_are(arena, from, to, 0);
     put_all(arena, from, to, granted.ticket);
     clear
@@ -122,19 +167,22 @@ fn try_allocate(
     words: u32,
 ) -> Round {
     let tally = round.tally;
-    let due = plan(book, map, slots, tally.next, words);
-    let outcome = tree_pool::allocate(round.head, arena, table, words);
+    let head = round.head;
+    let form = head.form;
+    let due = plan(form, book, map, slots, tally.next, words);
+    let outcome = tree_pool::allocate(head, arena, table, words);
     let agrees = same(due, outcome.answer);
-    book_grant(due, book, map, slots, first_cell(due), past_cell(due));
-    let clear = hold(due, arena);
+    let from = first_cell(form, due);
+    book_grant(due, book, map, slots, from, past_cell(form, due));
+    let clear = hold(form, due, arena);
     let next = next_after(tally.next, due);
     counted(round, outcome.head, next, outcome.answer, agrees & clear)
 }
 
-// Whether the holder's words, the spare one too, are as it wrote them.
-fn intact(held: Answer, arena: &[u32]) -> bool {
-    let from = held.address as usize;
-    let to = std::num::wrapping_add_usize(from, cells_of(held.words) % 8193 * 2);
+// Whether the holder's words, spare ones too, are as it wrote them.
+fn intact(form: u32, held: Answer, arena: &[u32]) -> bool {
+    let from = word_of(form, first_cell(form, held)) as usize;
+    let to = word_of(form, past_cell(form, held)) as usize;
     (held.number != 0) | all_are(arena, from, to, held.ticket)
 }
 
@@ -147,11 +195,14 @@ fn try_release(
     slots: usize,
     named: Row,
 ) -> Round {
+    let head = round.head;
+    let form = head.form;
     let due = verdict(book, slots, named);
-    let kept = intact(due, arena);
-    let outcome = tree_pool::release(round.head, arena, table, named);
+    let kept = intact(form, due, arena);
+    let outcome = tree_pool::release(head, arena, table, named);
     let agrees = same(due, outcome.answer);
-    book_release(due, book, map, slots, first_cell(due), past_cell(due));
+    let from = first_cell(form, due);
+    book_release(due, book, map, slots, from, past_cell(form, due));
     let tally = round.tally;
     counted(
         round,
@@ -171,14 +222,15 @@ fn try_find(
     named: Row,
 ) -> Round {
     let due = verdict(book, slots, named);
-    let answer = tree_pool::find(round.head, arena, table, named);
+    let head = round.head;
+    let answer = tree_pool::find(head, arena, table, named);
     let tally = round.tally;
     counted(
         round,
-        round.head,
+        head,
         tally.next,
         answer,
-        same(due, answer) & intact(due, arena),
+        same(due, answer) & intact(head.form, due, arena),
     )
 }
 
@@ -204,7 +256,7 @@ fn turn(
         return try_allocate(on, arena, table, book, map, slots, draw.words);
     }
     let row = entry(book, draw.slot);
-    let named = chosen(row, near(row), draw, tally.next);
+    let named = chosen(row, near(head.form, row), draw, tally.next);
     if draw.kind < 12 {
         return try_release(on, arena, table, book, map, slots, named);
     }
@@ -263,20 +315,23 @@ fn release_all(
 
 // Whether the memory is as a format leaves it.
 fn is_fresh(head: Head, arena: &[u32], table: &[u32]) -> bool {
-    let first = word(arena, 0) as usize == arena.len() / 2;
+    let first = word(arena, 0) as usize == cell_count(head.form, arena.len());
     first & all_are(arena, 1, arena.len(), 0) & all_are(table, 0, table.len(), 0) & (head.root == 1)
 }
 
 // A round's line.
 fn report(round: Round, arena: &[u32], table: &[u32]) {
+    let head = round.head;
+    print(b"form ");
+    print_count(head.form as u64, b", ");
     print_count(arena.len() as u64, b" words, ");
     print_count(table.len() as u64 / 3, b" records: ");
-    testing::report(round.tally, is_fresh(round.head, arena, table));
+    testing::report(round.tally, is_fresh(head, arena, table));
 }
 
-// A formatted pool with this first ticket.
-fn opened(arena: &mut [u32], table: &mut [u32], most: u64, first: u32) -> Round {
-    let formatted = tree_pool::format(arena, table, first);
+// A formatted pool of this form with this first ticket.
+fn opened(form: u32, arena: &mut [u32], table: &mut [u32], most: u64, first: u32) -> Round {
+    let formatted = tree_pool::format(form, arena, table, first);
     let head = formatted.head;
     Round {
         head,
@@ -301,7 +356,7 @@ fn played(
 
 // A round on the whole of arena and table.
 fn play(arena: &mut [u32], table: &mut [u32], book: &mut [u32], map: &mut [u32], size: Size) {
-    let start = opened(arena, table, size.most, size.next);
+    let start = opened(size.form, arena, table, size.most, size.next);
     played(start, arena, table, book, map, size.count);
 }
 
@@ -309,7 +364,7 @@ fn play(arena: &mut [u32], table: &mut [u32], book: &mut [u32], map: &mut [u32],
 fn play_on(arena: &mut [u32], table: &mut [u32], book: &mut [u32], map: &mut [u32], size: Size) {
     let w = least(size.words, arena.len());
     let t = least(size.records % 257 * 3, table.len());
-    let m = least(size.words / 2, map.len());
+    let m = least(cell_count(size.form, size.words), map.len());
     let zero = 0;
     let lent = &mut arena[zero..w];
     play(lent, &mut table[zero..t], book, &mut map[zero..m], size);
@@ -317,7 +372,7 @@ fn play_on(arena: &mut [u32], table: &mut [u32], book: &mut [u32], map: &mut [u3
 
 fn run(arena: &mut [u32], table: &mut [u32], book: &mut [u32], map: &mut [u32]) {
     let mut i = 0;
-    while i < 8 {
+    while i < 16 {
         play_on(arena, table, book, map, size_of(i));
         i += 1;
     }
@@ -325,8 +380,8 @@ fn run(arena: &mut [u32], table: &mut [u32], book: &mut [u32], map: &mut [u32]) 
 
 fn main() {
     let mut book = [0u32; 768];
-    let mut map = [0u32; 8192];
-    let mut arena = [0u32; 16384];
+    let mut map = [0u32; 75000];
+    let mut arena = [0u32; 300000];
     let mut table = [0u32; 768];
     run(&mut arena, &mut table, &mut book, &mut map);
 }

@@ -10,14 +10,14 @@ use Rattle.ledger.specs.Units.{free}
 use Rattle.calls.specs.Pool.{Pool, Engine, ledger, wordCount, ruleOf, sound}
 use Rattle.calls.specs.Step.{allocate, accepted, step}
 use Rattle.calls.specs.Engines.{treeEngine, segmentEngine}
-use Rattle.calls.specs.Monotone.{formOf, Freer}
+use Rattle.calls.specs.Monotone.{sizesOf, Freer}
 use Rattle.calls.specs.Computing.{treeMachine, segmentMachine}
 use Rattle.calls.proofs.RowLaws.{record-test}
 use Rattle.worked_cases.specs.FreerPools.{treeHeld, treeFree, segmentHeld, segmentFree}
 
 -- a second pool that is all free, by tests that compute
 all-free : (E : Engine) (p q : Pool) → sound E q ≡ true → full (ledger q) ≡ false → eqb (q .head .next) 0 ≡ false
-    → formOf E p ≡ formOf E q → leb (wordCount p) (wordCount q) ≡ true
+    → sizesOf E p ≡ sizesOf E q → leb (wordCount p) (wordCount q) ≡ true
     → ((u : ℕ) → free (ruleOf E q) (ledger q) u ≡ true) → Freer E p q
 all-free E p q ok slot ticket form size units = record {
   isSound = ok;

@@ -11,20 +11,20 @@ use Rattle.calls.specs.Step.{Call, format, allocate, release, Outcome, success,
 use Rattle.calls.specs.Engines.{segmentEngine}
 use Rattle.calls.specs.Search.{placesOf}
 
--- An answer, and the pool after it.
+-- An answer, and the pool after it; `own` is root link and form in the tree pool.
 pub record State : Type 0 where
   pub answer : Answer
-  pub root : Words
+  pub own : Words
   pub next : ℕ
   pub arena : Words
   pub table : Words
   pub index : Words
 
 abbrev pub state : Answer → Words → ℕ → Words → Words → Words → State
-state x r n a t i = record { answer = x; root = r; next = n; arena = a; table = t; index = i }
+state x r n a t i = record { answer = x; own = r; next = n; arena = a; table = t; index = i }
 
 abbrev pub stateOf : Outcome → State
-stateOf o = state (o .answer) (o .pool .head .root) (o .pool .head .next) (o .pool .arena) (o .pool .table)
+stateOf o = state (o .answer) (o .pool .head .own) (o .pool .head .next) (o .pool .arena) (o .pool .table)
     (o .pool .index)
 
 -- the states of a run of calls, each on the pool that the one before left
@@ -37,11 +37,11 @@ abbrev pub placesReported : Pool → List ℕ → List ℕ
 placesReported p [] = []
 placesReported p (n ∷ ns) = placesOf p n ∷ placesReported (step segmentEngine (allocate n) p .pool) ns
 
--- memory before the format, with any contents: 24 words or 16, 4 records, S 4
+-- memory before the format, with any contents: 24 words of form 1, or 16 and S 4; 4 records
 abbrev pub treeMemory : Pool
 treeMemory = record {
-  head = record { root = 0 ∷ []; next = 0 };
-  shape = 0;
+  head = record { own = 0 ∷ 1 ∷ []; next = 0 };
+  shape = 1;
   arena = replicate 24 7;
   table = replicate 12 9;
   index = [];
@@ -49,7 +49,7 @@ treeMemory = record {
 
 abbrev pub segmentMemory : Pool
 segmentMemory = record {
-  head = record { root = []; next = 0 };
+  head = record { own = []; next = 0 };
   shape = 4;
   arena = replicate 16 7;
   table = replicate 12 9;
@@ -67,37 +67,37 @@ segmentCalls = format 1 ∷ allocate 3 ∷ allocate 12 ∷ allocate 11 ∷ []
 
 abbrev pub treeStates : List State
 treeStates =
-    (state (zeroAnswer) (1 ∷ []) 1
+    (state (zeroAnswer) (1 ∷ 1 ∷ []) 1
     (12 ∷ 0 ∷ 0 ∷ 0 ∷ 0 ∷ 0 ∷ 0 ∷ 0 ∷ 0 ∷ 0 ∷ 0 ∷ 0 ∷ 0 ∷ 0 ∷ 0 ∷ 0 ∷ 0 ∷ 0 ∷ 0 ∷ 0 ∷ 0 ∷ 0 ∷ 0 ∷ 0 ∷ [])
     (0 ∷ 0 ∷ 0 ∷ 0 ∷ 0 ∷ 0 ∷ 0 ∷ 0 ∷ 0 ∷ 0 ∷ 0 ∷ 0 ∷ []) ([])) ∷
-    (state (success (row 1 0 5)) (4 ∷ []) 2
+    (state (success (row 1 0 5)) (4 ∷ 1 ∷ []) 2
     (0 ∷ 0 ∷ 0 ∷ 0 ∷ 0 ∷ 0 ∷ 9 ∷ 0 ∷ 0 ∷ 0 ∷ 0 ∷ 0 ∷ 0 ∷ 0 ∷ 0 ∷ 0 ∷ 0 ∷ 0 ∷ 0 ∷ 0 ∷ 0 ∷ 0 ∷ 0 ∷ 0 ∷ [])
     (1 ∷ 0 ∷ 5 ∷ 0 ∷ 0 ∷ 0 ∷ 0 ∷ 0 ∷ 0 ∷ 0 ∷ 0 ∷ 0 ∷ []) ([])) ∷
-    (state (success (row 2 6 4)) (6 ∷ []) 3
+    (state (success (row 2 6 4)) (6 ∷ 1 ∷ []) 3
     (0 ∷ 0 ∷ 0 ∷ 0 ∷ 0 ∷ 0 ∷ 0 ∷ 0 ∷ 0 ∷ 0 ∷ 7 ∷ 0 ∷ 0 ∷ 0 ∷ 0 ∷ 0 ∷ 0 ∷ 0 ∷ 0 ∷ 0 ∷ 0 ∷ 0 ∷ 0 ∷ 0 ∷ [])
     (1 ∷ 0 ∷ 5 ∷ 2 ∷ 6 ∷ 4 ∷ 0 ∷ 0 ∷ 0 ∷ 0 ∷ 0 ∷ 0 ∷ []) ([])) ∷
-    (state (success (row 3 10 6)) (9 ∷ []) 4
+    (state (success (row 3 10 6)) (9 ∷ 1 ∷ []) 4
     (0 ∷ 0 ∷ 0 ∷ 0 ∷ 0 ∷ 0 ∷ 0 ∷ 0 ∷ 0 ∷ 0 ∷ 0 ∷ 0 ∷ 0 ∷ 0 ∷ 0 ∷ 0 ∷ 4 ∷ 0 ∷ 0 ∷ 0 ∷ 0 ∷ 0 ∷ 0 ∷ 0 ∷ [])
     (1 ∷ 0 ∷ 5 ∷ 2 ∷ 6 ∷ 4 ∷ 3 ∷ 10 ∷ 6 ∷ 0 ∷ 0 ∷ 0 ∷ []) ([])) ∷
-    (state (success (row 1 0 5)) (9 ∷ []) 4
+    (state (success (row 1 0 5)) (9 ∷ 1 ∷ []) 4
     (3 ∷ 0 ∷ 0 ∷ 0 ∷ 0 ∷ 0 ∷ 0 ∷ 0 ∷ 0 ∷ 0 ∷ 0 ∷ 0 ∷ 0 ∷ 0 ∷ 0 ∷ 0 ∷ 4 ∷ 1 ∷ 0 ∷ 0 ∷ 0 ∷ 0 ∷ 0 ∷ 0 ∷ [])
     (0 ∷ 0 ∷ 0 ∷ 2 ∷ 6 ∷ 4 ∷ 3 ∷ 10 ∷ 6 ∷ 0 ∷ 0 ∷ 0 ∷ []) ([])) ∷
-    (state (refusal 6) (9 ∷ []) 4
+    (state (refusal 6) (9 ∷ 1 ∷ []) 4
     (3 ∷ 0 ∷ 0 ∷ 0 ∷ 0 ∷ 0 ∷ 0 ∷ 0 ∷ 0 ∷ 0 ∷ 0 ∷ 0 ∷ 0 ∷ 0 ∷ 0 ∷ 0 ∷ 4 ∷ 1 ∷ 0 ∷ 0 ∷ 0 ∷ 0 ∷ 0 ∷ 0 ∷ [])
     (0 ∷ 0 ∷ 0 ∷ 2 ∷ 6 ∷ 4 ∷ 3 ∷ 10 ∷ 6 ∷ 0 ∷ 0 ∷ 0 ∷ []) ([])) ∷
-    (state (success (row 4 16 7)) (1 ∷ []) 5
+    (state (success (row 4 16 7)) (1 ∷ 1 ∷ []) 5
     (3 ∷ 0 ∷ 0 ∷ 0 ∷ 0 ∷ 0 ∷ 0 ∷ 0 ∷ 0 ∷ 0 ∷ 0 ∷ 0 ∷ 0 ∷ 0 ∷ 0 ∷ 0 ∷ 0 ∷ 0 ∷ 0 ∷ 0 ∷ 0 ∷ 0 ∷ 0 ∷ 0 ∷ [])
     (4 ∷ 16 ∷ 7 ∷ 2 ∷ 6 ∷ 4 ∷ 3 ∷ 10 ∷ 6 ∷ 0 ∷ 0 ∷ 0 ∷ []) ([])) ∷
-    (state (success (row 3 10 6)) (1 ∷ []) 5
+    (state (success (row 3 10 6)) (1 ∷ 1 ∷ []) 5
     (3 ∷ 393216 ∷ 0 ∷ 0 ∷ 0 ∷ 0 ∷ 0 ∷ 0 ∷ 0 ∷ 0 ∷ 3 ∷ 0 ∷ 0 ∷ 0 ∷ 0 ∷ 0 ∷ 0 ∷ 0 ∷ 0 ∷ 0 ∷ 0 ∷ 0 ∷ 0 ∷ 0 ∷ [])
     (4 ∷ 16 ∷ 7 ∷ 2 ∷ 6 ∷ 4 ∷ 0 ∷ 0 ∷ 0 ∷ 0 ∷ 0 ∷ 0 ∷ []) ([])) ∷
-    (state (refusal 5) (1 ∷ []) 5
+    (state (refusal 5) (1 ∷ 1 ∷ []) 5
     (3 ∷ 393216 ∷ 0 ∷ 0 ∷ 0 ∷ 0 ∷ 0 ∷ 0 ∷ 0 ∷ 0 ∷ 3 ∷ 0 ∷ 0 ∷ 0 ∷ 0 ∷ 0 ∷ 0 ∷ 0 ∷ 0 ∷ 0 ∷ 0 ∷ 0 ∷ 0 ∷ 0 ∷ [])
     (4 ∷ 16 ∷ 7 ∷ 2 ∷ 6 ∷ 4 ∷ 0 ∷ 0 ∷ 0 ∷ 0 ∷ 0 ∷ 0 ∷ []) ([])) ∷
-    (state (refusal 7) (1 ∷ []) 5
+    (state (refusal 7) (1 ∷ 1 ∷ []) 5
     (3 ∷ 393216 ∷ 0 ∷ 0 ∷ 0 ∷ 0 ∷ 0 ∷ 0 ∷ 0 ∷ 0 ∷ 3 ∷ 0 ∷ 0 ∷ 0 ∷ 0 ∷ 0 ∷ 0 ∷ 0 ∷ 0 ∷ 0 ∷ 0 ∷ 0 ∷ 0 ∷ 0 ∷ [])
     (4 ∷ 16 ∷ 7 ∷ 2 ∷ 6 ∷ 4 ∷ 0 ∷ 0 ∷ 0 ∷ 0 ∷ 0 ∷ 0 ∷ []) ([])) ∷
-    (state (success (row 2 6 4)) (1 ∷ []) 5
+    (state (success (row 2 6 4)) (1 ∷ 1 ∷ []) 5
     (8 ∷ 0 ∷ 0 ∷ 0 ∷ 0 ∷ 0 ∷ 0 ∷ 0 ∷ 0 ∷ 0 ∷ 0 ∷ 0 ∷ 0 ∷ 0 ∷ 0 ∷ 0 ∷ 0 ∷ 0 ∷ 0 ∷ 0 ∷ 0 ∷ 0 ∷ 0 ∷ 0 ∷ [])
     (4 ∷ 16 ∷ 7 ∷ 0 ∷ 0 ∷ 0 ∷ 0 ∷ 0 ∷ 0 ∷ 0 ∷ 0 ∷ 0 ∷ []) ([]))
     ∷ []

@@ -4,12 +4,12 @@ use mathlib.Core.List.{[], _∷_}
 use lib.ListN.{replicate}
 use Rattle.calls.specs.Pool.{Pool}
 
--- ---- tree pool, 10 words: words 2 and 3 are held under ticket 2; and after its release
+-- ---- tree pool of form 1, 10 words: words 2 and 3 are held under ticket 2; and after its release
 
 abbrev pub treeHeld : Pool
 treeHeld = record {
-  head = record { root = 3 ∷ []; next = 3 };
-  shape = 0;
+  head = record { own = 3 ∷ 1 ∷ []; next = 3 };
+  shape = 1;
   arena = 1 ∷ 0 ∷ 7 ∷ 7 ∷ 3 ∷ 1 ∷ 0 ∷ 0 ∷ 0 ∷ 0 ∷ [];
   table = 0 ∷ 0 ∷ 0 ∷ 2 ∷ 2 ∷ 2 ∷ 0 ∷ 0 ∷ 0 ∷ [];
   index = [];
@@ -17,8 +17,8 @@ treeHeld = record {
 
 abbrev pub treeFree : Pool
 treeFree = record {
-  head = record { root = 1 ∷ []; next = 3 };
-  shape = 0;
+  head = record { own = 1 ∷ 1 ∷ []; next = 3 };
+  shape = 1;
   arena = 5 ∷ replicate 9 0;
   table = replicate 9 0;
   index = [];
@@ -28,7 +28,7 @@ treeFree = record {
 
 abbrev pub segmentHeld : Pool
 segmentHeld = record {
-  head = record { root = []; next = 2 };
+  head = record { own = []; next = 2 };
   shape = 4;
   arena = 4294967292 ∷ 7 ∷ 7 ∷ 7 ∷ 12 ∷ replicate 11 0;
   table = 1 ∷ 1 ∷ 3 ∷ 0 ∷ 0 ∷ 0 ∷ [];
@@ -37,7 +37,7 @@ segmentHeld = record {
 
 abbrev pub segmentFree : Pool
 segmentFree = record {
-  head = record { root = []; next = 9 };
+  head = record { own = []; next = 9 };
   shape = 2;
   arena = 16 ∷ replicate 15 0;
   table = replicate 3 0;

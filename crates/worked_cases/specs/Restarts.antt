@@ -40,20 +40,21 @@ treeLater =
     -- a list with a release of yesterday and one of today
     ∷ calls (onWhole treeMemory (list
     (otherWords (2 ∷ 1 ∷ 0 ∷ 5 ∷ 2 ∷ 100 ∷ 0 ∷ 5 ∷ [])) (otherWords (replicate 8 8))))
-    -- formats that are refused: by 6, and by 8 for a word beside the arena
+    -- formats that are refused: by 6, by 11 for form 0, and by 8 for a word beside the arena
     ∷ calls (onWhole treeMemory (format 0))
-    ∷ calls (otherArena treeMemory 0 (allOf inArena treeMemory ++ (other 5 ∷ [])) [] (format 200))
+    ∷ calls (otherArena treeMemory 0 (allOf inArena treeMemory) [] (format 200))
+    ∷ calls (otherArena treeMemory 1 (allOf inArena treeMemory ++ (other 5 ∷ [])) [] (format 200))
     -- accepted on another arena of 8 words: a grant and its release
-    ∷ calls (otherArena treeMemory 0 (otherWords (4 ∷ 0 ∷ 0 ∷ 0 ∷ 0 ∷ 0 ∷ 0 ∷ 0 ∷ [])) []
+    ∷ calls (otherArena treeMemory 1 (otherWords (4 ∷ 0 ∷ 0 ∷ 0 ∷ 0 ∷ 0 ∷ 0 ∷ 0 ∷ [])) []
     (list (otherWords (1 ∷ 3 ∷ 0 ∷ 0 ∷ 2 ∷ 101 ∷ 0 ∷ 3 ∷ [])) (otherWords (replicate 8 8))))
     -- yesterday's head, and a release of yesterday with it
-    ∷ calls (otherHead treeMemory (record { root = 4 ∷ []; next = 2 }) (release (row 1 0 5)))
+    ∷ calls (otherHead treeMemory 1 (record { own = 4 ∷ 1 ∷ []; next = 2 }) (release (row 1 0 5)))
     ∷ calls (onWhole treeMemory (allocate 4)) ∷ calls (onWhole treeMemory (look (row 99 0 4) [])) ∷ []
 
 abbrev pub treeAnswers : List Answer
 treeAnswers =
-    success (row 100 0 5) ∷ refusal 6 ∷ refusal 6 ∷ zeroAnswer ∷ refusal 6 ∷ refusal 8 ∷ zeroAnswer ∷ refusal 1
-    ∷ success (row 102 0 4) ∷ refusal 6 ∷ []
+    success (row 100 0 5) ∷ refusal 6 ∷ refusal 6 ∷ zeroAnswer ∷ refusal 6 ∷ refusal 11 ∷ refusal 8 ∷ zeroAnswer
+    ∷ refusal 1 ∷ success (row 102 0 4) ∷ refusal 6 ∷ []
 
 abbrev pub segmentLater : List Later
 segmentLater =

@@ -1,4 +1,5 @@
--- A sequence of demand 3 for each engine, with everything mixed in that 01 allows. Assumes nothing.
+-- A sequence of demand 3 for each engine, with everything mixed in that 01 allows, and a short one of form 2.
+-- Assumes nothing.
 use Prim.Native.Nat.{ℕ}
 use mathlib.Core.List.{List, [], _∷_, _++_, map}
 use mathlib.Core.Option.{none, some}
@@ -9,12 +10,12 @@ use Rattle.calls.specs.Pool.{Head, Pool}
 use Rattle.calls.specs.Step.{Call, format, allocate, release, find, look, list}
 use Rattle.calls.specs.Lent.{inArena, inTable, inIndex, own, other, Buffer, allOf, Event, onWhole}
 
--- ---- the tree pool of T4: tickets 1, 2 and 3 are live
+-- ---- the tree pool of T4, of form 1: tickets 1, 2 and 3 are live
 
 abbrev pub treeStart : Pool
 treeStart = record {
-  head = record { root = 9 ∷ []; next = 4 };
-  shape = 0;
+  head = record { own = 9 ∷ 1 ∷ []; next = 4 };
+  shape = 1;
   arena = 1 ∷ 2 ∷ 3 ∷ 4 ∷ 5 ∷ 6 ∷ 7 ∷ 8 ∷ 9 ∷ 10 ∷ 11 ∷ 12 ∷ 13 ∷ 14 ∷ 15 ∷ 16 ∷ 4 ∷ 0 ∷ 0 ∷ 0 ∷ 0 ∷ 0 ∷ 0 ∷ 0 ∷ [];
   table = 1 ∷ 0 ∷ 5 ∷ 2 ∷ 6 ∷ 4 ∷ 3 ∷ 10 ∷ 6 ∷ 0 ∷ 0 ∷ 0 ∷ [];
   index = [];
@@ -27,11 +28,11 @@ treeSet = member 1 vacate ∷ member 3 vacate ∷ []
 abbrev pub otherWords : Words → Buffer
 otherWords x = map other x
 
--- a call with the pool's memory, but another head
-abbrev pub otherHead : Pool → Head → Call Buffer → Event
-otherHead p h c = record {
+-- a call with the pool's memory, but another head; the shape is the head's form in the tree pool
+abbrev pub otherHead : Pool → ℕ → Head → Call Buffer → Event
+otherHead p s h c = record {
   head = some h;
-  shape = p .shape;
+  shape = s;
   arena = allOf inArena p;
   table = allOf inTable p;
   index = allOf inIndex p;
@@ -56,13 +57,17 @@ treeEvents =
     -- refused where they stand: no room; a list one word long; a live ticket wrongly named
     ∷ onWhole treeStart (allocate 25) ∷ onWhole treeStart (list (other 1 ∷ []) [])
     ∷ onWhole treeStart (release (row 1 0 6))
-    -- a rightly named release with a wrong head, and a replay with one
-    ∷ otherHead treeStart (record { root = 9 ∷ []; next = 1 }) (release (row 1 0 5))
-    ∷ otherHead treeStart (record { root = 77 ∷ []; next = 4 }) (release (row 3 10 6))
-    -- formats that are refused: by 6 on the pool whole, by 8 with a word beside its arena; a replay with half of it
+    -- a rightly named release with a wrong head, and a replay with one; both with a wrong form, known and unknown
+    ∷ otherHead treeStart 1 (record { own = 9 ∷ 1 ∷ []; next = 1 }) (release (row 1 0 5))
+    ∷ otherHead treeStart 1 (record { own = 77 ∷ 1 ∷ []; next = 4 }) (release (row 3 10 6))
+    ∷ otherHead treeStart 2 (record { own = 9 ∷ 2 ∷ []; next = 4 }) (release (row 1 0 5))
+    ∷ otherHead treeStart 0 (record { own = 9 ∷ 0 ∷ []; next = 4 }) (release (row 3 10 6))
+    -- formats that are refused: by 6 on the pool whole, by 11 for its form, by 8 with a word beside its arena; a replay
+    -- with half of it
     ∷ onWhole treeStart (format 0)
-    ∷ otherArena treeStart 0 (allOf inArena treeStart ++ (other 5 ∷ [])) (allOf inIndex treeStart) (format 5)
-    ∷ otherArena treeStart 0 (take 12 (allOf inArena treeStart)) (allOf inIndex treeStart) (release (row 3 10 6))
+    ∷ otherArena treeStart 0 (allOf inArena treeStart) (allOf inIndex treeStart) (format 5)
+    ∷ otherArena treeStart 1 (allOf inArena treeStart ++ (other 5 ∷ [])) (allOf inIndex treeStart) (format 5)
+    ∷ otherArena treeStart 1 (take 12 (allOf inArena treeStart)) (allOf inIndex treeStart) (release (row 3 10 6))
     -- a list with a refusal, a release of the set, its replay and a wrong name, and words beyond it
     ∷ onWhole treeStart (list
     (otherWords (1 ∷ 0 ∷ 0 ∷ 0 ∷ 2 ∷ 1 ∷ 0 ∷ 5 ∷ 2 ∷ 1 ∷ 0 ∷ 5 ∷ 2 ∷ 2 ∷ 6 ∷ 5 ∷ [])) (otherWords (replicate 20 8)))
@@ -72,15 +77,41 @@ treeEvents =
     (otherWords (replicate 4 8) ++ allOf inArena treeStart))
     ∷ onWhole treeStart (list [] (allOf inTable treeStart))
     -- a list on a copy of the arena that runs, every request refused
-    ∷ otherArena treeStart 0 (otherWords treeCopy) (allOf inIndex treeStart)
+    ∷ otherArena treeStart 1 (otherWords treeCopy) (allOf inIndex treeStart)
     (list (otherWords (2 ∷ 3 ∷ 10 ∷ 6 ∷ 7 ∷ 0 ∷ 0 ∷ 0 ∷ [])) (otherWords (replicate 8 8)))
     ∷ []
+
+-- ---- a tree pool of form 2, 24 words: 1, 5 and 2 words are held in 4, 8 and 4 under tickets 1, 2 and 3
+
+abbrev pub wideStart : Pool
+wideStart = record {
+  head = record { own = 5 ∷ 2 ∷ []; next = 4 };
+  shape = 2;
+  arena = 1 ∷ 2 ∷ 3 ∷ 4 ∷ 5 ∷ 6 ∷ 7 ∷ 8 ∷ 9 ∷ 10 ∷ 11 ∷ 12 ∷ 13 ∷ 14 ∷ 15 ∷ 16 ∷ 2 ∷ 0 ∷ 0 ∷ 0 ∷ 0 ∷ 0 ∷ 0 ∷ 0 ∷ [];
+  table = 1 ∷ 0 ∷ 1 ∷ 2 ∷ 4 ∷ 5 ∷ 3 ∷ 12 ∷ 2 ∷ 0 ∷ 0 ∷ 0 ∷ [];
+  index = [];
+}
+
+abbrev pub wideSet : List Member
+wideSet = member 1 vacate ∷ member 3 vacate ∷ []
+
+abbrev pub wideEvents : List Event
+wideEvents =
+    -- both releases of the set, one of them in a list, and a replay; a request for which there is no room
+    onWhole wideStart (release (row 1 0 1)) ∷ onWhole wideStart (allocate 9)
+    ∷ onWhole wideStart (list
+    (otherWords (2 ∷ 3 ∷ 12 ∷ 2 ∷ 2 ∷ 1 ∷ 0 ∷ 1 ∷ 1 ∷ 13 ∷ 0 ∷ 0 ∷ [])) (otherWords (replicate 12 8)))
+    -- with form 1 in the head, with half of the arena, and a format with two words beside the arena
+    ∷ otherHead wideStart 1 (record { own = 4 ∷ 1 ∷ []; next = 4 }) (release (row 3 12 2))
+    ∷ otherArena wideStart 2 (take 12 (allOf inArena wideStart)) [] (release (row 3 12 2))
+    ∷ otherArena wideStart 2 (allOf inArena wideStart ++ (other 0 ∷ other 0 ∷ [])) [] (format 5)
+    ∷ onWhole wideStart (look (row 2 4 5) []) ∷ []
 
 -- ---- the segment pool of T14: tickets 1 and 2 are live, W 16, S 4
 
 abbrev pub segmentStart : Pool
 segmentStart = record {
-  head = record { root = []; next = 3 };
+  head = record { own = []; next = 3 };
   shape = 4;
   arena = 4294967292 ∷ 1 ∷ 2 ∷ 3 ∷ 4294967284 ∷ 5 ∷ 6 ∷ 7 ∷ 8 ∷ 9 ∷ 10 ∷ 11 ∷ 12 ∷ 13 ∷ 14 ∷ 15 ∷ [];
   table = 1 ∷ 1 ∷ 3 ∷ 2 ∷ 5 ∷ 11 ∷ 0 ∷ 0 ∷ 0 ∷ 0 ∷ 0 ∷ 0 ∷ [];

@@ -3,32 +3,30 @@
 -- In a need, `b3` is the place three before its own.
 use borrow.Author.Needs.{needs}
 use native.Mathlib.Omega.{arith}
-use Rattle.stored_forms.specs.Tree.{formOne, treeOf}
+use Rattle.stored_forms.specs.Tree.{treeOf}
+use Rattle.stored_forms.proofs.NodeLaws.{readable}
+use Rattle.tree_nodes.proofs.FormLaws.{few-links}
 use Rattle.free_blocks.proofs.GiveLaws.{wiped-inside, wiped-clear, touch-below, touch-above}
 use Rattle.free_blocks.proofs.GiveLaws.{sum-fits, room, give}
 use Rattle.free_blocks.proofs.give_cells.Statement.{statement}
 use Rattle.free_blocks.proofs.give_cells.Tie as tie
 
-mul-wipe-part : tie.Need-mul-wipe-part
-mul-wipe-part c = search needs
-
-mul-wipe-part-2 : tie.Need-mul-wipe-part-2
-mul-wipe-part-2 c = search needs
-
-wipe-part-requires : tie.Need-wipe-part-requires
-unfolding formOne
-wipe-part-requires c κs = let (rs, g) = c .before .before .pre in omega arith
+wipe-cells-requires : tie.Need-wipe-cells-requires
+wipe-cells-requires c κs =
+    let (rs, g) = c .before .before .pre in
+    (omega (arith, g .some), g .inside)
 
 touching-requires : tie.Need-touching-requires
 touching-requires c κs =
     let (rs, g) = c .before .before .before .before .before .before .pre in
-    let wipe = c .before .before .before .wipe-part .ensures in
-    (wiped-inside wipe g, (treeOf rs, wiped-clear wipe g))
+    let wipe = c .before .before .before .wipe-cells .ensures in
+    (wiped-inside (readable _) wipe g, (treeOf rs, wiped-clear (readable _) wipe g))
 
 merge-below-requires : tie.Need-merge-below-requires
 merge-below-requires c κs =
     let (rs, g) = c .before .before .before .before .before .before .before .before .pre in
-    (rs, touch-below (c .before .before .before .before .before .wipe-part .ensures) g (c .before .touching .ensures))
+    let wipe = c .before .before .before .before .before .wipe-cells .ensures in
+    (rs, touch-below (readable _) wipe g (c .before .touching .ensures))
 
 merge-above-requires : tie.Need-merge-above-requires
 merge-above-requires c κs =
@@ -37,7 +35,7 @@ merge-above-requires c κs =
     let b9 = b5 .before .before .before .before in
     let b12 = b9 .before .before .before in
     let (rs, g) = b12 .pre in
-    (_, touch-above (b9 .wipe-part .ensures) g (b5 .touching .ensures) (b3 .merge-below .ensures))
+    (_, touch-above (readable _) (b9 .wipe-cells .ensures) g (b5 .touching .ensures) (b3 .merge-below .ensures))
 
 sub-insert : tie.Need-sub-insert
 sub-insert c =
@@ -48,7 +46,7 @@ sub-insert c =
     let b16 = b13 .before .before .before in
     let (rs, g) = b16 .pre in
     let fits =
-    sum-fits (b13 .wipe-part .ensures) g (b9 .touching .ensures) (b7 .merge-below .ensures)
+    sum-fits (readable _) (b13 .wipe-cells .ensures) g (b9 .touching .ensures) (b7 .merge-below .ensures)
     (b3 .merge-above .ensures) in
     omega arith
 
@@ -61,9 +59,9 @@ cast-insert c =
     let b16 = b13 .before .before .before in
     let (rs, g) = b16 .pre in
     let fits =
-    sum-fits (b13 .wipe-part .ensures) g (b9 .touching .ensures) (b7 .merge-below .ensures)
+    sum-fits (readable _) (b13 .wipe-cells .ensures) g (b9 .touching .ensures) (b7 .merge-below .ensures)
     (b3 .merge-above .ensures) in
-    omega arith
+    omega (arith, few-links (b16 .args .form))
 
 insert-requires : tie.Need-insert-requires
 insert-requires c κs =
@@ -74,7 +72,7 @@ insert-requires c κs =
     let b16 = b13 .before .before .before in
     let (rs, g) = b16 .pre in (
       _,
-      room (b13 .wipe-part .ensures) g (b9 .touching .ensures) (b7 .merge-below .ensures)
+      room (readable _) (b13 .wipe-cells .ensures) g (b9 .touching .ensures) (b7 .merge-below .ensures)
           (b3 .merge-above .ensures),
     )
 
@@ -91,16 +89,14 @@ returns c rs g =
     let b11 = b7 .before .before .before .before in
     let b13 = b11 .before .before in
     let b17 = b13 .before .before .before .before in
-    give (b17 .wipe-part .ensures) g (b13 .touching .ensures) (b11 .merge-below .ensures)
+    give (readable _) (b17 .wipe-cells .ensures) g (b13 .touching .ensures) (b11 .merge-below .ensures)
     (b7 .merge-above .ensures) (b3 .insert .result) (b3 .insert .ensures) (c .link-of .ensures)
 
 pub give-cells-spec : {M : Type 1} → statement M
 give-cells-spec =
     tie.close
     (tie.spec
-    mul-wipe-part
-    mul-wipe-part-2
-    wipe-part-requires
+    wipe-cells-requires
     touching-requires
     merge-below-requires
     merge-above-requires

@@ -1,8 +1,9 @@
 -- `free_blocks::take_cells` meets its contract: the block shrinks, or nothing of it is left. Assumes nothing.
 -- In a need, `b3` is the place three before its own.
 use borrow.Author.Needs.{needs}
-use Rattle.stored_forms.specs.Tree.{formOne}
+use Rattle.stored_forms.specs.Tree.{formOf}
 use Rattle.free_tree.proofs.Numbers.{in-kept}
+use Rattle.stored_forms.proofs.NodeLaws.{readable}
 use Rattle.free_blocks.proofs.TakeLaws.{take-in, take-tree, take-seat, take-longer, take-part, take-whole}
 use Rattle.free_blocks.proofs.take_cells.Statement.{statement}
 use Rattle.free_blocks.proofs.take_cells.Tie as tie
@@ -11,7 +12,7 @@ sub-c : tie.Need-sub-c
 sub-c c = search needs
 
 length-of-requires : tie.Need-length-of-requires
-length-of-requires c κs = take-in (c .before .before .pre) .0
+length-of-requires c κs = take-in (readable _) (c .before .before .pre) .0
 
 cast-n : tie.Need-cast-n
 cast-n c = search needs
@@ -19,13 +20,14 @@ cast-n c = search needs
 shrink-requires : tie.Need-shrink-requires
 shrink-requires c κs =
     let p = c .before .before .before .before .before .pre in
-    (take-longer (c .before .before .length-of .ensures) (c .before .if1 .taken) p, take-seat p)
+    let longer = take-longer (readable _) (c .before .before .length-of .ensures) (c .before .if1 .taken) p in
+    (longer, take-seat (readable _) p)
 
 clear-node-requires : tie.Need-clear-node-requires
 clear-node-requires c κs =
     let b3 = c .before .before .before in
     let b9 = b3 .before .before .before .before .before .before in
-    in-kept (formOne .cell) (b3 .shrink .kept .0) (take-in (b9 .pre) .0)
+    in-kept (formOf (b9 .args .form) .cell) (b3 .shrink .kept .1 .0) (take-in (readable _) (b9 .pre) .0)
 
 same-length : tie.Need-same-length
 same-length c = search needs
@@ -36,16 +38,17 @@ returns c =
     let b6 = b2 .before .before .before .before in
     let b8 = b6 .before .before in
     let b9 = b8 .before in
-    take-part (b9 .length-of .ensures) (b8 .if1 .taken) (b6 .shrink .ensures) (b2 .clear-node .ensures)
+    take-part (readable _) (b9 .length-of .ensures) (b8 .if1 .taken) (b6 .shrink .ensures) (b2 .clear-node .ensures)
 
 delete-at-requires : tie.Need-delete-at-requires
-delete-at-requires c κs = let p = c .before .before .before .before .before .pre in (take-tree p, take-seat p)
+delete-at-requires c κs =
+    let p = c .before .before .before .before .before .pre in (take-tree (readable _) p, take-seat (readable _) p)
 
 clear-node-requires-2 : tie.Need-clear-node-requires-2
 clear-node-requires-2 c κs =
     let b3 = c .before .before .before in
     let b9 = b3 .before .before .before .before .before .before in
-    in-kept (formOne .cell) (b3 .delete-at .kept .0) (take-in (b9 .pre) .0)
+    in-kept (formOf (b9 .args .form) .cell) (b3 .delete-at .kept .1 .0) (take-in (readable _) (b9 .pre) .0)
 
 same-length-2 : tie.Need-same-length-2
 same-length-2 c = search needs
@@ -56,7 +59,7 @@ returns-2 c =
     let b6 = b2 .before .before .before .before in
     let b8 = b6 .before .before in
     let b9 = b8 .before in
-    take-whole (b9 .length-of .ensures) (b8 .if1 .left) (b6 .delete-at .ensures) (b2 .clear-node2 .ensures)
+    take-whole (readable _) (b9 .length-of .ensures) (b8 .if1 .left) (b6 .delete-at .ensures) (b2 .clear-node2 .ensures)
 
 pub take-cells-spec : {M : Type 1} → statement M
 take-cells-spec =

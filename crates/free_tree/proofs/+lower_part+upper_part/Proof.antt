@@ -8,8 +8,9 @@ use denote.Ref.{now}
 use borrow.Author.Needs.{needs}
 use borrow.Fn.Kinds.{In}
 use borrow.Fn.PlainCycle.{Measures, is, falls, and}
-use Rattle.stored_forms.specs.Tree.{formOne}
-use Rattle.stored_forms.proofs.NodeLaws.{readable-one}
+use Rattle.stored_forms.specs.Tree.{formOf}
+use Rattle.stored_forms.proofs.NodeLaws.{readable}
+use Rattle.tree_nodes.proofs.FormLaws.{few-links}
 use Rattle.free_tree.proofs.Numbers.{falls-below, in-kept}
 use Rattle.free_tree.proofs.StepLaws.{count, at-in, down-left, down-right}
 use Rattle.free_tree.proofs.PartSteps.{parts-none, parts-small, lower-read, upper-read}
@@ -31,10 +32,10 @@ use Rattle.free_tree.proofs.+lower_part+upper_part.{statement}
 use Rattle.free_tree.proofs.+lower_part+upper_part.Tie.{close}
 
 abbrev μ-lower-part : Measures 1 lower-part-kinds.ps ℕ
-μ-lower-part κs a = count formOne (now (a .0)) (a .1 .0)
+μ-lower-part κs a = count (formOf (a .0)) (now (a .1 .0)) (a .1 .1 .0)
 
 abbrev μ-upper-part : Measures 1 upper-part-kinds.ps ℕ
-μ-upper-part κs a = count formOne (now (a .0)) (a .1 .0)
+μ-upper-part κs a = count (formOf (a .0)) (now (a .1 .0)) (a .1 .1 .0)
 
 abbrev lower-part-at : ℕ → In 1 lower-part-kinds.ps
 lower-part-at t = and 1 lower-part-kinds.ps (is 1 lower-part-kinds.ps μ-lower-part t) lower-part.Pre
@@ -90,7 +91,7 @@ lower-part-sub-c t c = search needs
 
 lower-part-left-of-requires : (t : ℕ)
     → lower-part-lts.Need-left-of-requires (lower-part-claims t) (lower-part-at t) lower-part.Post
-lower-part-left-of-requires t c κs = let s = c .before .before in at-in readable-one (s .pre .1 .0) (s .pre .1 .2)
+lower-part-left-of-requires t c κs = let s = c .before .before in at-in (readable _) (s .pre .1 .0) (s .pre .1 .2)
 
 lower-part-same-length : (t : ℕ)
     → lower-part-lts.Need-same-length (lower-part-claims t) (lower-part-at t) lower-part.Post
@@ -100,7 +101,7 @@ lower-part-returns : (t : ℕ) → lower-part-lts.Need-returns (lower-part-claim
 lower-part-returns t c =
     let s = c .before .before .before .before in
     let none = c .if1 .taken in
-    left-stays readable-one (s .pre .1 .0) (parts-none readable-one (s .args .x) none) (c .before .left-of .ensures)
+    left-stays (readable _) (s .pre .1 .0) (parts-none (readable _) (s .args .x) none) (c .before .left-of .ensures)
     (s .pre .1 .1) (sym none)
 
 lower-part-sub-if2 : (t : ℕ) → lower-part-lts.Need-sub-if2 (lower-part-claims t) (lower-part-at t) lower-part.Post
@@ -111,26 +112,26 @@ lower-part-lower-part-requires : (t : ℕ)
 lower-part-lower-part-requires t c κs =
     let b3 = c .before .before .before in
     let s = b3 .before .before .before in
-    let (less, down) = down-left readable-one (s .pre .1 .0) (b3 .left-of .ensures) (s .pre .1 .2) in
+    let (less, down) = down-left (readable _) (s .pre .1 .0) (b3 .left-of .ensures) (s .pre .1 .2) in
     (falls-below (s .pre .0) less, (c .before .before .if1 .left, c .before .if2 .taken, down))
 
 lower-part-same-length-2 : (t : ℕ)
     → lower-part-lts.Need-same-length-2 (lower-part-claims t) (lower-part-at t) lower-part.Post
-lower-part-same-length-2 t c = c .before .before .lower-part .kept .0
+lower-part-same-length-2 t c = c .before .before .lower-part .kept .1 .0
 
 lower-part-returns-2 : (t : ℕ) → lower-part-lts.Need-returns-2 (lower-part-claims t) (lower-part-at t) lower-part.Post
 lower-part-returns-2 t c =
     let b2 = c .before .before in
     let b6 = b2 .before .before .before .before in
     let s = b6 .before .before .before in
-    left-stays readable-one (s .pre .1 .0) (b2 .lower-part .ensures) (b6 .left-of .ensures) (s .pre .1 .1) refl
+    left-stays (readable _) (s .pre .1 .0) (b2 .lower-part .ensures) (b6 .left-of .ensures) (s .pre .1 .1) refl
 
 lower-part-upper-part-requires : (t : ℕ)
     → lower-part-lts.Need-upper-part-requires (lower-part-claims t) (lower-part-at t) lower-part.Post
 lower-part-upper-part-requires t c κs =
     let b3 = c .before .before .before in
     let s = b3 .before .before .before in
-    let (less, down) = down-left readable-one (s .pre .1 .0) (b3 .left-of .ensures) (s .pre .1 .2) in
+    let (less, down) = down-left (readable _) (s .pre .1 .0) (b3 .left-of .ensures) (s .pre .1 .2) in
     (falls-below (s .pre .0) less, (c .before .before .if1 .left, c .before .if2 .left, down))
 
 lower-part-link-of-requires : (t : ℕ)
@@ -148,9 +149,10 @@ lower-part-store-left-requires t c κs =
     let b9 = b5 .before .before .before .before in
     let s = b9 .before .before .before in
     let made = b5 .upper-part in
-    let (less, down) = down-left readable-one (s .pre .1 .0) (b9 .left-of .ensures) (s .pre .1 .2) in
-    let small = parts-small readable-one (made .ensures) down in (
-      in-kept (formOne .cell) (made .kept .0) (at-in readable-one (s .pre .1 .0) (s .pre .1 .2)),
+    let (less, down) = down-left (readable _) (s .pre .1 .0) (b9 .left-of .ensures) (s .pre .1 .2) in
+    let small = parts-small (readable _) (made .ensures) down in
+    let few = few-links (s .args .form) in (
+      in-kept (formOf (s .args .form) .cell) (made .kept .1 .0) (at-in (readable _) (s .pre .1 .0) (s .pre .1 .2)),
       (rw (c .before .link-of .ensures) (small .1), omega (arith, c .count-of .ensures, small .2)),
     )
 
@@ -161,8 +163,9 @@ lower-part-with-count-requires t c κs =
     let b8 = b2 .before .before .before .before .before .before in
     let b12 = b8 .before .before .before .before in
     let s = b12 .before .before .before in
-    let (less, down) = down-left readable-one (s .pre .1 .0) (b12 .left-of .ensures) (s .pre .1 .2) in
-    let small = parts-small readable-one (b8 .upper-part .ensures) down in
+    let (less, down) = down-left (readable _) (s .pre .1 .0) (b12 .left-of .ensures) (s .pre .1 .2) in
+    let small = parts-small (readable _) (b8 .upper-part .ensures) down in
+    let few = few-links (s .args .form) in
     (omega (arith, small .0), omega (arith, b2 .store-left .ensures .1, b2 .before .count-of .ensures, small .2))
 
 lower-part-same-length-3 : (t : ℕ)
@@ -170,7 +173,7 @@ lower-part-same-length-3 : (t : ℕ)
 lower-part-same-length-3 t c =
     let b3 = c .before .before .before in
     let b9 = b3 .before .before .before .before .before .before in
-    b3 .store-left .kept .0 ∙ b9 .upper-part .kept .0
+    b3 .store-left .kept .1 .0 ∙ b9 .upper-part .kept .1 .0
 
 lower-part-returns-3 : (t : ℕ) → lower-part-lts.Need-returns-3 (lower-part-claims t) (lower-part-at t) lower-part.Post
 lower-part-returns-3 t c =
@@ -181,8 +184,8 @@ lower-part-returns-3 t c =
     let b13 = b11 .before .before in
     let s = b13 .before .before .before in
     let (put, more) = b3 .store-left .ensures in
-    lower-read readable-one (c .with-count .result) (c .with-count .ensures)
-    (left-turns readable-one (s .pre .1 .0) (b9 .upper-part .ensures) (b13 .left-of .ensures) (s .pre .1 .1)
+    lower-read (readable _) (c .with-count .result) (c .with-count .ensures)
+    (left-turns (readable _) (s .pre .1 .0) (b9 .upper-part .ensures) (b13 .left-of .ensures) (s .pre .1 .1)
     (b11 .before .if1 .left) (b11 .if2 .left) (rw (b5 .link-of .ensures) at put)
     (omega (arith, more, b3 .before .count-of .ensures)))
 
@@ -191,7 +194,7 @@ upper-part-sub-c t c = search needs
 
 upper-part-right-of-requires : (t : ℕ)
     → upper-part-lts.Need-right-of-requires (upper-part-claims t) (upper-part-at t) upper-part.Post
-upper-part-right-of-requires t c κs = let s = c .before .before in at-in readable-one (s .pre .1 .0) (s .pre .1 .2)
+upper-part-right-of-requires t c κs = let s = c .before .before in at-in (readable _) (s .pre .1 .0) (s .pre .1 .2)
 
 upper-part-same-length : (t : ℕ)
     → upper-part-lts.Need-same-length (upper-part-claims t) (upper-part-at t) upper-part.Post
@@ -201,7 +204,7 @@ upper-part-returns : (t : ℕ) → upper-part-lts.Need-returns (upper-part-claim
 upper-part-returns t c =
     let s = c .before .before .before .before in
     let none = c .if1 .taken in
-    right-stays readable-one (s .pre .1 .0) (parts-none readable-one (s .args .x) none) (c .before .right-of .ensures)
+    right-stays (readable _) (s .pre .1 .0) (parts-none (readable _) (s .args .x) none) (c .before .right-of .ensures)
     (s .pre .1 .1) (sym none)
 
 upper-part-sub-if2 : (t : ℕ) → upper-part-lts.Need-sub-if2 (upper-part-claims t) (upper-part-at t) upper-part.Post
@@ -212,26 +215,26 @@ upper-part-upper-part-requires : (t : ℕ)
 upper-part-upper-part-requires t c κs =
     let b3 = c .before .before .before in
     let s = b3 .before .before .before in
-    let (less, down) = down-right readable-one (s .pre .1 .0) (b3 .right-of .ensures) (s .pre .1 .2) in
+    let (less, down) = down-right (readable _) (s .pre .1 .0) (b3 .right-of .ensures) (s .pre .1 .2) in
     (falls-below (s .pre .0) less, (c .before .before .if1 .left, c .before .if2 .taken, down))
 
 upper-part-same-length-2 : (t : ℕ)
     → upper-part-lts.Need-same-length-2 (upper-part-claims t) (upper-part-at t) upper-part.Post
-upper-part-same-length-2 t c = c .before .before .upper-part .kept .0
+upper-part-same-length-2 t c = c .before .before .upper-part .kept .1 .0
 
 upper-part-returns-2 : (t : ℕ) → upper-part-lts.Need-returns-2 (upper-part-claims t) (upper-part-at t) upper-part.Post
 upper-part-returns-2 t c =
     let b2 = c .before .before in
     let b6 = b2 .before .before .before .before in
     let s = b6 .before .before .before in
-    right-stays readable-one (s .pre .1 .0) (b2 .upper-part .ensures) (b6 .right-of .ensures) (s .pre .1 .1) refl
+    right-stays (readable _) (s .pre .1 .0) (b2 .upper-part .ensures) (b6 .right-of .ensures) (s .pre .1 .1) refl
 
 upper-part-lower-part-requires : (t : ℕ)
     → upper-part-lts.Need-lower-part-requires (upper-part-claims t) (upper-part-at t) upper-part.Post
 upper-part-lower-part-requires t c κs =
     let b3 = c .before .before .before in
     let s = b3 .before .before .before in
-    let (less, down) = down-right readable-one (s .pre .1 .0) (b3 .right-of .ensures) (s .pre .1 .2) in
+    let (less, down) = down-right (readable _) (s .pre .1 .0) (b3 .right-of .ensures) (s .pre .1 .2) in
     (falls-below (s .pre .0) less, (c .before .before .if1 .left, c .before .if2 .left, down))
 
 upper-part-link-of-requires : (t : ℕ)
@@ -249,9 +252,10 @@ upper-part-store-right-requires t c κs =
     let b9 = b5 .before .before .before .before in
     let s = b9 .before .before .before in
     let made = b5 .lower-part in
-    let (less, down) = down-right readable-one (s .pre .1 .0) (b9 .right-of .ensures) (s .pre .1 .2) in
-    let small = parts-small readable-one (made .ensures) down in (
-      in-kept (formOne .cell) (made .kept .0) (at-in readable-one (s .pre .1 .0) (s .pre .1 .2)),
+    let (less, down) = down-right (readable _) (s .pre .1 .0) (b9 .right-of .ensures) (s .pre .1 .2) in
+    let small = parts-small (readable _) (made .ensures) down in
+    let few = few-links (s .args .form) in (
+      in-kept (formOf (s .args .form) .cell) (made .kept .1 .0) (at-in (readable _) (s .pre .1 .0) (s .pre .1 .2)),
       (rw (c .before .link-of .ensures) (small .0), omega (arith, c .count-of .ensures, small .2)),
     )
 
@@ -262,8 +266,9 @@ upper-part-with-count-requires t c κs =
     let b8 = b2 .before .before .before .before .before .before in
     let b12 = b8 .before .before .before .before in
     let s = b12 .before .before .before in
-    let (less, down) = down-right readable-one (s .pre .1 .0) (b12 .right-of .ensures) (s .pre .1 .2) in
-    let small = parts-small readable-one (b8 .lower-part .ensures) down in
+    let (less, down) = down-right (readable _) (s .pre .1 .0) (b12 .right-of .ensures) (s .pre .1 .2) in
+    let small = parts-small (readable _) (b8 .lower-part .ensures) down in
+    let few = few-links (s .args .form) in
     (omega (arith, small .1), omega (arith, b2 .store-right .ensures .1, b2 .before .count-of .ensures, small .2))
 
 upper-part-same-length-3 : (t : ℕ)
@@ -271,7 +276,7 @@ upper-part-same-length-3 : (t : ℕ)
 upper-part-same-length-3 t c =
     let b3 = c .before .before .before in
     let b9 = b3 .before .before .before .before .before .before in
-    b3 .store-right .kept .0 ∙ b9 .lower-part .kept .0
+    b3 .store-right .kept .1 .0 ∙ b9 .lower-part .kept .1 .0
 
 upper-part-returns-3 : (t : ℕ) → upper-part-lts.Need-returns-3 (upper-part-claims t) (upper-part-at t) upper-part.Post
 upper-part-returns-3 t c =
@@ -282,8 +287,8 @@ upper-part-returns-3 t c =
     let b13 = b11 .before .before in
     let s = b13 .before .before .before in
     let (put, more) = b3 .store-right .ensures in
-    upper-read readable-one (c .with-count .result) (c .with-count .ensures)
-    (right-turns readable-one (s .pre .1 .0) (b9 .lower-part .ensures) (b13 .right-of .ensures) (s .pre .1 .1)
+    upper-read (readable _) (c .with-count .result) (c .with-count .ensures)
+    (right-turns (readable _) (s .pre .1 .0) (b9 .lower-part .ensures) (b13 .right-of .ensures) (s .pre .1 .1)
     (b11 .before .if1 .left) (b11 .if2 .left) (rw (b5 .link-of .ensures) at put)
     (omega (arith, more, b3 .before .count-of .ensures)))
 

@@ -4,8 +4,9 @@ use Prim.Native.Nat.{ℕ, _+_, _<_}
 use native.Mathlib.Omega.{arith}
 use mathlib.Core.Path.{_∙_}
 use denote.Ref.{now}
-use Rattle.stored_forms.specs.Tree.{formOne}
-use Rattle.stored_forms.proofs.NodeLaws.{readable-one}
+use Rattle.words.specs.Lists.{Words}
+use Rattle.stored_forms.specs.Tree.{Form, formOf}
+use Rattle.stored_forms.proofs.NodeLaws.{readable}
 use borrow.Fn.Kinds.{In}
 use borrow.Fn.PlainCycle.{Measures, is, falls, and}
 use Rattle.free_tree.proofs.Numbers.{read-le, read-lt, falls-below, in-kept}
@@ -26,11 +27,14 @@ use Rattle.tree_nodes.proofs.set_right.Reads as set-right-reads
 use Rattle.free_tree.proofs.+over_left+over_right.{statement}
 use Rattle.free_tree.proofs.+over_left+over_right.Tie.{close}
 
+abbrev measure : Form → Words → ℕ → ℕ → ℕ
+measure F m a b = count F m a + count F m b
+
 abbrev μ-over-left : Measures 1 over-left-kinds.ps ℕ
-μ-over-left κs a = count formOne (now (a .0)) (a .1 .0) + count formOne (now (a .0)) (a .1 .1 .0)
+μ-over-left κs a = measure (formOf (a .0)) (now (a .1 .0)) (a .1 .1 .0) (a .1 .1 .1 .0)
 
 abbrev μ-over-right : Measures 1 over-right-kinds.ps ℕ
-μ-over-right κs a = count formOne (now (a .0)) (a .1 .0) + count formOne (now (a .0)) (a .1 .1 .0)
+μ-over-right κs a = measure (formOf (a .0)) (now (a .1 .0)) (a .1 .1 .0) (a .1 .1 .1 .0)
 
 abbrev over-left-at : ℕ → In 1 over-left-kinds.ps
 over-left-at t = and 1 over-left-kinds.ps (is 1 over-left-kinds.ps μ-over-left t) over-left.Pre
@@ -77,36 +81,36 @@ over-right-claims t = (
 )
 
 over-left-sub-c : (t : ℕ) → over-left-lts.Need-sub-c (over-left-claims t) (over-left-at t) over-left.Post
-over-left-sub-c t c = let r = left-roots readable-one (c .before .pre .1) .left in omega arith
+over-left-sub-c t c = let r = left-roots (readable _) (c .before .pre .1) .left in omega arith
 
 over-left-right-of-requires : (t : ℕ)
     → over-left-lts.Need-right-of-requires (over-left-claims t) (over-left-at t) over-left.Post
-over-left-right-of-requires t c κs = left-roots readable-one (c .before .before .pre .1) .left-in
+over-left-right-of-requires t c κs = left-roots (readable _) (c .before .before .pre .1) .left-in
 
 over-left-set-right-requires : (t : ℕ)
     → over-left-lts.Need-set-right-requires (over-left-claims t) (over-left-at t) over-left.Post
 over-left-set-right-requires t c κs =
-    let r = left-roots readable-one (c .before .before .before .before .before .pre .1) in
+    let r = left-roots (readable _) (c .before .before .before .before .before .pre .1) in
     (r .left-in, r .right-small)
 
 over-left-same-length : (t : ℕ) → over-left-lts.Need-same-length (over-left-claims t) (over-left-at t) over-left.Post
-over-left-same-length t c = c .before .before .set-right .kept .0
+over-left-same-length t c = c .before .before .set-right .kept .1 .0
 
 over-left-returns : (t : ℕ) → over-left-lts.Need-returns (over-left-claims t) (over-left-at t) over-left.Post
 over-left-returns t c =
     let d = c .before .before in
-    left-end readable-one (d .before .before .before .right-of .ensures) (d .before .before .if1 .taken)
+    left-end (readable _) (d .before .before .before .right-of .ensures) (d .before .before .if1 .taken)
     (d .set-right .ensures)
 
 over-left-sub-length-of : (t : ℕ)
     → over-left-lts.Need-sub-length-of (over-left-claims t) (over-left-at t) over-left.Post
 over-left-sub-length-of t c =
-    let r = left-roots readable-one (c .before .before .before .before .before .pre .1) .right in omega arith
+    let r = left-roots (readable _) (c .before .before .before .before .before .pre .1) .right in omega arith
 
 over-left-length-of-requires : (t : ℕ)
     → over-left-lts.Need-length-of-requires (over-left-claims t) (over-left-at t) over-left.Post
 over-left-length-of-requires t c κs =
-    left-roots readable-one (c .before .before .before .before .before .pre .1) .right-in
+    left-roots (readable _) (c .before .before .before .before .before .pre .1) .right-in
 
 over-left-sub-length-of-2 : (t : ℕ)
     → over-left-lts.Need-sub-length-of-2 (over-left-claims t) (over-left-at t) over-left.Post
@@ -117,8 +121,8 @@ over-left-length-of-requires-2 : (t : ℕ)
 over-left-length-of-requires-2 t c κs =
     let d = c .before .before .before in
     let (less, (ta, tb, w)) =
-    left-inner readable-one (d .before .right-of .ensures) (d .before .before .before .before .pre .1) in
-    at-in readable-one (d .if1 .left) (ta, w .left)
+    left-inner (readable _) (d .before .right-of .ensures) (d .before .before .before .before .pre .1) in
+    at-in (readable _) (d .if1 .left) (ta, w .left)
 
 over-left-over-left-requires : (t : ℕ)
     → over-left-lts.Need-over-left-requires (over-left-claims t) (over-left-at t) over-left.Post
@@ -126,11 +130,11 @@ over-left-over-left-requires t c κs =
     let d = c .before in
     let s = d .before .before .before .before .before .before .before .before .before in
     let (less, (ta, tb, w)) =
-    left-inner readable-one (d .before .before .before .before .before .before .right-of .ensures) (s .pre .1) in
+    left-inner (readable _) (d .before .before .before .before .before .before .right-of .ensures) (s .pre .1) in
     let h = read-le (d .before .before .before .length-of .ensures) (d .before .length-of2 .ensures) (d .if2 .taken) in
-    let z = left-roots readable-one (s .pre .1) .right in (
+    let z = left-roots (readable _) (s .pre .1) .right in (
       falls-below (s .pre .0) less,
-      (ta, tb, left-wins readable-one (d .before .before .before .before .before .if1 .left) z h w),
+      (ta, tb, left-wins (readable _) (d .before .before .before .before .before .if1 .left) z h w),
     )
 
 over-left-over-right-requires : (t : ℕ)
@@ -139,11 +143,11 @@ over-left-over-right-requires t c κs =
     let d = c .before in
     let s = d .before .before .before .before .before .before .before .before .before in
     let (less, (ta, tb, w)) =
-    left-inner readable-one (d .before .before .before .before .before .before .right-of .ensures) (s .pre .1) in
+    left-inner (readable _) (d .before .before .before .before .before .before .right-of .ensures) (s .pre .1) in
     let h = read-lt (d .before .length-of2 .ensures) (d .before .before .before .length-of .ensures) (d .if2 .left) in
-    let z = left-roots readable-one (s .pre .1) .right in (
+    let z = left-roots (readable _) (s .pre .1) .right in (
       falls-below (s .pre .0) less,
-      (ta, tb, right-wins readable-one (d .before .before .before .before .before .if1 .left) z h w),
+      (ta, tb, right-wins (readable _) (d .before .before .before .before .before .if1 .left) z h w),
     )
 
 over-left-set-right-requires-2 : (t : ℕ)
@@ -151,55 +155,56 @@ over-left-set-right-requires-2 : (t : ℕ)
 over-left-set-right-requires-2 t c κs =
     let d = c .before .before .before in
     let s = d .before .before .before .before .before .before .before .before .before .before .before in
-    let r = left-roots readable-one (s .pre .1) in
-    (in-kept (formOne .cell) (d .over-right .kept .0) (r .left-in), r .right-small)
+    let r = left-roots (readable _) (s .pre .1) in
+    (in-kept (formOf (s .args .form) .cell) (d .over-right .kept .1 .0) (r .left-in), r .right-small)
 
 over-left-same-length-2 : (t : ℕ)
     → over-left-lts.Need-same-length-2 (over-left-claims t) (over-left-at t) over-left.Post
-over-left-same-length-2 t c = c .before .before .over-left .kept .0
+over-left-same-length-2 t c = c .before .before .over-left .kept .1 .0
 
 over-left-returns-2 : (t : ℕ) → over-left-lts.Need-returns-2 (over-left-claims t) (over-left-at t) over-left.Post
 over-left-returns-2 t c =
     let d = c .before .before .before .before in
     let h = read-le (d .before .before .before .length-of .ensures) (d .before .length-of2 .ensures) (d .if2 .taken) in
-    left-left readable-one (d .before .before .before .before .before .before .right-of .ensures)
+    left-left (readable _) (d .before .before .before .before .before .before .right-of .ensures)
     (d .before .before .before .before .before .if1 .left) h (c .before .before .over-left .ensures)
 
 over-left-same-length-3 : (t : ℕ)
     → over-left-lts.Need-same-length-3 (over-left-claims t) (over-left-at t) over-left.Post
 over-left-same-length-3 t c =
-    c .before .before .set-right2 .kept .0 ∙ c .before .before .before .before .before .before .over-right .kept .0
+    let b2 = c .before .before in
+    b2 .set-right2 .kept .1 .0 ∙ b2 .before .before .before .before .over-right .kept .1 .0
 
 over-left-returns-3 : (t : ℕ) → over-left-lts.Need-returns-3 (over-left-claims t) (over-left-at t) over-left.Post
 over-left-returns-3 t c =
     let d = c .before .before .before .before .before .before .before .before in
     let h = read-lt (d .before .length-of2 .ensures) (d .before .before .before .length-of .ensures) (d .if2 .left) in
-    left-right readable-one (d .before .before .before .before .before .before .right-of .ensures)
+    left-right (readable _) (d .before .before .before .before .before .before .right-of .ensures)
     (d .before .before .before .before .before .if1 .left) h
     (c .before .before .before .before .before .before .over-right .ensures)
     (c .before .before .set-right2 .ensures)
 
 over-right-sub-c : (t : ℕ) → over-right-lts.Need-sub-c (over-right-claims t) (over-right-at t) over-right.Post
-over-right-sub-c t c = let r = right-roots readable-one (c .before .pre .1) .right in omega arith
+over-right-sub-c t c = let r = right-roots (readable _) (c .before .pre .1) .right in omega arith
 
 over-right-left-of-requires : (t : ℕ)
     → over-right-lts.Need-left-of-requires (over-right-claims t) (over-right-at t) over-right.Post
-over-right-left-of-requires t c κs = right-roots readable-one (c .before .before .pre .1) .right-in
+over-right-left-of-requires t c κs = right-roots (readable _) (c .before .before .pre .1) .right-in
 
 over-right-set-left-requires : (t : ℕ)
     → over-right-lts.Need-set-left-requires (over-right-claims t) (over-right-at t) over-right.Post
 over-right-set-left-requires t c κs =
-    let r = right-roots readable-one (c .before .before .before .before .before .pre .1) in
+    let r = right-roots (readable _) (c .before .before .before .before .before .pre .1) in
     (r .right-in, r .left-small)
 
 over-right-same-length : (t : ℕ)
     → over-right-lts.Need-same-length (over-right-claims t) (over-right-at t) over-right.Post
-over-right-same-length t c = c .before .before .set-left .kept .0
+over-right-same-length t c = c .before .before .set-left .kept .1 .0
 
 over-right-returns : (t : ℕ) → over-right-lts.Need-returns (over-right-claims t) (over-right-at t) over-right.Post
 over-right-returns t c =
     let d = c .before .before in
-    right-end readable-one (d .before .before .before .left-of .ensures) (d .before .before .if1 .taken)
+    right-end (readable _) (d .before .before .before .left-of .ensures) (d .before .before .if1 .taken)
     (d .set-left .ensures)
 
 over-right-sub-length-of : (t : ℕ)
@@ -211,19 +216,19 @@ over-right-length-of-requires : (t : ℕ)
 over-right-length-of-requires t c κs =
     let d = c .before in
     let (less, (ta, tb, w)) =
-    right-inner readable-one (d .before .left-of .ensures) (d .before .before .before .before .pre .1) in
-    at-in readable-one (d .if1 .left) (tb, w .right)
+    right-inner (readable _) (d .before .left-of .ensures) (d .before .before .before .before .pre .1) in
+    at-in (readable _) (d .if1 .left) (tb, w .right)
 
 over-right-sub-length-of-2 : (t : ℕ)
     → over-right-lts.Need-sub-length-of-2 (over-right-claims t) (over-right-at t) over-right.Post
 over-right-sub-length-of-2 t c =
-    let r = right-roots readable-one (c .before .before .before .before .before .before .before .pre .1) .left in
+    let r = right-roots (readable _) (c .before .before .before .before .before .before .before .pre .1) .left in
     omega arith
 
 over-right-length-of-requires-2 : (t : ℕ)
     → over-right-lts.Need-length-of-requires-2 (over-right-claims t) (over-right-at t) over-right.Post
 over-right-length-of-requires-2 t c κs =
-    right-roots readable-one (c .before .before .before .before .before .before .before .pre .1) .left-in
+    right-roots (readable _) (c .before .before .before .before .before .before .before .pre .1) .left-in
 
 over-right-over-left-requires : (t : ℕ)
     → over-right-lts.Need-over-left-requires (over-right-claims t) (over-right-at t) over-right.Post
@@ -231,11 +236,11 @@ over-right-over-left-requires t c κs =
     let d = c .before in
     let s = d .before .before .before .before .before .before .before .before .before in
     let (less, (ta, tb, w)) =
-    right-inner readable-one (d .before .before .before .before .before .before .left-of .ensures) (s .pre .1) in
+    right-inner (readable _) (d .before .before .before .before .before .before .left-of .ensures) (s .pre .1) in
     let h = read-le (d .before .before .before .length-of .ensures) (d .before .length-of2 .ensures) (d .if2 .taken) in
-    let z = right-roots readable-one (s .pre .1) .left in (
+    let z = right-roots (readable _) (s .pre .1) .left in (
       falls-below (s .pre .0) less,
-      (ta, tb, left-wins readable-one z (d .before .before .before .before .before .if1 .left) h w),
+      (ta, tb, left-wins (readable _) z (d .before .before .before .before .before .if1 .left) h w),
     )
 
 over-right-set-left-requires-2 : (t : ℕ)
@@ -243,8 +248,8 @@ over-right-set-left-requires-2 : (t : ℕ)
 over-right-set-left-requires-2 t c κs =
     let d = c .before .before .before in
     let s = d .before .before .before .before .before .before .before .before .before .before .before in
-    let r = right-roots readable-one (s .pre .1) in
-    (in-kept (formOne .cell) (d .over-left .kept .0) (r .right-in), r .left-small)
+    let r = right-roots (readable _) (s .pre .1) in
+    (in-kept (formOf (s .args .form) .cell) (d .over-left .kept .1 .0) (r .right-in), r .left-small)
 
 over-right-over-right-requires : (t : ℕ)
     → over-right-lts.Need-over-right-requires (over-right-claims t) (over-right-at t) over-right.Post
@@ -252,36 +257,36 @@ over-right-over-right-requires t c κs =
     let d = c .before in
     let s = d .before .before .before .before .before .before .before .before .before in
     let (less, (ta, tb, w)) =
-    right-inner readable-one (d .before .before .before .before .before .before .left-of .ensures) (s .pre .1) in
+    right-inner (readable _) (d .before .before .before .before .before .before .left-of .ensures) (s .pre .1) in
     let h = read-lt (d .before .length-of2 .ensures) (d .before .before .before .length-of .ensures) (d .if2 .left) in
-    let z = right-roots readable-one (s .pre .1) .left in (
+    let z = right-roots (readable _) (s .pre .1) .left in (
       falls-below (s .pre .0) less,
-      (ta, tb, right-wins readable-one z (d .before .before .before .before .before .if1 .left) h w),
+      (ta, tb, right-wins (readable _) z (d .before .before .before .before .before .if1 .left) h w),
     )
 
 over-right-same-length-2 : (t : ℕ)
     → over-right-lts.Need-same-length-2 (over-right-claims t) (over-right-at t) over-right.Post
 over-right-same-length-2 t c =
-    c .before .before .set-left2 .kept .0 ∙ c .before .before .before .before .before .before .over-left .kept .0
+    c .before .before .set-left2 .kept .1 .0 ∙ c .before .before .before .before .before .before .over-left .kept .1 .0
 
 over-right-returns-2 : (t : ℕ) → over-right-lts.Need-returns-2 (over-right-claims t) (over-right-at t) over-right.Post
 over-right-returns-2 t c =
     let d = c .before .before .before .before .before .before .before .before in
     let h = read-le (d .before .before .before .length-of .ensures) (d .before .length-of2 .ensures) (d .if2 .taken) in
-    right-left readable-one (d .before .before .before .before .before .before .left-of .ensures)
+    right-left (readable _) (d .before .before .before .before .before .before .left-of .ensures)
     (d .before .before .before .before .before .if1 .left) h
     (c .before .before .before .before .before .before .over-left .ensures)
     (c .before .before .set-left2 .ensures)
 
 over-right-same-length-3 : (t : ℕ)
     → over-right-lts.Need-same-length-3 (over-right-claims t) (over-right-at t) over-right.Post
-over-right-same-length-3 t c = c .before .before .over-right .kept .0
+over-right-same-length-3 t c = c .before .before .over-right .kept .1 .0
 
 over-right-returns-3 : (t : ℕ) → over-right-lts.Need-returns-3 (over-right-claims t) (over-right-at t) over-right.Post
 over-right-returns-3 t c =
     let d = c .before .before .before .before in
     let h = read-lt (d .before .length-of2 .ensures) (d .before .before .before .length-of .ensures) (d .if2 .left) in
-    right-right readable-one (d .before .before .before .before .before .before .left-of .ensures)
+    right-right (readable _) (d .before .before .before .before .before .before .left-of .ensures)
     (d .before .before .before .before .before .if1 .left) h (c .before .before .over-right .ensures)
 
 pub +over-left+over-right-spec : {M : Type 1} → statement M

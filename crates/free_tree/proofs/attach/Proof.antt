@@ -1,9 +1,11 @@
 -- `free_tree::attach` meets its contract. Assumes nothing.
 -- In a need, `b3` is the place three before its own.
 use borrow.Author.Needs.{needs}
+use native.Mathlib.Omega.{arith}
 use mathlib.Core.Path.{_∙_}
 use denote.Ref.{now}
-use Rattle.stored_forms.specs.Tree.{formOne}
+use Rattle.stored_forms.specs.Tree.{formOf}
+use Rattle.tree_nodes.proofs.FormLaws.{few-links}
 use Rattle.free_tree.proofs.PlaceSteps.{attached-none, attached-left, attached-right}
 use Rattle.free_tree.proofs.attach.Statement.{statement}
 use Rattle.free_tree.proofs.attach.Tie as tie
@@ -12,13 +14,16 @@ add-with-count : tie.Need-add-with-count
 add-with-count c = search needs
 
 with-count-requires : tie.Need-with-count-requires
-with-count-requires c κs = search needs
+with-count-requires c κs =
+    let s = c .before .before in
+    let (link, root, count) = s .pre .1 in
+    (omega (arith, few-links (s .args .form)), count)
 
 returns : tie.Need-returns
 returns c =
     let s = c .before .before .before .args in
     let (link, count) = c .with-count .ensures in
-    (attached-none formOne (now (s .arena)) (s .root) (s .x) (s .q) (c .before .if1 .taken) link, count)
+    (attached-none (formOf (s .form)) (now (s .arena)) (s .root) (s .x) (s .q) (c .before .if1 .taken) link, count)
 
 sub-c : tie.Need-sub-c
 sub-c c = search needs
@@ -27,7 +32,11 @@ store-right-requires : tie.Need-store-right-requires
 store-right-requires c κs = search needs
 
 with-count-requires-2 : tie.Need-with-count-requires-2
-with-count-requires-2 c κs = search needs
+with-count-requires-2 c κs =
+    let b2 = c .before .before in
+    let s = b2 .before .before .before .before .before in
+    let (link, root, count) = s .pre .1 in
+    (omega (arith, few-links (s .args .form)), omega (arith, b2 .store-right .ensures .1))
 
 same-length : tie.Need-same-length
 same-length c = search needs
@@ -44,7 +53,11 @@ store-left-requires : tie.Need-store-left-requires
 store-left-requires c κs = search needs
 
 with-count-requires-3 : tie.Need-with-count-requires-3
-with-count-requires-3 c κs = search needs
+with-count-requires-3 c κs =
+    let b2 = c .before .before in
+    let s = b2 .before .before .before .before .before in
+    let (link, root, count) = s .pre .1 in
+    (omega (arith, few-links (s .args .form)), omega (arith, b2 .store-left .ensures .1))
 
 same-length-2 : tie.Need-same-length-2
 same-length-2 c = search needs

@@ -2,7 +2,7 @@
 -- nothing.
 -- In a need, `b3` is the place three before its own.
 use borrow.Author.Needs.{needs}
-use Rattle.stored_forms.proofs.NodeLaws.{readable-one}
+use Rattle.stored_forms.proofs.NodeLaws.{readable}
 use Rattle.free_tree.proofs.PlaceSteps.{place-kept}
 use Rattle.free_tree.proofs.ChangeSteps.{deletes, delete-none, placed-seat, seat-deleted}
 use Rattle.free_tree.proofs.delete.Statement.{statement}
@@ -17,13 +17,13 @@ same-length c = search needs
 returns : tie.Need-returns
 returns c =
     let x = c .before .before .before .before .args .x in
-    place-kept readable-one (deletes readable-one x) (c .before .place-of .ensures)
-    (delete-none readable-one x (c .if1 .taken))
+    place-kept (readable _) (deletes (readable _) x) (c .before .place-of .ensures)
+    (delete-none (readable _) x (c .if1 .taken))
 
 delete-at-requires : tie.Need-delete-at-requires
 delete-at-requires c κs =
     let s = c .before .before .before .before .before in
-    (s .pre, placed-seat readable-one (c .before .before .place-of .ensures) (c .before .if1 .left) (s .pre))
+    (s .pre, placed-seat (readable _) (c .before .before .place-of .ensures) (c .before .if1 .left) (s .pre))
 
 same-length-2 : tie.Need-same-length-2
 same-length-2 c = search needs
@@ -33,7 +33,7 @@ returns-2 c =
     let b2 = c .before .before in
     let b4 = b2 .before .before in
     let b5 = b4 .before in
-    seat-deleted readable-one (b5 .place-of .ensures) (b4 .if1 .left) (b2 .delete-at .ensures)
+    seat-deleted (readable _) (b5 .place-of .ensures) (b4 .if1 .left) (b2 .delete-at .ensures)
 
 pub delete-spec : {M : Type 1} → statement M
 delete-spec =

@@ -4,7 +4,7 @@
 use borrow.Author.Needs.{needs}
 use native.Mathlib.Omega.{arith}
 use Prim.Native.Nat.{_-_}
-use Rattle.stored_forms.proofs.NodeLaws.{readable-one}
+use Rattle.stored_forms.proofs.NodeLaws.{readable}
 use Rattle.free_tree.proofs.StepLaws.{at-in}
 use Rattle.free_tree.proofs.PlaceSteps.{place-at, place-ready, place-attached}
 use Rattle.free_tree.proofs.ChangeSteps.{deletes, sons-beside, delete-here}
@@ -17,20 +17,20 @@ sub-c c = search needs
 left-of-requires : tie.Need-left-of-requires
 left-of-requires c κs =
     let s = c .before .before in
-    at-in readable-one (s .pre .1 .0) (place-at readable-one (s .pre .1 .1) (s .pre .0))
+    at-in (readable _) (s .pre .1 .0) (place-at (readable _) (s .pre .1 .1) (s .pre .0))
 
 right-of-requires : tie.Need-right-of-requires
 right-of-requires c κs =
     let s = c .before .before .before .before in
-    at-in readable-one (s .pre .1 .0) (place-at readable-one (s .pre .1 .1) (s .pre .0))
+    at-in (readable _) (s .pre .1 .0) (place-at (readable _) (s .pre .1 .1) (s .pre .0))
 
 join-trees-requires : tie.Need-join-trees-requires
 join-trees-requires c κs =
     let b1 = c .before in
     let b3 = b1 .before .before in
     let s = b3 .before .before .before in
-    sons-beside readable-one (s .pre .1 .0) (b3 .left-of .ensures) (b1 .right-of .ensures)
-    (place-at readable-one (s .pre .1 .1) (s .pre .0))
+    sons-beside (readable _) (s .pre .1 .0) (b3 .left-of .ensures) (b1 .right-of .ensures)
+    (place-at (readable _) (s .pre .1 .1) (s .pre .0))
 
 attach-requires : tie.Need-attach-requires
 attach-requires c κs =
@@ -40,8 +40,8 @@ attach-requires c κs =
     let s = b7 .before .before .before in
     let (z, placed) = s .pre .1 in
     let x = s .args .at - 1 in
-    let made = delete-here readable-one z (b7 .left-of .ensures) (b5 .right-of .ensures) x (b3 .join-trees .ensures) in
-    let (inside, link, root) = place-ready readable-one (deletes readable-one x) placed made (s .pre .0) in
+    let made = delete-here (readable _) z (b7 .left-of .ensures) (b5 .right-of .ensures) x (b3 .join-trees .ensures) in
+    let (inside, link, root) = place-ready (readable _) (deletes (readable _) x) placed made (s .pre .0) in
     (inside, (link, root, omega arith))
 
 link-of-requires : tie.Need-link-of-requires
@@ -60,8 +60,8 @@ returns c =
     let (z, placed) = s .pre .1 in
     let x = s .args .at - 1 in
     rw (c .link-of .ensures)
-    (place-attached readable-one (deletes readable-one x) placed
-    (delete-here readable-one z (b11 .left-of .ensures) (b9 .right-of .ensures) x (b7 .join-trees .ensures))
+    (place-attached (readable _) (deletes (readable _) x) placed
+    (delete-here (readable _) z (b11 .left-of .ensures) (b9 .right-of .ensures) x (b7 .join-trees .ensures))
     (b3 .attach .ensures .0))
 
 pub delete-at-spec : {M : Type 1} → statement M

@@ -4,7 +4,8 @@
 use borrow.Author.Needs.{needs}
 use native.Mathlib.Omega.{arith}
 use Rattle.ledger.specs.Runs.{run}
-use Rattle.stored_forms.proofs.NodeLaws.{readable-one}
+use Rattle.stored_forms.proofs.NodeLaws.{readable}
+use Rattle.tree_nodes.proofs.FormLaws.{few-links}
 use Rattle.free_tree.proofs.PlaceSteps.{place-ready, place-attached, place-changed, place-there}
 use Rattle.free_tree.proofs.ChangeSteps.{inserts, put-few, insert-here, insert-count}
 use Rattle.free_tree.proofs.insert.Statement.{statement}
@@ -17,21 +18,25 @@ put-over-requires : tie.Need-put-over-requires
 put-over-requires c κs =
     let b1 = c .before in
     let s = b1 .before .before .before in
-    place-there readable-one (inserts readable-one (run (s .args .x) (s .args .n))) (b1 .place-for .ensures) (s .pre)
+    place-there (readable _) (inserts (readable _) (run (s .args .x) (s .args .n))) (b1 .place-for .ensures) (s .pre)
 
 add-attach : tie.Need-add-attach
-add-attach c = search needs
+add-attach c =
+    let s = c .before .before .before .before .before .before .before .before in
+    let (t, room) = s .pre in
+    omega (arith, few-links (s .args .form), room .filled, room .inside, room .tree .small)
 
 attach-requires : tie.Need-attach-requires
 attach-requires c κs =
     let b3 = c .before .before .before in
     let b5 = b3 .before .before in
     let s = b5 .before .before .before in
-    let local = inserts readable-one (run (s .args .x) (s .args .n)) in
+    let local = inserts (readable _) (run (s .args .x) (s .args .n)) in
     let placed = b5 .place-for .ensures in
     let put = b3 .put-over .ensures in
-    let (inside, link, root) = place-ready readable-one local placed (insert-here readable-one put) (s .pre) in
-    (inside, (link, root, omega (arith, put-few readable-one put (place-there readable-one local placed (s .pre)))))
+    let (inside, link, root) = place-ready (readable _) local placed (insert-here (readable _) put) (s .pre) in
+    let few = put-few (readable _) put (place-there (readable _) local placed (s .pre)) in
+    (inside, (link, root, omega (arith, few, few-links (s .args .form))))
 
 same-length : tie.Need-same-length
 same-length c = search needs
@@ -42,12 +47,12 @@ returns c t p =
     let b6 = b2 .before .before .before .before in
     let b8 = b6 .before .before in
     let s = b8 .before .before .before in
-    let local = inserts readable-one (run (s .args .x) (s .args .n)) in
+    let local = inserts (readable _) (run (s .args .x) (s .args .n)) in
     let placed = b8 .place-for .ensures in
     let put = b6 .put-over .ensures in
     let (whole, count) = b2 .attach .ensures in (
-      place-attached readable-one local placed (insert-here readable-one put) whole t p,
-      place-changed readable-one local placed (insert-count readable-one put count) t p,
+      place-attached (readable _) local placed (insert-here (readable _) put) whole t p,
+      place-changed (readable _) local placed (insert-count (readable _) put count) t p,
     )
 
 pub insert-spec : {M : Type 1} → statement M

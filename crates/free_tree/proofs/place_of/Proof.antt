@@ -4,9 +4,8 @@ use native.Mathlib.Omega.{arith}
 use mathlib.Core.Path.{refl}
 use borrow.Author.Tests.{eq-eqb}
 use Rattle.words.proofs.Tests.{eqb-ne}
-use Rattle.stored_forms.specs.Tree.{formOne}
-use Rattle.stored_forms.proofs.NodeLaws.{readable-one}
-use Rattle.tree_nodes.specs.Nodes.{links}
+use Rattle.stored_forms.specs.Tree.{formOf}
+use Rattle.stored_forms.proofs.NodeLaws.{readable}
 use Rattle.free_tree.specs.Shapes.{beginsAt}
 use Rattle.free_tree.proofs.StepLaws.{count, at-in, down-left, down-right}
 use Rattle.free_tree.proofs.PlaceSteps.{Seeking, seek-start, seek-tree, seek-end, seek-stop}
@@ -15,13 +14,13 @@ use Rattle.free_tree.proofs.place_of.Statement.{statement}
 use Rattle.free_tree.proofs.place_of.Tie as tie
 
 abbrev Inv-loop : tie.InvT-loop
-Inv-loop arena l x at₀ over₀ at over = Seeking formOne links arena l (beginsAt x) x at over
+Inv-loop form arena l x at₀ over₀ at over = Seeking (formOf form) arena l (beginsAt x) x at over
 
 abbrev μ-loop : tie.MeasureT-loop
-μ-loop arena l x at₀ over₀ at over = count formOne arena at
+μ-loop form arena l x at₀ over₀ at over = count (formOf form) arena at
 
 loop-holds : tie.Need-loop-holds Inv-loop μ-loop
-loop-holds c = let x = c .before .args .x in seek-start readable-one (beginsAt x) x
+loop-holds c = let x = c .before .args .x in seek-start (readable _) (beginsAt x) x
 
 sub-c : tie.Need-sub-c Inv-loop μ-loop
 sub-c c = omega arith
@@ -29,49 +28,49 @@ sub-c c = omega arith
 returns : tie.Need-returns Inv-loop μ-loop
 returns c =
     let d = c .before in
-    seek-stop readable-one (d .before .loop .inv) (d .loop-test .taken) refl
+    seek-stop (readable _) (d .before .loop .inv) (d .loop-test .taken) refl
     (eq-eqb _ (d .before .before .before .args .x) (c .if1 .taken))
 
 left-of-requires : tie.Need-left-of-requires Inv-loop μ-loop
 left-of-requires c κs =
     let d = c .before .before in
-    at-in readable-one (d .loop-test .taken)
-    (seek-tree readable-one (d .before .loop .inv) (d .before .before .before .pre))
+    at-in (readable _) (d .loop-test .taken)
+    (seek-tree (readable _) (d .before .loop .inv) (d .before .before .before .pre))
 
 loop-less : tie.Need-loop-less Inv-loop μ-loop
 loop-less c =
     let d = c .before .before .before in
-    down-left readable-one (d .loop-test .taken) (c .left-of .ensures)
-    (seek-tree readable-one (d .before .loop .inv) (d .before .before .before .pre)) .0
+    down-left (readable _) (d .loop-test .taken) (c .left-of .ensures)
+    (seek-tree (readable _) (d .before .loop .inv) (d .before .before .before .pre)) .0
 
 loop-again : tie.Need-loop-again Inv-loop μ-loop
 loop-again c =
     let d = c .before .before .before in
-    seek-left readable-one (d .before .loop .inv) (d .loop-test .taken) refl
+    seek-left (readable _) (d .before .loop .inv) (d .loop-test .taken) refl
     (eqb-ne _ (d .before .before .before .args .x) (c .before .before .if1 .left)) (c .left-of .ensures)
     (c .before .if2 .taken)
 
 right-of-requires : tie.Need-right-of-requires Inv-loop μ-loop
 right-of-requires c κs =
     let d = c .before .before in
-    at-in readable-one (d .loop-test .taken)
-    (seek-tree readable-one (d .before .loop .inv) (d .before .before .before .pre))
+    at-in (readable _) (d .loop-test .taken)
+    (seek-tree (readable _) (d .before .loop .inv) (d .before .before .before .pre))
 
 loop-less-2 : tie.Need-loop-less-2 Inv-loop μ-loop
 loop-less-2 c =
     let d = c .before .before .before in
-    down-right readable-one (d .loop-test .taken) (c .right-of .ensures)
-    (seek-tree readable-one (d .before .loop .inv) (d .before .before .before .pre)) .0
+    down-right (readable _) (d .loop-test .taken) (c .right-of .ensures)
+    (seek-tree (readable _) (d .before .loop .inv) (d .before .before .before .pre)) .0
 
 loop-again-2 : tie.Need-loop-again-2 Inv-loop μ-loop
 loop-again-2 c =
     let d = c .before .before .before in
-    seek-right readable-one (d .before .loop .inv) (d .loop-test .taken) refl
+    seek-right (readable _) (d .before .loop .inv) (d .loop-test .taken) refl
     (eqb-ne _ (d .before .before .before .args .x) (c .before .before .if1 .left)) (c .right-of .ensures)
     (c .before .if2 .left)
 
 returns-2 : tie.Need-returns-2 Inv-loop μ-loop
-returns-2 c = seek-end readable-one (c .before .loop .inv) (c .loop-test .left)
+returns-2 c = seek-end (readable _) (c .before .loop .inv) (c .loop-test .left)
 
 pub place-of-spec : {M : Type 1} → statement M
 place-of-spec =

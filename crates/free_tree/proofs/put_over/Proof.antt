@@ -4,7 +4,7 @@
 use borrow.Author.Needs.{needs}
 use native.Mathlib.Omega.{arith}
 use mathlib.Core.Path.{refl}
-use Rattle.stored_forms.proofs.NodeLaws.{readable-one}
+use Rattle.stored_forms.proofs.NodeLaws.{readable}
 use Rattle.tree_nodes.proofs.LinkLaws.{both-few}
 use Rattle.free_tree.proofs.PartSteps.{parts-none, parts-small}
 use Rattle.free_tree.proofs.ChangeSteps.{room-tree, parts-ready, put-over}
@@ -14,7 +14,7 @@ use Rattle.free_tree.proofs.put_over.Tie as tie
 put-first-requires : tie.Need-put-first-requires
 put-first-requires c κs =
     let s = c .before .before .before in
-    parts-ready readable-one (parts-none readable-one (s .args .x) (c .before .if1 .taken)) refl refl (s .pre)
+    parts-ready (readable _) (parts-none (readable _) (s .args .x) (c .before .if1 .taken)) refl refl (s .pre)
 
 same-length : tie.Need-same-length
 same-length c = search needs
@@ -24,7 +24,7 @@ returns c =
     let b2 = c .before .before in
     let b4 = b2 .before .before in
     let s = b4 .before .before in
-    put-over readable-one (parts-none readable-one (s .args .x) (b4 .if1 .taken)) (b2 .put-first .ensures)
+    put-over (readable _) (parts-none (readable _) (s .args .x) (b4 .if1 .taken)) (b2 .put-first .ensures)
     (omega arith)
 
 sub-if2 : tie.Need-sub-if2
@@ -33,7 +33,7 @@ sub-if2 c = search needs
 upper-part-requires : tie.Need-upper-part-requires
 upper-part-requires c κs =
     let s = c .before .before .before .before in
-    (c .before .before .if1 .left, c .before .if2 .taken, room-tree readable-one (s .pre))
+    (c .before .before .if1 .left, c .before .if2 .taken, room-tree (readable _) (s .pre))
 
 count-of-requires : tie.Need-count-of-requires
 count-of-requires c κs = search needs
@@ -45,7 +45,7 @@ put-first-requires-2 : tie.Need-put-first-requires-2
 put-first-requires-2 c κs =
     let b5 = c .before .before .before .before .before in
     let s = b5 .before .before .before .before .before in
-    parts-ready readable-one (b5 .upper-part .ensures) refl (c .link-of .ensures) (s .pre)
+    parts-ready (readable _) (b5 .upper-part .ensures) refl (c .link-of .ensures) (s .pre)
 
 add-result : tie.Need-add-result
 add-result c =
@@ -53,7 +53,7 @@ add-result c =
     let b5 = b2 .before .before .before in
     let b8 = b5 .before .before .before in
     let s = b8 .before .before .before .before .before in
-    let small = parts-small readable-one (b8 .upper-part .ensures) (room-tree readable-one (s .pre)) in
+    let small = parts-small (readable _) (b8 .upper-part .ensures) (room-tree (readable _) (s .pre)) in
     omega (
       arith,
       small .2,
@@ -70,13 +70,13 @@ returns-2 c =
     let b2 = c .before .before in
     let b5 = b2 .before .before .before in
     let b8 = b5 .before .before .before in
-    put-over readable-one (b8 .upper-part .ensures) (rw (b2 .before .link-of .ensures) at (b2 .put-first2 .ensures))
+    put-over (readable _) (b8 .upper-part .ensures) (rw (b2 .before .link-of .ensures) at (b2 .put-first2 .ensures))
     (omega (arith, b5 .count-of .ensures))
 
 lower-part-requires : tie.Need-lower-part-requires
 lower-part-requires c κs =
     let s = c .before .before .before .before in
-    (c .before .before .if1 .left, c .before .if2 .left, room-tree readable-one (s .pre))
+    (c .before .before .if1 .left, c .before .if2 .left, room-tree (readable _) (s .pre))
 
 count-of-requires-2 : tie.Need-count-of-requires-2
 count-of-requires-2 c κs = search needs
@@ -88,7 +88,7 @@ put-first-requires-3 : tie.Need-put-first-requires-3
 put-first-requires-3 c κs =
     let b5 = c .before .before .before .before .before in
     let s = b5 .before .before .before .before .before in
-    parts-ready readable-one (b5 .lower-part .ensures) (c .link-of2 .ensures) refl (s .pre)
+    parts-ready (readable _) (b5 .lower-part .ensures) (c .link-of2 .ensures) refl (s .pre)
 
 add-result-2 : tie.Need-add-result-2
 add-result-2 c =
@@ -96,7 +96,7 @@ add-result-2 c =
     let b5 = b2 .before .before .before in
     let b8 = b5 .before .before .before in
     let s = b8 .before .before .before .before .before in
-    let small = parts-small readable-one (b8 .lower-part .ensures) (room-tree readable-one (s .pre)) in
+    let small = parts-small (readable _) (b8 .lower-part .ensures) (room-tree (readable _) (s .pre)) in
     omega (
       arith,
       small .2,
@@ -113,7 +113,7 @@ returns-3 c =
     let b2 = c .before .before in
     let b5 = b2 .before .before .before in
     let b8 = b5 .before .before .before in
-    put-over readable-one (b8 .lower-part .ensures) (rw (b2 .before .link-of2 .ensures) at (b2 .put-first3 .ensures))
+    put-over (readable _) (b8 .lower-part .ensures) (rw (b2 .before .link-of2 .ensures) at (b2 .put-first3 .ensures))
     (omega (arith, b5 .count-of2 .ensures))
 
 pub put-over-spec : {M : Type 1} → statement M

@@ -5,9 +5,9 @@ use borrow.Author.Needs.{needs}
 use native.Mathlib.Omega.{arith}
 use denote.Ref.{now}
 use Prim.Native.Nat.{_-_}
-use Rattle.stored_forms.specs.Tree.{formOne}
-use Rattle.stored_forms.proofs.NodeLaws.{readable-one}
-use Rattle.tree_nodes.specs.Nodes.{links}
+use Rattle.stored_forms.specs.Tree.{formOf}
+use Rattle.stored_forms.proofs.NodeLaws.{readable}
+use Rattle.tree_nodes.proofs.FormLaws.{few-links}
 use Rattle.free_tree.proofs.StepLaws.{at-in}
 use Rattle.free_tree.proofs.PlaceSteps.{place-ready, place-attached}
 use Rattle.free_tree.proofs.ShrinkSteps.{LongerRoot, shrinks, root-tree, longer-place}
@@ -16,24 +16,24 @@ use Rattle.free_tree.proofs.shrink.Statement.{statement}
 use Rattle.free_tree.proofs.shrink.Tie as tie
 
 at-run : (s : tie.Start)
-    → LongerRoot formOne links (now (s .args .arena)) (s .args .at) (s .args .at - 1) (s .args .k)
-at-run s = longer-place readable-one (s .pre .1 .1) (s .pre .0)
+    → LongerRoot (formOf (s .args .form)) (now (s .args .arena)) (s .args .at) (s .args .at - 1) (s .args .k)
+at-run s = longer-place (readable _) (s .pre .1 .1) (s .pre .0)
 
 sub-c : tie.Need-sub-c
 sub-c c = search needs
 
 left-of-requires : tie.Need-left-of-requires
-left-of-requires c κs = let (z, t) = root-tree readable-one (at-run (c .before .before)) in at-in readable-one z t
+left-of-requires c κs = let (z, t) = root-tree (readable _) (at-run (c .before .before)) in at-in (readable _) z t
 
 right-of-requires : tie.Need-right-of-requires
 right-of-requires c κs =
     let b4 = c .before .before .before .before in
-    let (z, t) = root-tree readable-one (at-run b4) in at-in readable-one z t
+    let (z, t) = root-tree (readable _) (at-run b4) in at-in (readable _) z t
 
 length-of-requires : tie.Need-length-of-requires
 length-of-requires c κs =
     let b6 = c .before .before .before .before .before .before in
-    let (z, t) = root-tree readable-one (at-run b6) in at-in readable-one z t
+    let (z, t) = root-tree (readable _) (at-run b6) in at-in (readable _) z t
 
 cast-n : tie.Need-cast-n
 cast-n c = search needs
@@ -45,9 +45,9 @@ add-settle c =
     let b5 = b3 .before .before in
     let b8 = b5 .before .before .before in
     let (more, small, between) =
-    shrink-between readable-one (b5 .left-of .ensures) (b3 .right-of .ensures) (b1 .length-of .ensures)
+    shrink-between (readable _) (b5 .left-of .ensures) (b3 .right-of .ensures) (b1 .length-of .ensures)
     (at-run b8) in
-    omega arith
+    omega (arith, few-links (b8 .args .form))
 
 sub-settle : tie.Need-sub-settle
 sub-settle c =
@@ -56,7 +56,7 @@ sub-settle c =
     let b5 = b3 .before .before in
     let b8 = b5 .before .before .before in
     let (more, small, between) =
-    shrink-between readable-one (b5 .left-of .ensures) (b3 .right-of .ensures) (b1 .length-of .ensures)
+    shrink-between (readable _) (b5 .left-of .ensures) (b3 .right-of .ensures) (b1 .length-of .ensures)
     (at-run b8) in
     omega arith
 
@@ -70,7 +70,7 @@ settle-requires c κs =
     let b5 = b3 .before .before in
     let b8 = b5 .before .before .before in
     let (more, small, between) =
-    shrink-between readable-one (b5 .left-of .ensures) (b3 .right-of .ensures) (b1 .length-of .ensures)
+    shrink-between (readable _) (b5 .left-of .ensures) (b3 .right-of .ensures) (b1 .length-of .ensures)
     (at-run b8) in
     between
 
@@ -83,8 +83,8 @@ attach-requires c κs =
     let s = b9 .before .before .before in
     let (t, n, p) = s .pre .0 in
     let (inside, link, root) =
-    place-ready readable-one (shrinks readable-one (s .args .at - 1) n (s .args .k)) (s .pre .1 .1)
-    (shrink-here readable-one (b9 .left-of .ensures) (b7 .right-of .ensures) (b5 .length-of .ensures)
+    place-ready (readable _) (shrinks (readable _) (s .args .at - 1) n (s .args .k)) (s .pre .1 .1)
+    (shrink-here (readable _) (b9 .left-of .ensures) (b7 .right-of .ensures) (b5 .length-of .ensures)
     (b3 .settle .ensures)) (t, p) in
     (inside, (link, root, omega arith))
 
@@ -103,8 +103,8 @@ returns c t n =
     let b13 = b11 .before .before in
     let s = b13 .before .before .before in
     rw (c .link-of .ensures)
-    (place-attached readable-one (shrinks readable-one (s .args .at - 1) n (s .args .k)) (s .pre .1 .1)
-    (shrink-here readable-one (b13 .left-of .ensures) (b11 .right-of .ensures) (b9 .length-of .ensures)
+    (place-attached (readable _) (shrinks (readable _) (s .args .at - 1) n (s .args .k)) (s .pre .1 .1)
+    (shrink-here (readable _) (b13 .left-of .ensures) (b11 .right-of .ensures) (b9 .length-of .ensures)
     (b7 .settle .ensures)) (b3 .attach .ensures .0) t)
 
 pub shrink-spec : {M : Type 1} → statement M

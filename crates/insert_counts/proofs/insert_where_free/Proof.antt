@@ -14,7 +14,7 @@ same-length : tie.Need-same-length
 same-length c = search needs
 
 returns : tie.Need-returns
-returns c = root-read (c .before .before .before .before .before .pre)
+returns c = root-read _ (c .before .before .before .before .before .pre)
 
 add-mark : tie.Need-add-mark
 add-mark c =
@@ -42,7 +42,7 @@ insert-requires c κs =
     let b6 = b5 .before in
     let s = b6 .before .before .before .before in
     let f = b6 .fits2 .ensures (not-false _ (b5 .if1 .left)) in
-    (s .pre .tree, room (s .pre) f)
+    (s .pre .tree, room _ (s .pre) f)
 
 same-length-2 : tie.Need-same-length-2
 same-length-2 c = search needs
@@ -58,7 +58,7 @@ returns-2 c =
     let b9 = b8 .before in
     let s = b9 .before .before .before .before in
     let f = b9 .fits2 .ensures (not-false _ (b8 .if1 .left)) in
-    inserted (s .pre) f (b2 .insert .result) (b6 .mark .ensures) (b2 .insert .ensures)
+    inserted _ (s .pre) f (b2 .insert .result) (b6 .mark .ensures) (b2 .insert .ensures)
 
 pub insert-where-free-spec : {M : Type 1} → statement M
 insert-where-free-spec =

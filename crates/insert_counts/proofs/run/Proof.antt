@@ -7,11 +7,11 @@ use Rattle.insert_counts.proofs.run.Statement.{statement}
 use Rattle.insert_counts.proofs.run.Tie as tie
 
 abbrev Inv-loop : tie.InvT-loop
-Inv-loop arena₀ map₀ before₀ i₀ arena map before i =
+Inv-loop form arena₀ map₀ before₀ i₀ arena map before i =
     (i ≤ 9) × (length arena ≡ length arena₀) × (length map ≡ length map₀) × (length before ≡ length before₀)
 
 abbrev μ-loop : tie.MeasureT-loop
-μ-loop arena₀ map₀ before₀ i₀ arena map before i = 9 - i
+μ-loop form arena₀ map₀ before₀ i₀ arena map before i = 9 - i
 
 loop-holds : tie.Need-loop-holds Inv-loop μ-loop
 loop-holds c = search needs

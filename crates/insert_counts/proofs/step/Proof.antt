@@ -40,7 +40,8 @@ returns : tie.Need-returns
 returns c =
     let b7 = c .before .before .before .before .before .before .before in
     let b12 = b7 .before .before .before .before .before in
-    rw (c .counted .ensures, b7 .link-of .ensures) (b12 .insert-where-free .ensures)
+    let (form, root) = c .counted .ensures in
+    rw (form, root, b7 .link-of .ensures) (b12 .insert-where-free .ensures)
 
 pub step-spec : {M : Type 1} → statement M
 step-spec =

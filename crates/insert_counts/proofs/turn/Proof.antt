@@ -22,7 +22,8 @@ step-requires : tie.Need-step-requires
 step-requires c κs =
     let b4 = c .before .before .before .before in
     let s = b4 .before .before .before .before .before .before .before in
-    rw (b4 .with-seed .ensures) (s .pre)
+    let (form, root) = b4 .with-seed .ensures in
+    rw (form, root) (s .pre)
 
 same-length : tie.Need-same-length
 same-length c = search needs

@@ -3,6 +3,7 @@ use Prim.Native.Nat.{_-_, _≤_}
 use native.Mathlib.Omega.{arith}
 use mathlib.Core.Path.{_≡_}
 use lib.ListN.{length}
+use Rattle.stored_forms.specs.Tree.{formOf}
 use Rattle.insert_counts.specs.Map.{Mapped}
 use borrow.Author.Needs.{needs}
 use Rattle.insert_counts.proofs.turns.Statement.{statement}
@@ -11,7 +12,7 @@ use Rattle.insert_counts.proofs.turns.Tie as tie
 abbrev Inv-loop : tie.InvT-loop
 Inv-loop arena₀ map₀ before₀ most count round₀ i₀ arena map before round i =
     (i ≤ count) × (length arena ≡ length arena₀) × (length map ≡ length map₀) × (length before ≡ length before₀)
-    × Mapped arena map (round .root)
+    × Mapped (formOf (round .form)) arena map (round .root)
 
 abbrev μ-loop : tie.MeasureT-loop
 μ-loop arena₀ map₀ before₀ most count round₀ i₀ arena map before round i = count - i

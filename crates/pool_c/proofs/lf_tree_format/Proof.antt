@@ -1,9 +1,8 @@
 -- `pool_c::lf_tree_format` meets its contract: the pool's promise, through the struct for C. Assumes nothing.
 use mathlib.Core.Path.{ap, _∙_}
-use mathlib.Core.List.{[]}
 use borrow.Author.Needs.{needs}
 use Rattle.tree_requests.specs.declared.Outcome.{Outcome}
-use Rattle.tree_requests.specs.Outcomes.{handed}
+use Rattle.tree_requests.specs.Outcomes.{formatted}
 use Rattle.pool_c.proofs.lf_tree_format.Statement.{statement}
 use Rattle.pool_c.proofs.lf_tree_format.Tie as tie
 
@@ -22,8 +21,9 @@ same-length-2 c = search needs
 returns : tie.Need-returns
 returns c =
     let q = c .before .before .before .before .before in
+    let s = q .before .before .before .before .before in
     let m = q .format .last in
-    ap (λ (x : Outcome). handed x (m .0) (m .1 .0) []) (c .c-tree-outcome .ensures)
+    ap (λ (x : Outcome). formatted (s .args .form) x (m .1 .0) (m .1 .1 .0)) (c .c-tree-outcome .ensures)
     ∙ q .format .ensures
 
 pub lf-tree-format-spec : {M : Type 1} → statement M

@@ -1,12 +1,12 @@
 -- `pool_text::format_front` meets its contract: `tree_pool::format` on the first words. Assumes nothing.
 use borrow.Author.Needs.{needs}
-use mathlib.Core.List.{[]}
 use Rattle.words.specs.Lists.{Words}
 use Rattle.calls.specs.Step.{format, step}
 use Rattle.calls.specs.Engines.{treeEngine}
 use Rattle.tree_check.specs.Gate.{treePool, noHead}
 use Rattle.call_parts.specs.Results.{resultOf}
-use Rattle.tree_requests.specs.Outcomes.{handed}
+use Rattle.tree_requests.specs.Outcomes.{formatted}
+use Rattle.pool_text.specs.Meaning.{textForm}
 use Rattle.pool_text.proofs.FrontLaws.{fronts}
 use Rattle.pool_text.proofs.format_front.Statement.{statement}
 use Rattle.pool_text.proofs.format_front.Tie as tie
@@ -49,9 +49,9 @@ returns c =
     let f = c .before .before .before .before in
     let s = f .before .before .before .before .before in
     let r = f .format in
-    fronts (λ (a t : Words). handed (r .result) a t [])
-    (λ (a t : Words). resultOf (step treeEngine (format (s .args .first)) (treePool noHead a t))) (s .args .n)
-    (s .args .t) (s .args .arena .now) (s .args .table .now) (r .last .0) (r .last .1 .0) _ _ (s .pre .0) (s .pre .1) (r .kept .0) (r .kept .1 .0)
+    fronts (λ (a t : Words). formatted textForm (r .result) a t)
+    (λ (a t : Words). resultOf (step treeEngine (format (s .args .first)) (treePool (noHead textForm) a t))) (s .args .n)
+    (s .args .t) (s .args .arena .now) (s .args .table .now) (r .last .1 .0) (r .last .1 .1 .0) _ _ (s .pre .0) (s .pre .1) (r .kept .1 .0) (r .kept .1 .1 .0)
     (r .ensures)
 
 pub format-front-spec : {M : Type 1} → statement M

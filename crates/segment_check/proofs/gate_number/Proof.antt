@@ -1,6 +1,6 @@
 -- `segment_check::gate_number` meets its contract, by the test that led to each number. Assumes nothing.
 use mathlib.Core.Bool.{true}
-use mathlib.Core.Path.{_≡_, _∙_, sym}
+use mathlib.Core.Path.{_≡_, _∙_, refl, sym}
 use borrow.Author.Needs.{needs}
 use denote.Ref.{now}
 use Rattle.words.proofs.Tests.{not-true, not-false}
@@ -15,21 +15,22 @@ right-lengths-requires : tie.Need-right-lengths-requires
 right-lengths-requires c κs = search needs
 
 returns : tie.Need-returns
+unfolding segmentEngine
 returns c =
     let a = c .before .before .before .before .args in
-    let bad = sym (c .before .right-lengths .ensures (a .next)) ∙ not-true _ (c .if1 .taken) in
-    is-eight segmentEngine (segmentPool (a .s) (a .next) (now (a .arena)) (now (a .table)) (now (a .index))) bad
+    let bad = sym (c .before .right-lengths .ensures (a .head)) ∙ not-true _ (c .if1 .taken) in
+    is-eight segmentEngine (segmentPool (a .s) (a .head) (now (a .arena)) (now (a .table)) (now (a .index))) refl bad
 
 -- the lengths are right
 abbrev lent : tie.Else1 → Pool
 lent c =
     let a = c .before .before .before .before .args in
-    segmentPool (a .s) (a .next) (now (a .arena)) (now (a .table)) (now (a .index))
+    segmentPool (a .s) (a .head) (now (a .arena)) (now (a .table)) (now (a .index))
 
 right : (c : tie.Else1) → lengths segmentEngine (lent c) ≡ true
 right c =
     let a = c .before .before .before .before .args in
-    sym (c .before .right-lengths .ensures (a .next)) ∙ not-false _ (c .if1 .left)
+    sym (c .before .right-lengths .ensures (a .head)) ∙ not-false _ (c .if1 .left)
 
 is-stored-requires : tie.Need-is-stored-requires
 is-stored-requires c κs = right c

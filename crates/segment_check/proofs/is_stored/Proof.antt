@@ -13,7 +13,7 @@ use Rattle.segment_check.proofs.is_stored.Tie as tie
 fit : (s : tie.Start) → InRange (s .args .s) (now (s .args .arena)) (now (s .args .table)) (now (s .args .index))
 fit s =
     let a = s .args in
-    in-range (a .s) (a .next) (now (a .arena)) (now (a .table)) (now (a .index)) (s .pre)
+    in-range (a .s) (a .head) (now (a .arena)) (now (a .table)) (now (a .index)) (s .pre)
 
 ranged-requires : tie.Need-ranged-requires
 ranged-requires c κs = search needs
@@ -30,9 +30,9 @@ returns c =
     let d = c .before in
     let s = d .before .before .before .before in
     let a = s .args in
-    stored-says (a .next) (fit s) (d .before .ranged .ensures) (c .is-shown .result)
+    stored-says (a .head) (fit s) (d .before .ranged .ensures) (c .is-shown .result)
     (subst
-    (λ (n : ℕ). Says (c .is-shown .result) (Shown (a .next) (now (a .arena)) (now (a .table)) (now (a .index)) n))
+    (λ (n : ℕ). Says (c .is-shown .result) (Shown (a .head .next) (now (a .arena)) (now (a .table)) (now (a .index)) n))
     (d .segments-of .ensures .count) (c .is-shown .ensures))
 
 pub is-stored-spec : {M : Type 1} → statement M

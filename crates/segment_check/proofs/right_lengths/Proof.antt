@@ -23,11 +23,11 @@ returns c =
     let v = now (a .arena) in
     let t = now (a .table) in
     let x = now (a .index) in
-    λ next. ap
+    λ h. ap
     (λ (b : Bool). ((((((leb 2 (length v) && leb (length v) 16384) && b) && eqb (length t % 3) 0)
     && leb 1 (slots t)) && leb (slots t) 256) && eqb (length x) (3 * a .s)))
     (c .is-segments .ensures)
-    ∙ lengths-are (a .s) next v t x
+    ∙ lengths-are (a .s) h v t x
 
 pub right-lengths-spec : {M : Type 1} → statement M
 right-lengths-spec = tie.close (tie.spec is-segments-requires mul-result returns)

@@ -17,7 +17,7 @@ use Rattle.segment_pool.proofs.allocate.Tie as tie
 
 abbrev pool : tie.Start → Pool
 pool s =
-    segmentPool (s .args .s) (s .args .head .next) (now (s .args .arena)) (now (s .args .table)) (now (s .args .index))
+    segmentPool (s .args .s) (s .args .head) (now (s .args .arena)) (now (s .args .table)) (now (s .args .index))
 
 gate-number-requires : tie.Need-gate-number-requires
 gate-number-requires c κs = search needs

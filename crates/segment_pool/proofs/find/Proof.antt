@@ -20,7 +20,7 @@ returns : tie.Need-returns
 returns c =
     let g = c .before .before in
     let s = g .before .before .before in
-    let p = segmentPool (s .args .s) (s .args .head .next) (now (s .args .arena)) (now (s .args .table))
+    let p = segmentPool (s .args .s) (s .args .head) (now (s .args .arena)) (now (s .args .table))
     (now (s .args .index)) in
     c .refused .ensures
     ∙ sym (ap (λ (o : Outcome). o .answer)
@@ -47,7 +47,7 @@ returns-2 c =
     let n = c .before .before .before in
     let g = n .before .before in
     let s = g .before .before .before in
-    let p = segmentPool (s .args .s) (s .args .head .next) (now (s .args .arena)) (now (s .args .table))
+    let p = segmentPool (s .args .s) (s .args .head) (now (s .args .arena)) (now (s .args .table))
     (now (s .args .index)) in
     let ok = gate-opens segmentEngine p (g .gate-number .result) (g .gate-number .ensures) (n .before .if1 .left) in
     let t = c .before .enum-told .given in
@@ -59,7 +59,7 @@ returns-3 c =
     let n = c .before .before .before .before in
     let g = n .before .before in
     let s = g .before .before .before in
-    let p = segmentPool (s .args .s) (s .args .head .next) (now (s .args .arena)) (now (s .args .table))
+    let p = segmentPool (s .args .s) (s .args .head) (now (s .args .arena)) (now (s .args .table))
     (now (s .args .index)) in
     let ok = gate-opens segmentEngine p (g .gate-number .result) (g .gate-number .ensures) (n .before .if1 .left) in
     let t = c .before .before .n .given in

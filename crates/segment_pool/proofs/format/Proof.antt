@@ -1,11 +1,12 @@
 -- `segment_pool::format` meets its contract: one free block, its index and a wiped table hold nothing. Assumes nothing.
 use Prim.Native.Nat.{ℕ}
-use mathlib.Core.Path.{subst}
+use mathlib.Core.Path.{refl, subst}
+use mathlib.Core.Bool.{true}
 use borrow.Author.Needs.{needs}
 use denote.Ref.{now}
 use Rattle.segment_cores.specs.Stores.{Becomes}
 use Rattle.calls.specs.Engines.{segmentEngine}
-use Rattle.segment_check.specs.Gate.{segmentPool}
+use Rattle.segment_check.specs.Gate.{segmentPool, noHead}
 use Rattle.segment_check.proofs.GateLaws.{InRange, measured}
 use Rattle.call_parts.proofs.FormatLaws.{format-result}
 use Rattle.segment_pool.proofs.FormatLaws.{head-refused, blank-pool, fit}
@@ -22,7 +23,7 @@ fits c =
     let n = c .before in
     let s = entry c in
     fit (s .args .s) (now (s .args .arena)) (now (s .args .table)) (now (s .args .index)) (s .args .first)
-    (n .before .right-lengths .result) (n .before .right-lengths .ensures 0)
+    (n .before .right-lengths .result) (n .before .right-lengths .ensures noHead)
     (n .format-number .result) (n .format-number .ensures) (c .if1 .left)
 
 right-lengths-requires : tie.Need-right-lengths-requires
@@ -48,7 +49,7 @@ returns c =
     let n = c .before .before in
     let s = n .before .before .before .before .before .before .before in
     head-refused (s .args .s) (now (s .args .arena)) (now (s .args .table)) (now (s .args .index)) (s .args .first)
-    (n .before .right-lengths .result) (n .before .right-lengths .ensures 0)
+    (n .before .right-lengths .result) (n .before .right-lengths .ensures noHead)
     (n .format-number .result) (n .format-number .ensures)
     (c .refused .result) (c .before .if1 .taken) (c .refused .ensures)
 
@@ -77,6 +78,7 @@ same-length-6 : tie.Need-same-length-6
 same-length-6 c = search needs
 
 returns-2 : tie.Need-returns-2
+unfolding segmentEngine
 returns-2 c =
     let w = c .before .before .before in
     let l = w .before .before .before .before .before in
@@ -88,12 +90,12 @@ returns-2 c =
     let s = entry i in
     let first = s .args .first in
     format-result segmentEngine
-    (segmentPool (s .args .s) 0 (now (s .args .arena)) (now (s .args .table)) (now (s .args .index))) first
-    (right .result) (right .ensures 0) (number .result) (number .ensures) (i .if1 .left) (c .succeeded .result)
-    (segmentPool (s .args .s) first (l .lay-out .last .0) (w .wipe .last .0) (l .lay-out .last .1 .0))
+    (segmentPool (s .args .s) noHead (now (s .args .arena)) (now (s .args .table)) (now (s .args .index))) first
+    true refl (right .result) (right .ensures noHead) (number .result) (number .ensures) (i .if1 .left) (c .succeeded .result)
+    (segmentPool (s .args .s) (record { next = first }) (l .lay-out .last .0) (w .wipe .last .0) (l .lay-out .last .1 .0))
     (c .succeeded .ensures)
     (blank-pool (s .args .s) (now (s .args .arena)) (now (s .args .table)) (now (s .args .index)) first
-    (right .result) (right .ensures 0) (number .result) (number .ensures) (i .if1 .left)
+    (right .result) (right .ensures noHead) (number .result) (number .ensures) (i .if1 .left)
     (l .lay-out .last .0) (w .wipe .last .0) (l .lay-out .last .1 .0)
     (λ L none. subst (λ (n : ℕ). Becomes L (now (s .args .arena)) n (l .lay-out .last .0) (l .lay-out .last .1 .0))
     (d .segments-of .ensures .count) (l .lay-out .ensures L none))

@@ -19,7 +19,7 @@ use Rattle.segment_pool.proofs.list.Tie as tie
 
 abbrev pool : tie.Start → Pool
 pool s =
-    segmentPool (s .args .s) (s .args .head .next) (now (s .args .arena)) (now (s .args .table)) (now (s .args .index))
+    segmentPool (s .args .s) (s .args .head) (now (s .args .arena)) (now (s .args .table)) (now (s .args .index))
 
 -- an outcome that leaves all as it came
 abbrev same : tie.Start → Outcome → Result
@@ -37,11 +37,12 @@ same-length : tie.Need-same-length
 same-length c = search needs
 
 returns : tie.Need-returns
+unfolding segmentEngine
 returns c =
     let u = c .before .before in
     let s = u .before .before .before .before .before .before in
     ap (same s) (c .refused-with .ensures)
-    ∙ unsuited-result segmentEngine (pool s) (now (s .args .asked)) (now (s .args .answers))
+    ∙ unsuited-result segmentEngine (pool s) (now (s .args .asked)) (now (s .args .answers)) refl
     (sym (u .list-suits .ensures) ∙ not-true (u .list-suits .result) (c .before .if1 .taken))
 
 gate-number-requires : tie.Need-gate-number-requires
@@ -111,7 +112,7 @@ returns-3 c =
     let suits = sym (u .list-suits .ensures) ∙ not-false (u .list-suits .result) (f .if1 .left) in
     let ok = gate-opens segmentEngine (pool s) (g .gate-number .result) (g .gate-number .ensures) (e .if2 .left) in
     list-result segmentEngine (pool s) (now (s .args .asked)) (now (s .args .answers)) suits ok (c .succeeded .result)
-    (segmentPool (s .args .s) (d .serve-all .result .next) (d .serve-all .last .1 .1 .0)
+    (segmentPool (s .args .s) (d .serve-all .result) (d .serve-all .last .1 .1 .0)
     (d .serve-all .last .1 .1 .1 .0) (d .serve-all .last .1 .1 .1 .1 .0))
     (d .serve-all .last .1 .1 .1 .1 .1 .1 .0) (c .succeeded .ensures) (d .serve-all .ensures)
 

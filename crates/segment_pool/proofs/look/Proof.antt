@@ -23,7 +23,7 @@ returns : tie.Need-returns
 returns c =
     let f = c .before in
     let s = f .before .before .before in
-    let p = segmentPool (s .args .s) (s .args .head .next) (now (s .args .arena)) (now (s .args .table))
+    let p = segmentPool (s .args .s) (s .args .head) (now (s .args .arena)) (now (s .args .table))
     (now (s .args .index)) in
     look-holds segmentEngine p (s .args .named) (s .args .arena) (s .args .placeholder)
     (asWords (now (s .args .placeholder))) (f .find .result) (f .find .ensures) (c .if1 .taken)
@@ -50,7 +50,7 @@ part-result-end : tie.Need-part-result-end
 part-result-end c =
     let f = c .before .before .before in
     let s = f .before .before .before in
-    let p = segmentPool (s .args .s) (s .args .head .next) (now (s .args .arena)) (now (s .args .table))
+    let p = segmentPool (s .args .s) (s .args .head) (now (s .args .arena)) (now (s .args .table))
     (now (s .args .index)) in
     subst (λ (m : ℕ). s .args .named .address + s .args .named .words ≤ m) (length-map (now (s .args .arena)) (ofZ w32))
     (found-inside segmentEngine segment-laws p (s .args .named)
@@ -61,7 +61,7 @@ returns-2 c =
     let i = c .before .before .before in
     let f = i .before in
     let s = f .before .before .before in
-    let p = segmentPool (s .args .s) (s .args .head .next) (now (s .args .arena)) (now (s .args .table))
+    let p = segmentPool (s .args .s) (s .args .head) (now (s .args .arena)) (now (s .args .table))
     (now (s .args .index)) in
     rw (add-sub-cancel-left (s .args .named .address) (s .args .named .words))
     (look-found segmentEngine p (s .args .named) (s .args .arena) (s .args .placeholder)

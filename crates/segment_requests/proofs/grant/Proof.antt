@@ -33,7 +33,7 @@ use Rattle.segment_requests.proofs.grant.Tie as tie
 
 abbrev pool : tie.Start → Pool
 pool s =
-    segmentPool (s .args .s) (s .args .head .next) (now (s .args .arena)) (now (s .args .table)) (now (s .args .index))
+    segmentPool (s .args .s) (s .args .head) (now (s .args .arena)) (now (s .args .table)) (now (s .args .index))
 
 abbrev old : tie.Start → Ledger
 old s = recordsOf (now (s .args .table))
@@ -50,7 +50,7 @@ searched c =
     let i = c .before .before .before .before .before .before .before .before .before in
     let s = i .before .before .before in
     let d = c .segments-of .ensures in
-    let form = sound-form (s .args .s) (s .args .head .next) (now (s .args .arena)) (now (s .args .table))
+    let form = sound-form (s .args .s) (s .args .head) (now (s .args .arena)) (now (s .args .table))
     (now (s .args .index)) (s .pre) (c .before .ranged .ensures) d in
     record {
       sound = subst (Sound (old s) (now (s .args .arena)) (now (s .args .index)) (c .segments-of .result .count))
@@ -83,7 +83,7 @@ few : (c : tie.After-search) → c .search .result .places < 65536
 few c =
     let s = c .before .before .before .before .before .before .before .before .before .before .before .before .before
     .before .before in
-    let range = sound-range (s .args .s) (s .args .head .next) (now (s .args .arena)) (now (s .args .table))
+    let range = sound-range (s .args .s) (s .args .head) (now (s .args .arena)) (now (s .args .table))
     (now (s .args .index)) (s .pre) in
     few-places (s .args .s) (length (now (s .args .arena))) (old s) (span segmentRule (s .args .words))
     (some-span (s .args .words)) (c .search .result) (found c) (range .power) (omega (arith, range .some)) (range .most)
@@ -165,7 +165,7 @@ ranged-requires c κs = search needs
 segments-of-requires : tie.Need-segments-of-requires
 segments-of-requires c κs =
     let s = c .before .before .before .before .before .before .before .before .before .before .before in
-    let range = sound-range (s .args .s) (s .args .head .next) (now (s .args .arena)) (now (s .args .table))
+    let range = sound-range (s .args .s) (s .args .head) (now (s .args .arena)) (now (s .args .table))
     (now (s .args .index)) (s .pre) in
     (range .power, range .most)
 
@@ -217,7 +217,7 @@ returns-4 c =
     (d .no-effect4 .ensures) refl (none .1) (s .args .words)
     (ask-five segmentEngine (pool s) (s .args .words) (i .if1 .left)
     (empty-found (now (s .args .table)) (k .slot .given .0 .0) slot .1) (ne-eqb _ _ (t .if2 .left))
-    (fit-is (s .args .s) (s .args .head .next) (s .args .words) (now (s .args .arena)) (now (s .args .table))
+    (fit-is (s .args .s) (s .args .head) (s .args .words) (now (s .args .arena)) (now (s .args .table))
     (now (s .args .index)) ∙ none .0))
 
 -- what is known where the words are taken

@@ -29,7 +29,7 @@ use Rattle.segment_requests.proofs.place.Tie as tie
 
 abbrev pool : tie.Start → Pool
 pool s =
-    segmentPool (s .args .s) (s .args .head .next) (now (s .args .arena)) (now (s .args .table)) (now (s .args .index))
+    segmentPool (s .args .s) (s .args .head) (now (s .args .arena)) (now (s .args .table)) (now (s .args .index))
 
 abbrev old : tie.Start → Ledger
 old s = recordsOf (now (s .args .table))

@@ -20,7 +20,7 @@ use Rattle.segment_requests.proofs.serve.Tie as tie
 
 abbrev pool : tie.Start → Pool
 pool s =
-    segmentPool (s .args .s) (s .args .head .next) (now (s .args .arena)) (now (s .args .table)) (now (s .args .index))
+    segmentPool (s .args .s) (s .args .head) (now (s .args .arena)) (now (s .args .table)) (now (s .args .index))
 
 enum-known-request : tie.Need-enum-known-request
 enum-known-request c = search needs

@@ -20,16 +20,16 @@ use Rattle.segment_requests.proofs.serve_all.Tie as tie
 abbrev Inv-loop : tie.InvT-loop
 Inv-loop s arena₀ table₀ index₀ asked answers₀ after₀ i₀ arena table index answers after i =
     (length arena ≡ length arena₀) × (length table ≡ length table₀) × (length index ≡ length index₀)
-    × (4 * i ≤ length asked) × (sound segmentEngine (segmentPool s (after .next) arena table index) ≡ true)
-    × Running segmentEngine (segmentPool s (after₀ .next) arena₀ table₀ index₀) asked answers₀ i
-    (segmentPool s (after .next) arena table index) answers
+    × (4 * i ≤ length asked) × (sound segmentEngine (segmentPool s after arena table index) ≡ true)
+    × Running segmentEngine (segmentPool s after₀ arena₀ table₀ index₀) asked answers₀ i
+    (segmentPool s after arena table index) answers
 
 abbrev μ-loop : tie.MeasureT-loop
 μ-loop s arena₀ table₀ index₀ asked answers₀ after₀ i₀ arena table index answers after i = length asked / 4 - i
 
 abbrev pool : tie.Start Inv-loop μ-loop → Pool
 pool s =
-    segmentPool (s .args .s) (s .args .head .next) (now (s .args .arena)) (now (s .args .table)) (now (s .args .index))
+    segmentPool (s .args .s) (s .args .head) (now (s .args .arena)) (now (s .args .table)) (now (s .args .index))
 
 loop-holds : tie.Need-loop-holds Inv-loop μ-loop
 loop-holds c =
@@ -60,8 +60,8 @@ loop-again c =
     let l = d .before .before .before .before .before .before in
     let s = l .before .before .before .before .before in
     let x = l .loop in
-    let q = segmentPool (s .args .s) (x .after .next) (x .arena) (x .table) (x .index) in
-    let q′ = segmentPool (s .args .s) (d .serve-at .result .next) (d .serve-at .last .1 .1 .0)
+    let q = segmentPool (s .args .s) (x .after) (x .arena) (x .table) (x .index) in
+    let q′ = segmentPool (s .args .s) (d .serve-at .result) (d .serve-at .last .1 .1 .0)
     (d .serve-at .last .1 .1 .1 .0) (d .serve-at .last .1 .1 .1 .1 .0) in
     let rs = now (s .args .asked) in
     let v = x .inv .5 in
@@ -94,7 +94,7 @@ returns c =
     let s = c .before .before .before .before .before .before in
     let (a, b) =
     list-end segmentEngine (pool s) (now (s .args .asked)) (now (s .args .answers)) (x .i)
-    (segmentPool (s .args .s) (x .after .next) (x .arena) (x .table) (x .index)) (x .answers)
+    (segmentPool (s .args .s) (x .after) (x .arena) (x .table) (x .index)) (x .answers)
     (omega (arith, s .pre .1 .0)) (x .inv .5) in
     ap₂ (λ (y : Pool) (z : Words). (y, z)) a b
 

@@ -14,7 +14,7 @@ use Rattle.segment_requests.proofs.serve_at.Tie as tie
 
 abbrev pool : tie.Start → Pool
 pool s =
-    segmentPool (s .args .s) (s .args .head .next) (now (s .args .arena)) (now (s .args .table)) (now (s .args .index))
+    segmentPool (s .args .s) (s .args .head) (now (s .args .arena)) (now (s .args .table)) (now (s .args .index))
 
 request-at-requires : tie.Need-request-at-requires
 request-at-requires c κs = c .before .before .before .before .pre .1 .0

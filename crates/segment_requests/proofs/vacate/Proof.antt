@@ -13,7 +13,7 @@ use Rattle.segment_requests.proofs.vacate.Tie as tie
 
 abbrev pool : tie.Start → Pool
 pool s =
-    segmentPool (s .args .s) (s .args .head .next) (now (s .args .arena)) (now (s .args .table)) (now (s .args .index))
+    segmentPool (s .args .s) (s .args .head) (now (s .args .arena)) (now (s .args .table)) (now (s .args .index))
 
 named-slot-requires : tie.Need-named-slot-requires
 named-slot-requires c κs = search needs

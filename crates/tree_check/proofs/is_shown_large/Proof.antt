@@ -13,8 +13,9 @@ slice-aggregate-is-shown-over-2 c = search needs
 
 is-shown-over-requires : tie.Need-is-shown-over-requires
 is-shown-over-requires c κs =
-    let most = c .before .before .before .before .pre in
-    ((omega arith, most .1, most .1), (((λ bytes. omega arith), refl), (omega arith, refl)))
+    let p = c .before .before .before .before .pre in
+    let few = p .1 in
+    (p .0, ((p .2, p .2), (((λ bytes. omega arith), refl), (omega arith, refl))))
 
 returns : tie.Need-returns
 returns c = search needs

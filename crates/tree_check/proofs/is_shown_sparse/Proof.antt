@@ -1,8 +1,9 @@
--- `tree_check::is_shown_sparse` meets its contract: a map of 384 bytes has entries, for 32 records. Assumes nothing.
+-- `tree_check::is_shown_sparse` meets its contract: a map of 769 bytes has entries, for 32 records. Assumes nothing.
 use native.Mathlib.Omega.{arith}
 use mathlib.Core.Path.{refl, sym}
 use mathlib.Core.Bool.{false≢true}
 use borrow.Author.Needs.{needs}
+use Rattle.tree_check.specs.Maps.{homes}
 use Rattle.tree_check.proofs.is_shown_sparse.Statement.{statement}
 use Rattle.tree_check.proofs.is_shown_sparse.Tie as tie
 
@@ -13,9 +14,10 @@ slice-aggregate-is-shown-over-2 : tie.Need-slice-aggregate-is-shown-over-2
 slice-aggregate-is-shown-over-2 c = search needs
 
 is-shown-over-requires : tie.Need-is-shown-over-requires
+unfolding homes
 is-shown-over-requires c κs =
-    let few = c .before .before .before .before .pre in
-    ((few .0, omega arith, few .1), (((λ bytes. absurd (false≢true (sym bytes))), refl), (omega arith, refl)))
+    let p = c .before .before .before .before .pre in
+    (p .0, ((omega (arith, p .1), p .1), (((λ bytes. absurd (false≢true (sym bytes))), refl), (omega arith, refl))))
 
 returns : tie.Need-returns
 returns c = search needs

@@ -1,16 +1,20 @@
 -- `tree_check::is_stored` meets its contract. Assumes nothing.
 use borrow.Author.Needs.{needs}
 use denote.Ref.{now}
-use Rattle.tree_check.proofs.GateLaws.{InRange, in-range, stored-is}
+use Rattle.stored_forms.specs.Tree.{formOf}
+use Rattle.tree_check.proofs.GateLaws.{InRange, in-range, all-linked, stored-is}
 use Rattle.tree_check.proofs.is_stored.Statement.{statement}
 use Rattle.tree_check.proofs.is_stored.Tie as tie
 
 -- the lent lengths
-fit : (s : tie.Start) → InRange (now (s .args .arena)) (now (s .args .table))
+fit : (s : tie.Start) → InRange (formOf (s .args .head .form)) (now (s .args .arena)) (now (s .args .table))
 fit s = let a = s .args in in-range (a .head) (now (a .arena)) (now (a .table)) (s .pre)
 
 is-shown-requires : tie.Need-is-shown-requires
-is-shown-requires c κs = let f = fit (c .before .before) in (f .most, f .few)
+is-shown-requires c κs =
+    let s = c .before .before in
+    let f = fit s in
+    (all-linked (s .args .head .form) (now (s .args .arena)) (f .most), f .few)
 
 returns : tie.Need-returns
 returns c =

@@ -1,26 +1,56 @@
 -- `tree_nodes::length_of` meets its contract: word 0 of the cell. Assumes nothing.
-use borrow.Author.Needs.{needs}
+use native.Mathlib.Omega.{arith}
 use mathlib.Core.Path.{sym}
 use denote.Ref.{now}
-use Rattle.stored_forms.specs.Tree.{formOne}
+use Rattle.tree_nodes.proofs.FormLaws.{form-one, form-two, cells-two, cells-four, four-length}
 use Rattle.tree_nodes.proofs.FormOne.{one-length}
 use Rattle.tree_nodes.proofs.length_of.Statement.{statement}
 use Rattle.tree_nodes.proofs.length_of.Tie as tie
 
 mul-result : tie.Need-mul-result
-unfolding formOne
-mul-result c = search needs
+mul-result c = let a = c .before .args in omega (arith, cells-four (a .form) (now (a .arena)) (c .if1 .taken))
 
 mul-result-2 : tie.Need-mul-result-2
-unfolding formOne
-mul-result-2 c = search needs
+mul-result-2 c = let a = c .before .args in omega (arith, cells-four (a .form) (now (a .arena)) (c .if1 .taken))
 
 shared-slice-read-result : tie.Need-shared-slice-read-result
-unfolding formOne
-shared-slice-read-result c = search needs
+shared-slice-read-result c =
+    let a = c .before .before .args in
+    omega (arith, cells-four (a .form) (now (a .arena)) (c .before .if1 .taken))
 
 returns : tie.Need-returns
-returns c = let s = c .before in sym (one-length (now (s .args .arena)) (s .args .c))
+returns c =
+    let a = c .before .before .args in
+    let is = form-two (a .form) (c .before .if1 .taken) in
+    let count = cells-four (a .form) (now (a .arena)) (c .before .if1 .taken) in
+    rw is (sym (four-length (now (a .arena)) (a .c) (omega arith)))
+
+mul-result-3 : tie.Need-mul-result-3
+mul-result-3 c = let a = c .before .args in omega (arith, cells-two (a .form) (now (a .arena)) (c .if1 .left))
+
+mul-result-4 : tie.Need-mul-result-4
+mul-result-4 c = let a = c .before .args in omega (arith, cells-two (a .form) (now (a .arena)) (c .if1 .left))
+
+shared-slice-read-result-2 : tie.Need-shared-slice-read-result-2
+shared-slice-read-result-2 c =
+    let a = c .before .before .args in
+    omega (arith, cells-two (a .form) (now (a .arena)) (c .before .if1 .left))
+
+returns-2 : tie.Need-returns-2
+returns-2 c =
+    let a = c .before .before .args in
+    let is = form-one (a .form) (c .before .if1 .left) in
+    rw is (sym (one-length (now (a .arena)) (a .c)))
 
 pub length-of-spec : {M : Type 1} → statement M
-length-of-spec = tie.close (tie.spec mul-result mul-result-2 shared-slice-read-result returns)
+length-of-spec =
+    tie.close
+    (tie.spec
+    mul-result
+    mul-result-2
+    shared-slice-read-result
+    returns
+    mul-result-3
+    mul-result-4
+    shared-slice-read-result-2
+    returns-2)

@@ -1,78 +1,36 @@
--- `tree_nodes::put_node` meets its contract: both words of the cell. Assumes nothing.
+-- `tree_nodes::put_node` meets its contract: by the form. Assumes nothing.
 use borrow.Author.Needs.{needs}
-use native.Mathlib.Omega.{arith}
-use lib.ListN.{length-set}
-use denote.Ref.{now}
-use Rattle.stored_forms.specs.Tree.{formOne}
-use Rattle.tree_nodes.proofs.FormOne.{one-put}
+use Rattle.tree_nodes.proofs.FormLaws.{form-one, form-two}
 use Rattle.tree_nodes.proofs.put_node.Statement.{statement}
 use Rattle.tree_nodes.proofs.put_node.Tie as tie
 
-mul-arena : tie.Need-mul-arena
-unfolding formOne
-mul-arena c = search needs
-
-mul-arena-2 : tie.Need-mul-arena-2
-unfolding formOne
-mul-arena-2 c = search needs
-
-slice-write-arena : tie.Need-slice-write-arena
-unfolding formOne
-slice-write-arena c = search needs
-
-cast-arena : tie.Need-cast-arena
-unfolding formOne
-cast-arena c = search needs
-
-cast-arena-2 : tie.Need-cast-arena-2
-unfolding formOne
-cast-arena-2 c = search needs
-
-mul-arena-3 : tie.Need-mul-arena-3
-unfolding formOne
-mul-arena-3 c = search needs
-
-add-arena : tie.Need-add-arena
-unfolding formOne
-add-arena c = search needs
-
-mul-arena-4 : tie.Need-mul-arena-4
-unfolding formOne
-mul-arena-4 c = search needs
-
-add-arena-2 : tie.Need-add-arena-2
-unfolding formOne
-add-arena-2 c = search needs
-
-mul-arena-5 : tie.Need-mul-arena-5
-unfolding formOne
-mul-arena-5 c = search needs
-
-slice-write-arena-2 : tie.Need-slice-write-arena-2
-unfolding formOne
-slice-write-arena-2 c = simp length-set (omega arith)
+put-node-requires : tie.Need-put-node-requires
+put-node-requires c κs =
+    let s = c .before .before .before in rw (form-two (s .args .form) (c .before .if1 .taken)) at (s .pre)
 
 same-length : tie.Need-same-length
-unfolding formOne
 same-length c = search needs
 
 returns : tie.Need-returns
-returns c = let a = c .args in one-put (now (a .arena)) (a .c) (c .pre .0) (a .n) (a .l) (a .r)
+returns c =
+    let b2 = c .before .before in
+    let b4 = b2 .before .before in
+    rw (form-two (b4 .before .before .args .form) (b4 .if1 .taken)) (b2 .put-node .ensures)
+
+put-node-requires-2 : tie.Need-put-node-requires-2
+put-node-requires-2 c κs =
+    let s = c .before .before .before in rw (form-one (s .args .form) (c .before .if1 .left)) at (s .pre)
+
+same-length-2 : tie.Need-same-length-2
+same-length-2 c = search needs
+
+returns-2 : tie.Need-returns-2
+returns-2 c =
+    let b2 = c .before .before in
+    let b4 = b2 .before .before in
+    rw (form-one (b4 .before .before .args .form) (b4 .if1 .left)) (b2 .put-node2 .ensures)
 
 pub put-node-spec : {M : Type 1} → statement M
 put-node-spec =
     tie.close
-    (tie.spec
-    mul-arena
-    mul-arena-2
-    slice-write-arena
-    cast-arena
-    cast-arena-2
-    mul-arena-3
-    add-arena
-    mul-arena-4
-    add-arena-2
-    mul-arena-5
-    slice-write-arena-2
-    same-length
-    returns)
+    (tie.spec put-node-requires same-length returns put-node-requires-2 same-length-2 returns-2)

@@ -1,37 +1,73 @@
--- `tree_nodes::right_of` meets its contract: the high half of word 1 of the cell. Assumes nothing.
-use borrow.Author.Needs.{needs}
-use mathlib.Core.Path.{sym}
-use native.Mathlib.Omega.{arith}
+-- `tree_nodes::right_of` meets its contract: word 2 of the cell, or the high half of word 1. Assumes nothing.
 use Prim.Native.Nat.{_+_, _*_}
+use native.Mathlib.Omega.{arith}
+use mathlib.Core.Path.{sym}
 use denote.Ref.{now}
-use Rattle.stored_forms.specs.Tree.{formOne}
+use Rattle.tree_nodes.proofs.FormLaws.{form-one, form-two, cells-two, cells-four, four-right}
 use Rattle.tree_nodes.proofs.FormOne.{one-right}
 use Rattle.tree_nodes.proofs.right_of.Statement.{statement}
 use Rattle.tree_nodes.proofs.right_of.Tie as tie
 
 mul-result : tie.Need-mul-result
-unfolding formOne
-mul-result c = search needs
+mul-result c = let a = c .before .args in omega (arith, cells-four (a .form) (now (a .arena)) (c .if1 .taken))
 
 add-result : tie.Need-add-result
-unfolding formOne
-add-result c = search needs
+add-result c = let a = c .before .args in omega (arith, cells-four (a .form) (now (a .arena)) (c .if1 .taken))
 
 mul-result-2 : tie.Need-mul-result-2
-unfolding formOne
-mul-result-2 c = search needs
+mul-result-2 c = let a = c .before .args in omega (arith, cells-four (a .form) (now (a .arena)) (c .if1 .taken))
 
 shared-slice-read-result : tie.Need-shared-slice-read-result
-unfolding formOne
-shared-slice-read-result c = search needs
+shared-slice-read-result c =
+    let a = c .before .before .args in
+    omega (arith, cells-four (a .form) (now (a .arena)) (c .before .if1 .taken))
 
 cast-result : tie.Need-cast-result
-cast-result c = omega (arith, c .shared-slice-known .given (2 * c .before .args .c + 1))
+cast-result c = omega (arith, c .shared-slice-known .given (4 * c .before .before .args .c + 2))
 
 returns : tie.Need-returns
-returns c = let s = c .before in sym (one-right (now (s .args .arena)) (s .args .c))
+returns c =
+    let a = c .before .before .args in
+    let is = form-two (a .form) (c .before .if1 .taken) in
+    let count = cells-four (a .form) (now (a .arena)) (c .before .if1 .taken) in
+    rw is (sym (four-right (now (a .arena)) (a .c) (omega arith)))
+
+mul-result-3 : tie.Need-mul-result-3
+mul-result-3 c = let a = c .before .args in omega (arith, cells-two (a .form) (now (a .arena)) (c .if1 .left))
+
+add-result-2 : tie.Need-add-result-2
+add-result-2 c = let a = c .before .args in omega (arith, cells-two (a .form) (now (a .arena)) (c .if1 .left))
+
+mul-result-4 : tie.Need-mul-result-4
+mul-result-4 c = let a = c .before .args in omega (arith, cells-two (a .form) (now (a .arena)) (c .if1 .left))
+
+shared-slice-read-result-2 : tie.Need-shared-slice-read-result-2
+shared-slice-read-result-2 c =
+    let a = c .before .before .args in
+    omega (arith, cells-two (a .form) (now (a .arena)) (c .before .if1 .left))
+
+cast-result-2 : tie.Need-cast-result-2
+cast-result-2 c = omega (arith, c .shared-slice-known2 .given (2 * c .before .before .args .c + 1))
+
+returns-2 : tie.Need-returns-2
+returns-2 c =
+    let a = c .before .before .args in
+    let is = form-one (a .form) (c .before .if1 .left) in
+    rw is (sym (one-right (now (a .arena)) (a .c)))
 
 pub right-of-spec : {M : Type 1} → statement M
 right-of-spec =
     tie.close
-    (tie.spec mul-result add-result mul-result-2 shared-slice-read-result cast-result returns)
+    (tie.spec
+    mul-result
+    add-result
+    mul-result-2
+    shared-slice-read-result
+    cast-result
+    returns
+    mul-result-3
+    add-result-2
+    mul-result-4
+    shared-slice-read-result-2
+    cast-result-2
+    returns-2)

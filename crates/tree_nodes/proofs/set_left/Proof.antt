@@ -1,66 +1,36 @@
--- `tree_nodes::set_left` meets its contract: the high half of word 1 stays. Assumes nothing.
+-- `tree_nodes::set_left` meets its contract: by the form. Assumes nothing.
 use borrow.Author.Needs.{needs}
-use native.Mathlib.Omega.{arith}
-use Prim.Native.Nat.{_+_, _*_}
-use denote.Ref.{now}
-use Rattle.stored_forms.specs.Tree.{formOne}
-use Rattle.tree_nodes.proofs.FormOne.{one-set-left}
+use Rattle.tree_nodes.proofs.FormLaws.{form-one, form-two}
 use Rattle.tree_nodes.proofs.set_left.Statement.{statement}
 use Rattle.tree_nodes.proofs.set_left.Tie as tie
 
-mul-i : tie.Need-mul-i
-unfolding formOne
-mul-i c = search needs
-
-add-i : tie.Need-add-i
-unfolding formOne
-add-i c = search needs
-
-mul-r : tie.Need-mul-r
-unfolding formOne
-mul-r c = search needs
-
-slice-read-r : tie.Need-slice-read-r
-unfolding formOne
-slice-read-r c = search needs
-
-cast-arena : tie.Need-cast-arena
-unfolding formOne
-cast-arena c = search needs
-
-mul-arena : tie.Need-mul-arena
-mul-arena c = omega (arith, c .slice-known .given (2 * c .before .args .c + 1))
-
-add-arena : tie.Need-add-arena
-add-arena c = omega (arith, c .slice-known .given (2 * c .before .args .c + 1))
-
-mul-arena-2 : tie.Need-mul-arena-2
-unfolding formOne
-mul-arena-2 c = search needs
-
-slice-write-arena : tie.Need-slice-write-arena
-unfolding formOne
-slice-write-arena c = search needs
+set-left-requires : tie.Need-set-left-requires
+set-left-requires c κs =
+    let s = c .before .before .before in rw (form-two (s .args .form) (c .before .if1 .taken)) at (s .pre)
 
 same-length : tie.Need-same-length
-unfolding formOne
 same-length c = search needs
 
 returns : tie.Need-returns
-returns c = let s = c .before in one-set-left (now (s .args .arena)) (s .args .c) (s .pre .0) (s .args .l)
+returns c =
+    let b2 = c .before .before in
+    let b4 = b2 .before .before in
+    rw (form-two (b4 .before .before .args .form) (b4 .if1 .taken)) (b2 .set-left .ensures)
+
+set-left-requires-2 : tie.Need-set-left-requires-2
+set-left-requires-2 c κs =
+    let s = c .before .before .before in rw (form-one (s .args .form) (c .before .if1 .left)) at (s .pre)
+
+same-length-2 : tie.Need-same-length-2
+same-length-2 c = search needs
+
+returns-2 : tie.Need-returns-2
+returns-2 c =
+    let b2 = c .before .before in
+    let b4 = b2 .before .before in
+    rw (form-one (b4 .before .before .args .form) (b4 .if1 .left)) (b2 .set-left2 .ensures)
 
 pub set-left-spec : {M : Type 1} → statement M
 set-left-spec =
     tie.close
-    (tie.spec
-    mul-i
-    add-i
-    mul-r
-    slice-read-r
-    cast-arena
-    mul-arena
-    add-arena
-    mul-arena-2
-    slice-write-arena
-    same-length
-    returns)
+    (tie.spec set-left-requires same-length returns set-left-requires-2 same-length-2 returns-2)

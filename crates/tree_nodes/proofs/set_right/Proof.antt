@@ -1,66 +1,36 @@
--- `tree_nodes::set_right` meets its contract: the low half of word 1 stays. Assumes nothing.
+-- `tree_nodes::set_right` meets its contract: by the form. Assumes nothing.
 use borrow.Author.Needs.{needs}
-use denote.Ref.{now}
-use Rattle.stored_forms.specs.Tree.{formOne}
-use Rattle.tree_nodes.proofs.FormOne.{one-set-right}
+use Rattle.tree_nodes.proofs.FormLaws.{form-one, form-two}
 use Rattle.tree_nodes.proofs.set_right.Statement.{statement}
 use Rattle.tree_nodes.proofs.set_right.Tie as tie
 
-mul-i : tie.Need-mul-i
-unfolding formOne
-mul-i c = search needs
-
-add-i : tie.Need-add-i
-unfolding formOne
-add-i c = search needs
-
-mul-l : tie.Need-mul-l
-unfolding formOne
-mul-l c = search needs
-
-slice-read-l : tie.Need-slice-read-l
-unfolding formOne
-slice-read-l c = search needs
-
-cast-arena : tie.Need-cast-arena
-unfolding formOne
-cast-arena c = search needs
-
-mul-arena : tie.Need-mul-arena
-unfolding formOne
-mul-arena c = search needs
-
-add-arena : tie.Need-add-arena
-unfolding formOne
-add-arena c = search needs
-
-mul-arena-2 : tie.Need-mul-arena-2
-unfolding formOne
-mul-arena-2 c = search needs
-
-slice-write-arena : tie.Need-slice-write-arena
-unfolding formOne
-slice-write-arena c = search needs
+set-right-requires : tie.Need-set-right-requires
+set-right-requires c κs =
+    let s = c .before .before .before in rw (form-two (s .args .form) (c .before .if1 .taken)) at (s .pre)
 
 same-length : tie.Need-same-length
-unfolding formOne
 same-length c = search needs
 
 returns : tie.Need-returns
-returns c = let s = c .before in one-set-right (now (s .args .arena)) (s .args .c) (s .pre .0) (s .args .r)
+returns c =
+    let b2 = c .before .before in
+    let b4 = b2 .before .before in
+    rw (form-two (b4 .before .before .args .form) (b4 .if1 .taken)) (b2 .set-right .ensures)
+
+set-right-requires-2 : tie.Need-set-right-requires-2
+set-right-requires-2 c κs =
+    let s = c .before .before .before in rw (form-one (s .args .form) (c .before .if1 .left)) at (s .pre)
+
+same-length-2 : tie.Need-same-length-2
+same-length-2 c = search needs
+
+returns-2 : tie.Need-returns-2
+returns-2 c =
+    let b2 = c .before .before in
+    let b4 = b2 .before .before in
+    rw (form-one (b4 .before .before .args .form) (b4 .if1 .left)) (b2 .set-right2 .ensures)
 
 pub set-right-spec : {M : Type 1} → statement M
 set-right-spec =
     tie.close
-    (tie.spec
-    mul-i
-    add-i
-    mul-l
-    slice-read-l
-    cast-arena
-    mul-arena
-    add-arena
-    mul-arena-2
-    slice-write-arena
-    same-length
-    returns)
+    (tie.spec set-right-requires same-length returns set-right-requires-2 same-length-2 returns-2)

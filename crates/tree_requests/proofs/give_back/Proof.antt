@@ -1,80 +1,101 @@
 -- `tree_requests::give_back` meets its contract: the cells that go back make the act a release. Assumes nothing.
 use native.Mathlib.Omega.{arith}
-use mathlib.Core.Path.{sym}
+use mathlib.Core.Path.{sym, ap, subst₂, _∙_}
+use mathlib.Core.List.{[]}
 use borrow.Author.Needs.{needs}
 use denote.Ref.{now}
-use Prim.Native.Nat.{ℕ}
-use mathlib.Core.Path.{subst₂}
+use Prim.Native.Nat.{ℕ, _+_, _/_}
+use native.Mathlib.Nat.{div-le-self}
 use lib.ListN.{length}
 use Rattle.ledger.specs.Records.{recordsOf}
-use Rattle.ledger.specs.Units.{first, past}
-use Rattle.ledger.specs.Runs.{freeRuns}
-use Rattle.stored_forms.specs.Tree.{formOne, formRule}
+use Rattle.stored_forms.specs.Tree.{formOf}
 use Rattle.free_blocks.specs.Blocks.{Gives, Given}
 use Rattle.calls.specs.Step.{give}
 use Rattle.calls.specs.Engines.{treeEngine}
 use Rattle.call_parts.proofs.ResultLaws.{acted-by}
 use Rattle.tree_check.specs.Gate.{treePool}
+use Rattle.tree_requests.specs.declared.Outcome.{Outcome}
+use Rattle.tree_requests.specs.Outcomes.{handed}
+use Rattle.tree_requests.specs.Sizes.{cellSpan}
+use Rattle.tree_requests.proofs.SizeLaws.{freeCells, cells-fit}
+use Rattle.tree_requests.proofs.RefusedLaws.{released}
 use Rattle.tree_requests.proofs.ReleaseLaws.{release-range, release-slot, release-gives}
 use Rattle.tree_requests.proofs.ReleaseLaws.{release-answer, release-root, release-pool}
 use Rattle.tree_requests.proofs.give_back.Statement.{statement}
 use Rattle.tree_requests.proofs.give_back.Tie as tie
 
--- what the cells given back leave, in the ledger's units
+-- what the cells given back leave
 given : (c : tie.After-give-cells)
-    → let s = c .before .before .before .before .before .before .before in
-    Given (now (s .args .arena)) (c .give-cells .last .0) (s .args .head .root)
-    (first (formRule formOne) (s .args .named))
-    (past (formRule formOne) (s .args .named)) (c .give-cells .result)
-unfolding formOne
+    → let s = c .before .before .before .before .before .before .before .before in
+    let r = s .args .named in
+    let F = formOf (s .args .head .form) in
+    Given F (now (s .args .arena)) (c .give-cells .last .1 .0) (s .args .head .root) (r .address / F .cell)
+    (r .address / F .cell + cellSpan F (r .words)) (c .give-cells .result)
 given c =
     let y = c .before .before .before in
     let x = y .before in
-    let s = x .before .before .before in
-    subst₂ (λ (lo hi : ℕ). Given (now (s .args .arena)) (c .give-cells .last .0) (s .args .head .root) lo hi
-    (c .give-cells .result))
-    (x .first-unit .ensures) (y .past-unit .ensures) (c .give-cells .ensures)
+    let s = x .before .before .before .before in
+    subst₂ (λ (lo n : ℕ). Given (formOf (s .args .head .form)) (now (s .args .arena)) (c .give-cells .last .1 .0)
+    (s .args .head .root) lo (lo + n) (c .give-cells .result))
+    (x .cell-count .ensures) (y .cells-of .ensures) (c .give-cells .ensures)
 
-first-unit-requires : tie.Need-first-unit-requires
-first-unit-requires c κs = search needs
+cast-cell-count : tie.Need-cast-cell-count
+cast-cell-count c = search needs
 
-past-unit-requires : tie.Need-past-unit-requires
-past-unit-requires c κs = search needs
+cell-count-requires : tie.Need-cell-count-requires
+cell-count-requires c κs = search needs
+
+cells-of-requires : tie.Need-cells-of-requires
+cells-of-requires c κs = search needs
+
+add-hi : tie.Need-add-hi
+add-hi c =
+    let x = c .before in
+    let s = x .before .before .before .before in
+    let f = s .args .head .form in
+    let r = s .args .named in
+    omega (
+      arith,
+      x .cell-count .ensures,
+      div-le-self (r .address) (formOf f .cell),
+      c .cells-of .ensures,
+      cells-fit f (r .words) (omega arith),
+    )
 
 cast-give-cells : tie.Need-cast-give-cells
 cast-give-cells c = search needs
 
 give-cells-requires : tie.Need-give-cells-requires
-unfolding formOne
 give-cells-requires c κs =
     let y = c .before .before in
     let x = y .before in
-    let s = x .before .before .before in
-    let rs = freeRuns (formRule formOne) (length (now (s .args .arena))) (recordsOf (now (s .args .table))) in (
+    let s = x .before .before .before .before in
+    let F = formOf (s .args .head .form) in
+    let rs = freeCells F (length (now (s .args .arena))) (recordsOf (now (s .args .table))) in (
       rs,
-      subst₂ (λ (lo hi : ℕ). Gives (now (s .args .arena)) (s .args .head .root) lo hi rs)
-          (sym (x .first-unit .ensures)) (sym (y .past-unit .ensures))
+      subst₂ (λ (lo n : ℕ). Gives F (now (s .args .arena)) (s .args .head .root) lo (lo + n) rs)
+          (sym (x .cell-count .ensures)) (sym (y .cells-of .ensures))
           (release-gives (s .args .head) (now (s .args .arena)) (now (s .args .table)) (s .args .named) (s .args .slot)
           (s .pre .0) (s .pre .1)),
     )
 
 write-row-requires : tie.Need-write-row-requires
 write-row-requires c κs =
-    let s = c .before .before .before .before .before .before .before .before .before .before in (
+    let s = c .before .before .before .before .before .before .before .before .before .before .before in (
       release-slot (s .args .head) (now (s .args .arena)) (now (s .args .table)) (s .args .named) (s .args .slot)
           (s .pre .0) (s .pre .1),
       release-range (s .args .head) (now (s .args .arena)) (now (s .args .table)) (s .args .named) (s .args .slot)
           (s .pre .0) (s .pre .1) .threes,
     )
 
-cast-t17 : tie.Need-cast-t17
-cast-t17 c =
+effect-requires : tie.Need-effect-requires
+effect-requires c κs =
     let g = c .before .before .before .before .before .before in
-    let s = g .before .before .before .before .before .before .before in
-    let below = release-root (s .args .head) (now (s .args .arena)) (now (s .args .table)) (s .args .named)
-    (s .args .slot) (s .pre .0) (s .pre .1)
-    (g .give-cells .last .0) (now (s .args .table)) (g .give-cells .result) (given g) in
-    omega arith
+    let s = g .before .before .before .before .before .before .before .before in (
+      release-root (s .args .head) (now (s .args .arena)) (now (s .args .table)) (s .args .named) (s .args .slot)
+          (s .pre .0) (s .pre .1) (g .give-cells .last .1 .0) (now (s .args .table)) (g .give-cells .result) (given g),
+      omega arith,
+    )
 
 same-length : tie.Need-same-length
 same-length c = search needs
@@ -84,28 +105,33 @@ same-length-2 c = search needs
 
 returns : tie.Need-returns
 returns c =
-    let w = c .before .before in
+    let w = c .before .before .before in
     let g = w .before .before .before .before in
-    let s = g .before .before .before .before .before .before .before in
+    let s = g .before .before .before .before .before .before .before .before in
     let h = s .args .head in
     let a = now (s .args .arena) in
     let t = now (s .args .table) in
-    let q = release-pool h a t (s .args .named) (s .args .slot) (s .pre .0) (s .pre .1) (g .give-cells .last .0)
+    let (number, root, _) = c .effect .ensures in
+    let q = release-pool h a t (s .args .named) (s .args .slot) (s .pre .0) (s .pre .1) (g .give-cells .last .1 .0)
     (w .write-row .last .0)
     (g .give-cells .result) (given g) (w .write-row .ensures) in
-    acted-by treeEngine (give (s .args .named)) (treePool h a t) _ _
+    ap (λ (o : Outcome). handed o (g .give-cells .last .1 .0) (w .write-row .last .0) [])
+    (released h (c .effect .result) (g .give-cells .result) number root (s .args .named))
+    ∙ acted-by treeEngine (give (s .args .named)) (treePool h a t) _ _
     (release-answer h a t (s .args .named) (s .args .slot) (s .pre .0) (s .pre .1)) q
 
 pub give-back-spec : {M : Type 1} → statement M
 give-back-spec =
     tie.close
     (tie.spec
-    first-unit-requires
-    past-unit-requires
+    cast-cell-count
+    cell-count-requires
+    cells-of-requires
+    add-hi
     cast-give-cells
     give-cells-requires
     write-row-requires
-    cast-t17
+    effect-requires
     same-length
     same-length-2
     returns)

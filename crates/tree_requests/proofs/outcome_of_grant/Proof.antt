@@ -1,14 +1,24 @@
 -- `tree_requests::outcome_of_grant` meets its contract: its test is the one in `grantOutcome`. Assumes nothing.
 use borrow.Author.Needs.{needs}
 use borrow.Author.Tests.{eq-eqb, ne-eqb}
+use Rattle.tree_requests.specs.Outcomes.{effectRoot}
 use Rattle.tree_requests.proofs.outcome_of_grant.Statement.{statement}
 use Rattle.tree_requests.proofs.outcome_of_grant.Tie as tie
+
+cast-number : tie.Need-cast-number
+cast-number c = search needs
 
 refused-with-requires : tie.Need-refused-with-requires
 refused-with-requires c κs = search needs
 
 returns : tie.Need-returns
 returns c = rw (ne-eqb _ _ (c .before .if1 .taken)) (c .refused-with .ensures)
+
+cast-t8 : tie.Need-cast-t8
+cast-t8 c = search needs
+
+cast-t8-2 : tie.Need-cast-t8-2
+cast-t8-2 c = search needs
 
 next-after-requires : tie.Need-next-after-requires
 next-after-requires c κs = search needs
@@ -22,10 +32,19 @@ returns-2 c =
     let t = n .before in
     rw (eq-eqb _ _ (t .if1 .left))
     (λ i. record {
-      head = record { root = t .before .args .done .root; next = n .next-after .ensures i };
+      head = record { root = effectRoot (t .before .args .done); next = n .next-after .ensures i; form = t .before .args .head .form };
       answer = c .succeeded .ensures i;
     })
 
 pub outcome-of-grant-spec : {M : Type 1} → statement M
 outcome-of-grant-spec =
-    tie.close (tie.spec refused-with-requires returns next-after-requires succeeded-requires returns-2)
+    tie.close
+    (tie.spec
+    cast-number
+    refused-with-requires
+    returns
+    cast-t8
+    cast-t8-2
+    next-after-requires
+    succeeded-requires
+    returns-2)

@@ -1,94 +1,110 @@
 -- `tree_requests::place` meets its contract: what was found makes the act a grant. Assumes nothing.
 use native.Mathlib.Omega.{arith}
-use mathlib.Core.Path.{sym}
+use mathlib.Core.Path.{sym, ap, subst, _∙_}
 use borrow.Author.Needs.{needs}
 use denote.Ref.{now}
-use Prim.Native.Nat.{ℕ, _*_, _-_, _/_, _<_}
-use mathlib.Core.Path.{subst}
-use mathlib.Core.List.{List}
-use lib.ListN.{length}
-use Rattle.ledger.specs.Runs.{Run}
-use Rattle.stored_forms.specs.Tree.{formOne, formRule}
-use Rattle.free_blocks.specs.Blocks.{Takes, Taken}
-use Rattle.tree_check.proofs.GateLaws.{InRange}
-use Rattle.ledger.specs.Units.{span}
-use Rattle.calls.specs.Step.{ask}
+use Prim.Native.Nat.{ℕ, _-_, _*_, _≤_, _<_}
+use native.Mathlib.Nat.{div-le-self}
+use mathlib.Core.List.{[]}
+use lib.ListN.{length, set}
+use Rattle.ledger.specs.Records.{row, recordsOf, tableOf}
+use Rattle.stored_forms.specs.Tree.{formOf}
+use Rattle.stored_forms.proofs.NodeLaws.{readable}
+use Rattle.tree_nodes.specs.Nodes.{cells}
+use Rattle.free_tree.proofs.CellLaws.{from-cell}
+use Rattle.free_blocks.specs.Blocks.{Takeable, Taken}
+use Rattle.calls.specs.Step.{ask, success}
 use Rattle.calls.specs.Engines.{treeEngine}
 use Rattle.call_parts.proofs.ResultLaws.{acted-by}
 use Rattle.tree_check.specs.Gate.{treePool}
+use Rattle.tree_check.proofs.GateLaws.{InRange, all-linked}
+use Rattle.tree_requests.specs.declared.Outcome.{Outcome}
+use Rattle.tree_requests.specs.Outcomes.{handed}
+use Rattle.tree_requests.specs.Sizes.{cellSpan}
+use Rattle.tree_requests.proofs.RefusedLaws.{granted}
 use Rattle.tree_requests.proofs.GrantLaws.{place-takes, place-inside, place-root, place-pool}
 use Rattle.tree_requests.proofs.GrantLaws.{place-answer, place-range, place-slot}
 use Rattle.tree_requests.proofs.place.Statement.{statement}
 use Rattle.tree_requests.proofs.place.Tie as tie
 
-range : (s : tie.Start) → InRange (now (s .args .arena)) (now (s .args .table))
+range : (s : tie.Start) → InRange (formOf (s .args .head .form)) (now (s .args .arena)) (now (s .args .table))
 range s = place-range (s .args .head) (now (s .args .arena)) (now (s .args .table)) (s .args .words) (s .args .slot)
     (s .args .block) (s .args .father) (s .pre)
 
-inside : (s : tie.Start) → s .args .block - 1 < length (now (s .args .arena)) / 2
+inside : (s : tie.Start) → s .args .block - 1 < cells (formOf (s .args .head .form)) (now (s .args .arena))
 inside s = place-inside (s .args .head) (now (s .args .arena)) (now (s .args .table)) (s .args .words) (s .args .slot)
     (s .args .block) (s .args .father) (s .pre)
 
--- what the cells taken leave, in the ledger's units
+-- the arena has no more words than any form's
+few : (s : tie.Start) → length (now (s .args .arena)) ≤ 1048576
+few s = all-linked (s .args .head .form) (now (s .args .arena)) (range s .most) .1
+
+-- the block's first word
+first-low : (s : tie.Start)
+    → formOf (s .args .head .form) .cell * (s .args .block - 1) ≤ length (now (s .args .arena))
+first-low s =
+    from-cell (readable (s .args .head .form)) (length (now (s .args .arena))) (s .args .block - 1)
+    (omega (arith, inside s))
+
+-- what the cells taken leave
 taken : (c : tie.After-take-cells)
     → let s = c .before .before .before .before .before .before in
-    Taken (now (s .args .arena)) (c .take-cells .last .0) (s .args .head .root) (s .args .block) (s .args .father)
-    (span (formRule formOne) (s .args .words)) (c .take-cells .result)
-unfolding formOne
+    Taken (formOf (s .args .head .form)) (now (s .args .arena)) (c .take-cells .last .1 .0) (s .args .head .root)
+    (s .args .block) (s .args .father) (cellSpan (formOf (s .args .head .form)) (s .args .words)) (c .take-cells .result)
 taken c =
     let s = c .before .before .before .before .before .before in
     subst
-    (λ (x : ℕ). Taken (now (s .args .arena)) (c .take-cells .last .0) (s .args .head .root) (s .args .block)
-    (s .args .father) x (c .take-cells .result))
-    (c .before .before .before .span-of .ensures) (c .take-cells .ensures)
+    (λ (x : ℕ). Taken (formOf (s .args .head .form)) (now (s .args .arena)) (c .take-cells .last .1 .0) (s .args .head .root)
+    (s .args .block) (s .args .father) x (c .take-cells .result))
+    (c .before .before .before .cells-of .ensures) (c .take-cells .ensures)
 
-span-of-requires : tie.Need-span-of-requires
-span-of-requires c κs = search needs
+cells-of-requires : tie.Need-cells-of-requires
+cells-of-requires c κs = search needs
 
 cast-take-cells : tie.Need-cast-take-cells
 cast-take-cells c = search needs
 
 take-cells-requires : tie.Need-take-cells-requires
-unfolding formOne
 take-cells-requires c κs =
     let k = c .before .before in
     let s = k .before .before .before in
     subst
-    (λ (x : ℕ). (xs : List Run) × (r : Run) × (ys : List Run)
-    × Takes (now (s .args .arena)) (s .args .head .root) (s .args .block) (s .args .father) x xs r ys)
-    (sym (k .span-of .ensures))
+    (λ (x : ℕ). Takeable (formOf (s .args .head .form)) (now (s .args .arena)) (s .args .head .root) (s .args .block)
+    (s .args .father) x)
+    (sym (k .cells-of .ensures))
     (place-takes (s .args .head) (now (s .args .arena)) (now (s .args .table)) (s .args .words) (s .args .slot)
     (s .args .block) (s .args .father) (s .pre))
 
-sub-address : tie.Need-sub-address
-sub-address c = search needs
+sub-first-word : tie.Need-sub-first-word
+sub-first-word c = search needs
 
-mul-address : tie.Need-mul-address
-mul-address c =
+first-word-requires : tie.Need-first-word-requires
+first-word-requires c κs =
     let s = c .before .before .before .before .before .before .before .before in
-    omega (arith, inside s, range s .most)
+    let a = now (s .args .arena) in
+    omega (arith, inside s, few s, div-le-self (length a) (formOf (s .args .head .form) .cell))
 
 cast-address : tie.Need-cast-address
-cast-address c =
-    let s = c .before .before .before .before .before .before .before .before in
-    omega (arith, inside s, range s .most)
+cast-address c = omega (arith, c .first-word .ensures, first-low (c .before .before .before .before .before .before .before .before .before), few (c .before .before .before .before .before .before .before .before .before))
 
 write-row-requires : tie.Need-write-row-requires
 write-row-requires c κs =
-    let s = c .before .before .before .before .before .before .before .before .before in (
+    let s = c .before .before .before .before .before .before .before .before .before .before in (
       place-slot (s .args .head) (now (s .args .arena)) (now (s .args .table)) (s .args .words) (s .args .slot)
           (s .args .block) (s .args .father) (s .pre),
       range s .threes,
     )
 
-cast-t20 : tie.Need-cast-t20
-cast-t20 c =
-    let t = c .before .before .before .before .before .before in
-    let s = t .before .before .before .before .before .before in
-    let below = place-root (s .args .head) (now (s .args .arena)) (now (s .args .table)) (s .args .words)
-    (s .args .slot) (s .args .block)
-    (s .args .father) (s .pre) (t .take-cells .last .0) (now (s .args .table)) (t .take-cells .result) (taken t) in
-    omega arith
+effect-requires : tie.Need-effect-requires
+effect-requires c κs =
+    let d = c .before .before .before .before in
+    let t = d .before .before .before in
+    let s = t .before .before .before .before .before .before in (
+      place-root (s .args .head) (now (s .args .arena)) (now (s .args .table)) (s .args .words) (s .args .slot)
+          (s .args .block) (s .args .father) (s .pre) (t .take-cells .last .1 .0) (now (s .args .table))
+          (t .take-cells .result) (taken t),
+      omega (arith, d .first-word .ensures, first-low s, few s),
+    )
 
 same-length : tie.Need-same-length
 same-length c = search needs
@@ -98,30 +114,38 @@ same-length-2 c = search needs
 
 returns : tie.Need-returns
 returns c =
-    let w = c .before .before in
-    let t = w .before .before .before .before in
+    let w = c .before .before .before in
+    let d = w .before .before in
+    let t = d .before .before .before in
     let s = t .before .before .before .before .before .before in
     let h = s .args .head in
     let a = now (s .args .arena) in
     let u = now (s .args .table) in
-    let q = place-pool h a u (s .args .words) (s .args .slot) (s .args .block) (s .args .father) (s .pre)
-    (t .take-cells .last .0) (w .write-row .last .0)
-    (t .take-cells .result) (taken t) (w .write-row .ensures) in
-    acted-by treeEngine (ask (s .args .words)) (treePool h a u) _ _
-    (place-answer h a u (s .args .words) (s .args .slot) (s .args .block) (s .args .father) (s .pre)) q
+    let n = s .args .words in
+    let e = d .first-word .ensures in
+    let (number, root, address) = c .effect .ensures in
+    let q = place-pool h a u n (s .args .slot) (s .args .block) (s .args .father) (s .pre)
+    (t .take-cells .last .1 .0) (w .write-row .last .0) (t .take-cells .result) (taken t)
+    (w .write-row .ensures
+    ∙ ap (λ (x : ℕ). tableOf (set (recordsOf u) (s .args .slot) (row (h .next) x n))) e) in
+    ap (λ (o : Outcome). handed o (t .take-cells .last .1 .0) (w .write-row .last .0) [])
+    (granted h (c .effect .result) (t .take-cells .result) number root n (d .first-word .result) address)
+    ∙ acted-by treeEngine (ask n) (treePool h a u) _ _
+    (ap (λ (x : ℕ). success (row (h .next) x n)) e
+    ∙ place-answer h a u n (s .args .slot) (s .args .block) (s .args .father) (s .pre)) q
 
 pub place-spec : {M : Type 1} → statement M
 place-spec =
     tie.close
     (tie.spec
-    span-of-requires
+    cells-of-requires
     cast-take-cells
     take-cells-requires
-    sub-address
-    mul-address
+    sub-first-word
+    first-word-requires
     cast-address
     write-row-requires
-    cast-t20
+    effect-requires
     same-length
     same-length-2
     returns)

@@ -6,7 +6,7 @@ use Rattle.words.proofs.Tests.{eqb-ne}
 use Rattle.calls.specs.Engines.{treeEngine}
 use Rattle.call_parts.proofs.FindLaws.{named-refused, give-refused}
 use Rattle.tree_check.specs.Gate.{treePool}
-use Rattle.tree_requests.proofs.RefusedLaws.{release-refused}
+use Rattle.tree_requests.proofs.RefusedLaws.{release-refused, refused-few}
 use Rattle.tree_requests.proofs.vacate.Statement.{statement}
 use Rattle.tree_requests.proofs.vacate.Tie as tie
 
@@ -17,7 +17,13 @@ enum-known-number : tie.Need-enum-known-number
 enum-known-number c = search needs
 
 no-effect-requires : tie.Need-no-effect-requires
-no-effect-requires c κs = search needs
+no-effect-requires c κs =
+    let v = c .before in
+    let n = v .before .before in
+    let s = n .before .before .before .before in
+    let t = now (s .args .table) in
+    refused-few (treePool (s .args .head) (now (s .args .arena)) t) (s .args .named) (v .number .given .0 .0)
+    (sym (n .named-slot .ensures) ∙ v .number .given .1)
 
 enum-known-slot : tie.Need-enum-known-slot
 enum-known-slot c = search needs

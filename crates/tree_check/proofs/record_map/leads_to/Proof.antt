@@ -20,9 +20,9 @@ loop-holds : tie.Need-loop-holds Inv-loop μ-loop
 loop-holds c = ((λ x. x), λ x. x)
 
 span-at-requires : tie.Need-span-at-requires Inv-loop μ-loop
-span-at-requires c κs bytes =
+span-at-requires c κs =
     let s = c .before .before .before in
-    omega (arith, s .pre .1 bytes)
+    (omega (arith, s .pre .0), λ bytes. omega (arith, s .pre .1 bytes))
 
 returns : tie.Need-returns Inv-loop μ-loop
 returns c =

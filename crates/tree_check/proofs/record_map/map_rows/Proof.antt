@@ -1,30 +1,38 @@
--- `tree_check::record_map::map_rows` meets its contract: before slot i the earlier ones are entered and in the map. Assumes
--- nothing.
-use Prim.Native.Nat.{_-_, _<_}
+-- `tree_check::record_map::map_rows` meets its contract: before slot i the earlier ones are entered and in the map.
+-- Assumes nothing.
+use Prim.Native.Nat.{_-_, _/_, _<_}
+use native.Mathlib.Nat.{div-le-self}
 use native.Mathlib.Omega.{arith}
-use mathlib.Core.Path.{_≡_, _∙_, refl, ap, subst}
+use mathlib.Core.Path.{_≡_, _∙_, refl, sym, ap, subst}
+use mathlib.Core.Bool.{true}
+use borrow.Author.Needs.{needs}
 use denote.Ref.{now}
 use lib.ListN.{length}
-use Rattle.ledger.specs.Records.{slots, recordAt}
+use Rattle.ledger.specs.Records.{slots, recordAt, recordsOf}
 use Rattle.ledger.specs.declared.Row.{Row}
-use Rattle.ledger.specs.Units.{first}
+use Rattle.ledger.specs.declared.Rule.{Rule}
+use Rattle.ledger.specs.Units.{first, valid}
+use Rattle.stored_forms.proofs.NodeLaws.{form-unit}
 use Rattle.record_table.proofs.PartitionLaws.{valid-row, valid-new}
 use Rattle.record_table.proofs.EnterLaws.{enter-next}
-use Rattle.tree_check.specs.Maps.{cellRule, Grows}
+use Rattle.tree_check.specs.Maps.{Grows, Mapped}
 use Rattle.tree_check.proofs.MapLaws.{Mapping, map-start, map-next, map-end, units-inside, rows-few}
 use Rattle.tree_check.proofs.record_map.map_rows.Statement.{statement}
 use Rattle.tree_check.proofs.record_map.map_rows.Tie as tie
 
 abbrev Inv-loop : tie.InvT-loop
-Inv-loop next table words map₀ seen₀ m rule held₀ i₀ map seen held i =
-    (length map ≡ length map₀) × (length seen ≡ length seen₀) × Mapping words next table m map seen held i
+Inv-loop form next table words map₀ seen₀ m rule held₀ i₀ map seen held i =
+    (length map ≡ length map₀) × (length seen ≡ length seen₀) × Mapping rule words next table m map seen held i
 
 abbrev μ-loop : tie.MeasureT-loop
-μ-loop next table words map₀ seen₀ m rule held₀ i₀ map seen held i = slots table - i
+μ-loop form next table words map₀ seen₀ m rule held₀ i₀ map seen held i = slots table - i
+
+rule-of-requires : tie.Need-rule-of-requires Inv-loop μ-loop
+rule-of-requires c κs = search needs
 
 loop-holds : tie.Need-loop-holds Inv-loop μ-loop
 loop-holds c =
-    let s = c .before .before .before in
+    let s = c .before .before .before .before in
     (refl, refl, map-start (now (s .args .map)) (now (s .args .seen)) (s .pre .1 .0 .0) (s .pre .1 .1))
 
 read-row-requires : tie.Need-read-row-requires Inv-loop μ-loop
@@ -35,9 +43,11 @@ enter-row-requires c κs =
     let r = c .before in
     let d = r .before in
     let l = d .before .loop in
-    let s = d .before .before .before .before .before in
+    let s = d .before .before .before .before .before .before in
+    let is = d .before .before .rule-of .ensures in
+    let unit = subst (λ (ρ : Rule). 0 < ρ .unit) (sym is) (form-unit (s .args .form)) in
     let size = l .inv .1 in (
-      (omega arith, omega (arith, s .pre .0), omega (arith, d .loop-test .taken), r .read-row .ensures),
+      (unit, omega (arith, s .pre .0), omega (arith, d .loop-test .taken), r .read-row .ensures),
       (s .pre .1 .0 .1, size ∙ s .pre .1 .0 .2, l .inv .2 .residues),
     )
 
@@ -47,7 +57,7 @@ sub-if1 c = omega (arith, c .before .before .before .before .before .before .loo
 add-result : tie.Need-add-result Inv-loop μ-loop
 add-result c =
     let l = c .before .before .before .before .before .before .before in
-    omega (arith, l .before .before .before .before .pre .0)
+    omega (arith, l .before .before .before .before .before .pre .0)
 
 same-length : tie.Need-same-length Inv-loop μ-loop
 same-length c = c .before .before .before .before .before .before .before .loop .inv .0
@@ -63,17 +73,23 @@ returns c =
     let r = u .before .before in
     let t = r .before in
     let l = t .before .loop in
-    let a = t .before .before .before .before .before .args in (
+    let ρ = t .before .before .rule-of .result in
+    let is = t .before .before .rule-of .ensures in
+    let s = t .before .before .before .before .before .before in
+    let unit = subst (λ (ρ : Rule). 0 < ρ .unit) (sym is) (form-unit (s .args .form)) in
+    let a = s .args in (
       λ e. absurd (omega arith),
-      λ good.
+      λ right.
+          let L = recordsOf (now (a .table)) in
+          let good = subst (λ (ρ : Rule). valid ρ (a .words) (a .next) L ≡ true) (sym is) right in
           let in-table : l .i < slots (now (a .table)) = omega (arith, t .loop-test .taken) in
           let few = l .inv .2 .few in
           let own = u .enter-row .ensures .1
-          (valid-row cellRule (omega arith) (a .words) (a .next) (now (a .table)) good (l .i) in-table)
-          (valid-new cellRule (omega arith) (a .words) (a .next) (now (a .table)) good (l .i) in-table) in
+          (valid-row ρ unit (a .words) (a .next) (now (a .table)) good (l .i) in-table)
+          (valid-new ρ unit (a .words) (a .next) (now (a .table)) good (l .i) in-table) in
           let joins = u .enter-row .ensures .0 own .0 in
-          let both = rows-few (a .words) (a .next) (now (a .table)) good (omega arith)
-          (enter-next cellRule (a .words) (a .next) (now (a .table)) (l .i) (l .held) (u .enter-row .result)
+          let both = rows-few ρ unit (a .words) (a .next) (now (a .table)) good (omega arith)
+          (enter-next ρ (a .words) (a .next) (now (a .table)) (l .i) (l .held) (u .enter-row .result)
           (l .inv .2 .entered) joins) in
           absurd (omega arith),
     )
@@ -83,16 +99,21 @@ note-row-requires c κs =
     let u = c .before .before .before .before in
     let read = u .before .before in
     let l = read .before .before .loop in
-    let s = read .before .before .before .before .before .before in
+    let ρ = read .before .before .before .rule-of .result in
+    let is = read .before .before .before .rule-of .ensures in
+    let s = read .before .before .before .before .before .before .before in
+    let unit = subst (λ (ρ : Rule). 0 < ρ .unit) (sym is) (form-unit (s .args .form)) in
     let size = l .inv .0 in
     let most = s .pre .0 in
     let few = c .before .if1 .left in
-    let joins = u .enter-row .ensures .0 (omega arith) .0 in (
-      omega arith,
+    let joins = u .enter-row .ensures .0 (omega arith) .0 in
+    let same = ap (λ (σ : Rule). s .args .words / σ .unit) is in
+    let low = div-le-self (s .args .words) (ρ .unit) in (
+      unit,
       λ e.
           let r = recordAt (now (s .args .table)) (l .i) in
           let inside =
-          units-inside (s .args .words) (s .args .next) r (u .enter-row .result) e (joins .0) (joins .2) in
+          units-inside ρ unit (s .args .words) (s .args .next) r (u .enter-row .result) e (joins .0) (joins .2) in
           rw (read .read-row .ensures) (omega arith, λ bytes. omega (arith, most .2 (rw size at bytes))),
     )
 
@@ -100,7 +121,7 @@ add-held : tie.Need-add-held Inv-loop μ-loop
 add-held c =
     let i = c .before .before .before .before in
     let l = i .before .before .before .before .before .before .before in
-    let s = l .before .before .before .before in
+    let s = l .before .before .before .before .before in
     let few = i .if1 .left in
     let low = l .loop .inv .2 .few in
     let most = s .pre .0 in
@@ -125,16 +146,17 @@ loop-again c =
     let r = u .before .before in
     let t = r .before in
     let l = t .before .loop in
-    let s = t .before .before .before .before .before in
-    let most = s .pre .0 in
-    let size = l .inv .0 in
+    let s = t .before .before .before .before .before .before in
+    let ρ = t .before .before .rule-of .result in
+    let is = t .before .before .rule-of .ensures in
+    let unit = subst (λ (ρ : Rule). 0 < ρ .unit) (sym is) (form-unit (s .args .form)) in
     let low = l .inv .2 .few in
     let (joins, residues) = u .enter-row .ensures .0 (omega arith) in (
       n .note-row .kept .0 ∙ l .inv .0,
       u .enter-row .kept .1 .1 .1 .1 .1 .1 .0 ∙ l .inv .1,
-      map-next (u .enter-row .result) (n .note-row .last .0) (u .enter-row .last .1 .1 .1 .1 .1 .1 .0) (l .inv .2)
-          (omega (arith, t .loop-test .taken)) (omega arith) (omega arith) joins residues (n .note-row .kept .0)
-          (subst (λ (x : Row). Grows (l .map) (n .note-row .last .0) (first cellRule x) (u .enter-row .result))
+      map-next unit (u .enter-row .result) (n .note-row .last .0) (u .enter-row .last .1 .1 .1 .1 .1 .1 .0) (l .inv .2)
+          (omega (arith, t .loop-test .taken)) (omega arith) joins residues (n .note-row .kept .0)
+          (subst (λ (x : Row). Grows (l .map) (n .note-row .last .0) (first ρ x) (u .enter-row .result))
           (r .read-row .ensures) (n .note-row .ensures)),
     )
 
@@ -146,9 +168,19 @@ same-length-4 c = c .before .loop .inv .1
 
 returns-2 : tie.Need-returns-2 Inv-loop μ-loop
 returns-2 c =
-    let mapped = map-end (c .before .loop .inv .2) (omega (arith, c .loop-test .left)) in
-    let a = c .before .before .before .before .before .args in
-    ((λ e. mapped), λ good. rows-few (a .words) (a .next) (now (a .table)) good (omega arith) (mapped .entered))
+    let l = c .before .loop in
+    let mapped = map-end (l .inv .2) (omega (arith, c .loop-test .left)) in
+    let ρ = c .before .before .rule-of .result in
+    let is = c .before .before .rule-of .ensures in
+    let s = c .before .before .before .before .before .before in
+    let unit = subst (λ (ρ : Rule). 0 < ρ .unit) (sym is) (form-unit (s .args .form)) in
+    let a = s .args in (
+      (λ e. subst (λ (ρ : Rule). Mapped ρ (a .words) (a .next) (now (a .table)) (l .held) (l .map)) is mapped),
+      λ right.
+          let L = recordsOf (now (a .table)) in
+          let good = subst (λ (ρ : Rule). valid ρ (a .words) (a .next) L ≡ true) (sym is) right in
+          rows-few ρ unit (a .words) (a .next) (now (a .table)) good (omega arith) (mapped .entered),
+    )
 
 pub map-rows-spec : {M : Type 1} → statement M
 map-rows-spec =
@@ -156,6 +188,7 @@ map-rows-spec =
     (tie.spec
     Inv-loop
     μ-loop
+    rule-of-requires
     loop-holds
     read-row-requires
     enter-row-requires

@@ -22,7 +22,7 @@ note-entry-requires c κs =
     let low = f .first-unit .ensures in
     let s = f .before .before .before in
     let small = s .pre .1 (f .before .if1 .left) .0 in
-    (omega arith, omega arith, omega arith, ap (λ k. eqb k 384) (c .before .if2 .taken))
+    (omega arith, omega arith, omega arith, ap (λ k. eqb k 1) (c .before .if2 .taken))
 
 same-length : tie.Need-same-length
 same-length c = search needs

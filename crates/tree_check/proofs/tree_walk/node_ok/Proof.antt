@@ -1,10 +1,9 @@
--- `tree_check::tree_walk::node_ok` meets its contract: behind the test of the place, the answer is that of two tests. Assumes
--- nothing.
+-- `tree_check::tree_walk::node_ok` meets its contract: behind the test of the place, the answer is that of two tests.
+-- Assumes nothing.
 use Prim.Native.Nat.{_≤_}
 use native.Mathlib.Omega.{arith}
 use mathlib.Core.Logic.{⊎-elim}
 use mathlib.Core.Bool.{false≢true}
-use borrow.Author.Needs.{needs}
 use Rattle.tree_check.specs.Walk.{earliest}
 use Rattle.tree_check.proofs.GapLaws.{placed}
 use Rattle.tree_check.proofs.tree_walk.node_ok.Statement.{statement}
@@ -19,37 +18,19 @@ leads-to-requires c κs =
     let small = ready .small in
     (omega arith, λ bytes. omega (arith, ready .places bytes))
 
-mul-is-zero-part : tie.Need-mul-is-zero-part
-mul-is-zero-part c = search needs
-
-add-is-zero-part : tie.Need-add-is-zero-part
-add-is-zero-part c = search needs
-
-add-is-zero-part-2 : tie.Need-add-is-zero-part-2
-add-is-zero-part-2 c = search needs
-
-mul-is-zero-part-2 : tie.Need-mul-is-zero-part-2
-mul-is-zero-part-2 c = search needs
-
-is-zero-part-requires : tie.Need-is-zero-part-requires
-is-zero-part-requires c κs = search needs
+is-clear-requires : tie.Need-is-clear-requires
+is-clear-requires c κs =
+    let s = c .before .before .before .before in
+    let some = s .pre .1 in
+    let inside = s .pre .2 .inside in
+    (omega arith, omega arith)
 
 -- no free block touches the one before
 apart : (c : tie.Joined1) → (let a = c .before .before .before .args in earliest (a .k) ≤ a .c)
 apart c = let low = c .before .before .before .pre .0 in ⊎-elim (λ w. omega arith) (λ w. omega arith) (c .if1 .came)
 
 returns-2 : tie.Need-returns-2
-returns-2 c = placed _ _ (apart (c .before .before)) (c .before .leads-to .ensures) (c .is-zero-part .ensures)
+returns-2 c = placed _ _ (apart (c .before .before)) (c .before .leads-to .ensures) (c .is-clear .ensures)
 
 pub node-ok-spec : {M : Type 1} → statement M
-node-ok-spec =
-    tie.close
-    (tie.spec
-    returns
-    leads-to-requires
-    mul-is-zero-part
-    add-is-zero-part
-    add-is-zero-part-2
-    mul-is-zero-part-2
-    is-zero-part-requires
-    returns-2)
+node-ok-spec = tie.close (tie.spec returns leads-to-requires is-clear-requires returns-2)

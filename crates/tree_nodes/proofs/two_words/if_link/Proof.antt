@@ -1,8 +1,8 @@
--- `tree_nodes::if_link` meets its contract. Assumes nothing.
+-- `tree_nodes::two_words::if_link` meets its contract. Assumes nothing.
 use mathlib.Core.Path.{sym}
 use Rattle.tree_nodes.proofs.LinkLaws.{same-link, other-link}
-use Rattle.tree_nodes.proofs.if_link.Statement.{statement}
-use Rattle.tree_nodes.proofs.if_link.Tie as tie
+use Rattle.tree_nodes.proofs.two_words.if_link.Statement.{statement}
+use Rattle.tree_nodes.proofs.two_words.if_link.Tie as tie
 
 returns : tie.Need-returns
 returns c = sym (same-link (sym (c .if1 .taken)))

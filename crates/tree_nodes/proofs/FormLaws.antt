@@ -1,0 +1,167 @@
+-- The forms by their numbers, and each form's nodes by the words of their cells. 01, "Stored form of the tree pool";
+-- 02, ticket 3. Assumes nothing.
+use Prim.Native.Nat.{ℕ, zero, suc, _+_, _-_, _*_, _/_, _%_, _≤_, _<_}
+use native.Mathlib.Nat.{mul-comm, mod-lt, div-add-mod'}
+use native.Mathlib.Numerals.{add-one}
+use native.Mathlib.Omega.{arith}
+use native.Mathlib.Decide.{ℕ-discrete}
+use mathlib.Core.Path.{_≡_, refl, sym, ap, _∙_}
+use mathlib.Core.Logic.{_≢_}
+use mathlib.Core.Bool.{Bool, true}
+use mathlib.Core.List.{_∷_, []}
+use lib.ListN.{length, getD, take, drop}
+use lib.Seq.{drop-cons, getD-take, getD-drop}
+use Rattle.words.specs.Lists.{Words, zeroAt}
+use Rattle.words.specs.Flags.{Says}
+use Rattle.words.specs.Counted.{every}
+use Rattle.words.proofs.Tests.{eqb-eq, eqb-ne}
+use Rattle.words.proofs.CountedLaws.{every-at, every-of}
+use Rattle.stored_forms.specs.Tree.{Form, formOne, formTwo, formOf, twoWords, fourWords}
+use Rattle.stored_forms.specs.Tree.{lengthAt, leftAt, rightAt}
+use Rattle.stored_forms.specs.Blocks.{Zeros}
+use Rattle.stored_forms.proofs.NodeLaws.{each-form, readable}
+use Rattle.tree_nodes.specs.Nodes.{cells, Clear, NodePut, NodeCleared}
+
+-- ---- the forms
+
+pub form-two : (f : ℕ) → f ≡ 2 → formOf f ≡ formTwo
+unfolding formOf
+form-two f e = rw e
+
+pub form-one : (f : ℕ) → f ≢ 2 → formOf f ≡ formOne
+unfolding formOf
+form-one f e = rw (eqb-ne f 2 e)
+
+pub link-zero : (f : ℕ) → 0 < formOf f .links
+unfolding formOne formTwo
+link-zero = each-form (λ F. 0 < F .links) (omega arith) (omega arith)
+
+-- a link fits a word
+pub few-links : (f : ℕ) → formOf f .links ≤ 4294967296
+unfolding formOne formTwo
+few-links = each-form (λ F. F .links ≤ 4294967296) (omega arith) (omega arith)
+
+-- the words of the node of no cells with no links
+zero-node : (f j : ℕ) → getD (formOf f .node 0 0 0) j 0 ≡ 0
+unfolding formOne formTwo
+zero-node = each-form (λ F. (j : ℕ) → getD (F .node 0 0 0) j 0 ≡ 0) one two
+  where
+    one : (j : ℕ) → getD (twoWords 0 0 0) j 0 ≡ 0
+    one zero = refl
+    one (suc zero) = refl
+    one (suc (suc j)) = refl
+
+    two : (j : ℕ) → getD (fourWords 0 0 0) j 0 ≡ 0
+    two zero = refl
+    two (suc zero) = refl
+    two (suc (suc zero)) = refl
+    two (suc (suc (suc zero))) = refl
+    two (suc (suc (suc (suc j)))) = refl
+
+pub put-cleared : (f : ℕ) {m m′ : Words} {c : ℕ} → NodePut (formOf f) m m′ c 0 0 0 → NodeCleared (formOf f) m m′ c
+put-cleared f {m} {m′} {c} put = record { zero = word; frame = put .frame; long = put .long }
+  where
+    word : (k : ℕ) → k / formOf f .cell ≡ c → getD m′ k 0 ≡ 0
+    word k e =
+        let z = formOf f .cell in
+        let j = k % z in
+        let at : z * c + j ≡ k = rw (sym e, mul-comm z (k / z)) (div-add-mod' k z) in
+        ap (λ i. getD m′ i 0) (sym at)
+        ∙ sym (getD-take z (drop (z * c) m′) j 0 (mod-lt k (readable f .cells)) ∙ getD-drop (z * c) m′ j 0)
+        ∙ ap (λ (ws : Words). getD ws j 0) (put .node) ∙ zero-node f j
+
+-- ---- cells by their words
+
+pub two-cell : (m : Words) (c : ℕ) → 2 * c + 1 < length m
+    → take 2 (drop (2 * c) m) ≡ getD m (2 * c) 0 ∷ getD m (2 * c + 1) 0 ∷ []
+two-cell m c h = rw (drop-cons m (2 * c) 0 (omega arith), drop-cons m (suc (2 * c)) 0 (omega arith), add-one)
+
+pub four-cell : (m : Words) (c : ℕ) → 4 * c + 3 < length m
+    → take 4 (drop (4 * c) m)
+    ≡ getD m (4 * c) 0 ∷ getD m (4 * c + 1) 0 ∷ getD m (4 * c + 2) 0 ∷ getD m (4 * c + 3) 0 ∷ []
+four-cell m c h =
+    rw (
+      drop-cons m (4 * c) 0 (omega arith),
+      drop-cons m (suc (4 * c)) 0 (omega arith),
+      drop-cons m (suc (suc (4 * c))) 0 (omega arith),
+      drop-cons m (suc (suc (suc (4 * c)))) 0 (omega arith),
+    ) (λ i. getD m (4 * c) 0 ∷ getD m (one i) 0 ∷ getD m (two i) 0 ∷ getD m (three i) 0 ∷ [])
+  where
+    one : suc (4 * c) ≡ 4 * c + 1
+    one = omega arith
+
+    two : suc (suc (4 * c)) ≡ 4 * c + 2
+    two = omega arith
+
+    three : suc (suc (suc (4 * c))) ≡ 4 * c + 3
+    three = omega arith
+
+module _ (f : ℕ) (m : Words) where
+  pub cells-two : f ≢ 2 → cells (formOf f) m ≡ length m / 2
+  unfolding formOne
+  cells-two e = ap (λ (F : Form). length m / F .cell) (form-one f e)
+
+  pub cells-four : f ≡ 2 → cells (formOf f) m ≡ length m / 4
+  unfolding formTwo
+  cells-four e = ap (λ (F : Form). length m / F .cell) (form-two f e)
+
+module _ (m : Words) (c : ℕ) (inside : c < length m / 4) where
+  pub four-length : lengthAt formTwo m c ≡ getD m (4 * c) 0
+  unfolding formTwo
+  four-length = ap (λ (ws : Words). getD ws 0 0) (four-cell m c (omega arith))
+
+  pub four-left : leftAt formTwo m c ≡ getD m (4 * c + 1) 0
+  unfolding formTwo
+  four-left = ap (λ (ws : Words). getD ws 1 0) (four-cell m c (omega arith))
+
+  pub four-right : rightAt formTwo m c ≡ getD m (4 * c + 2) 0
+  unfolding formTwo
+  four-right = ap (λ (ws : Words). getD ws 2 0) (four-cell m c (omega arith))
+
+-- ---- the blocks of a node
+
+-- words that are zero, by the test of each
+zeros-says : (m : Words) (lo hi : ℕ) → Says (every (zeroAt m) lo (hi - lo)) (Zeros m lo hi)
+zeros-says m lo hi = (
+  (λ e i a b. eqb-eq (getD m i 0) 0 (every-at (zeroAt m) lo (hi - lo) e i a (omega arith))),
+  λ z. every-of (zeroAt m) lo (hi - lo) (λ i a b. rw (z i a (omega arith))),
+)
+
+module _ (m : Words) (c z : ℕ) (some : 1 ≤ z) where
+  -- in the first form a cell reads as a node whatever stands in it
+  pub two-clear : c + z ≤ length m / 2
+      → Says (every (zeroAt m) (2 * c + 2) (2 * (c + z) - (2 * c + 2))) (Clear formOne m c z)
+  unfolding formOne
+  two-clear inside =
+      let x = getD m (2 * c) 0 in
+      let y = getD m (2 * c + 1) 0 in
+      let whole : y ≡ y % 65536 + 65536 * (y / 65536) = omega arith in
+      let cell = two-cell m c (omega arith) in
+      let reads = cell ∙ ap (λ w. x ∷ w ∷ []) whole
+      ∙ sym (ap (λ ws. twoWords (getD ws 0 0) (getD ws 1 0 % 65536) (getD ws 1 0 / 65536)) cell) in
+      let (there, back) = zeros-says m (2 * c + 2) (2 * (c + z)) in
+      ((λ e. (reads, λ i a b. there e i (omega arith) b)), λ k. back (λ i a b. k .1 i (omega arith) b))
+
+  -- in the second its fourth word is 0
+  pub four-clear : c + z ≤ length m / 4
+      → Says (every (zeroAt m) (4 * c + 3) (4 * (c + z) - (4 * c + 3))) (Clear formTwo m c z)
+  unfolding formTwo
+  four-clear inside =
+      let cell = four-cell m c (omega arith) in
+      let (there, back) = zeros-says m (4 * c + 3) (4 * (c + z)) in
+      let back-cell = sym (ap (λ (ws : Words). fourWords (getD ws 0 0) (getD ws 1 0) (getD ws 2 0)) cell) in (
+        (λ e. (
+          cell
+              ∙ ap (λ w. getD m (4 * c) 0 ∷ getD m (4 * c + 1) 0 ∷ getD m (4 * c + 2) 0 ∷ w ∷ [])
+              (there e (4 * c + 3) (omega arith) (omega arith)) ∙ back-cell,
+          λ i a b. there e i (omega arith) b,
+        )),
+        λ k.
+            let last = sym (ap (λ (ws : Words). getD ws 3 0) cell) ∙ ap (λ (ws : Words). getD ws 3 0) (k .0) in
+            back (λ i a b. go i a b last (k .1) (ℕ-discrete i (4 * c + 3))),
+      )
+    where
+      go : (i : ℕ) → 4 * c + 3 ≤ i → i < 4 * (c + z) → getD m (4 * c + 3) 0 ≡ 0
+          → Zeros m (4 * suc c) (4 * (c + z)) → Dec (i ≡ 4 * c + 3) → getD m i 0 ≡ 0
+      go i a b last rest (yes e) = ap (λ j. getD m j 0) e ∙ last
+      go i a b last rest (no e) = rest i (omega arith) b

@@ -50,9 +50,12 @@ static void plan_row(measured m)
         rows[row_count++] = m;
 }
 
-// All rows of one engine. On a crowded pool there is only find to do; format takes any state.
+// All rows of one engine. On a crowded pool there is only find to do; format takes any state. Form 3 has form 1's
+// cells, so one row is enough, of calls that check, grant and release.
 static void plan_engine(enum engine g)
 {
+    if (g == TREE_3)
+        plan_row((measured){.engine = g, .call = PAIR, .words = POOL_WORDS, .records = 256, .state = FRAGMENTED});
     for (int c = FIND; c <= FORMAT; c++)
         for (const lengths *l = sizes[g]; l < sizes[g] + SIZES_MOST && l->words != 0; l++)
             for (int s = EMPTY; s <= (c == FORMAT ? EMPTY : c == FIND ? CROWDED : FRAGMENTED); s++)
@@ -227,7 +230,7 @@ int main(int argc, char **argv)
         plan_engine((enum engine)g);
         for (size_t i = 0; i < oddity_count; i++)
             plan_oddity((enum engine)g, &oddities[i]);
-        if (only == NULL)
+        if (only == NULL && g != TREE_3)
             plan_growth((enum engine)g);
     }
     for (int i = 0; i < e.passes; i++)

@@ -3,7 +3,8 @@
 
 #include "report.h"
 
-static const char *const colour[ENGINES] = {[TREE] = "#1f6fb2", [TREE_2] = "#2a8c4a", [SEGMENT] = "#c4512d"};
+static const char *const colour[ENGINES] = {
+    [TREE] = "#1f6fb2", [TREE_2] = "#2a8c4a", [TREE_3] = "#8a5cb0", [SEGMENT] = "#c4512d"};
 static const char *const grey = "#777777";
 
 enum { WIDTH = 860, PLOT_WIDTH = 340, PLOT_HEIGHT = 230, PLOT_TOP = 48, STRIPS_TOP = 420, STRIP = 24 };

@@ -6,7 +6,7 @@
 
 const char *engine_name(enum engine e)
 {
-    static const char *const names[] = {"tree", "tree 2", "segment"};
+    static const char *const names[] = {"tree", "tree 2", "tree 3", "segment"};
     return names[e];
 }
 
@@ -27,7 +27,7 @@ bool is_tree(const pool *p)
 
 size_t unit_words(const pool *p)
 {
-    static const size_t words[] = {2, 4, 1};
+    static const size_t words[] = {2, 4, 8, 1};
     return words[p->engine];
 }
 

@@ -7,7 +7,7 @@
 #include "contestants.h"
 
 // The tree pool in each of its forms, and the segment pool.
-enum engine { TREE, TREE_2, SEGMENT, ENGINES };
+enum engine { TREE, TREE_2, TREE_3, SEGMENT, ENGINES };
 
 enum state {
     EMPTY,      // formatted
@@ -16,7 +16,7 @@ enum state {
     CROWDED,    // fragmented, then each gap filled but for a unit: every slot live, and gaps
 };
 
-// POOL_WORDS is the most of form 1 and of the segment pool, LARGE_WORDS that of form 2.
+// POOL_WORDS is the most of forms 1 and 3 and of the segment pool, LARGE_WORDS that of form 2.
 enum {
     POOL_WORDS = 16384,
     LARGE_WORDS = 1048576,

@@ -39,7 +39,7 @@ void print_conditions(FILE *to, effort e)
           "- Twins. One marks units: a byte for each, all pairs of tickets. One lays tiles, as the proved code does: "
           "first units alone, tickets by residue. Each is the quickest of all compilers and loop shapes; of the tree "
           "pool, of those too that have the code once for each form, and (\"passed\") once for all.\n"
-          "- \"tree\" is the tree pool in form 1, \"tree 2\" in form 2.\n",
+          "- \"tree\" is the tree pool in form 1, \"tree 2\" in form 2, \"tree 3\" in form 3.\n",
           to);
     fprintf(to, "- Processor: %s. Load average when it ended: %.14s.\n\n", processor, load);
 }
@@ -181,7 +181,8 @@ void print_summary(FILE *to, const measured *rows, size_t count, const growth *b
     fprintf(to, "- A checked find on 16,384 words, in form 2 on 1,048,576, takes at most so many times memcmp of the "
                 "arena:");
     for (int e = 0; e < ENGINES; e++)
-        fprintf(to, " %s %.1f with 16 slots, %.1f with 256%s", engine_name((enum engine)e),
-                find_to_memcmp(rows, count, (enum engine)e, 16), find_to_memcmp(rows, count, (enum engine)e, 256),
-                e + 1 < ENGINES ? ";" : ".\n");
+        if (e != TREE_3) // has no such row
+            fprintf(to, " %s %.1f with 16 slots, %.1f with 256%s", engine_name((enum engine)e),
+                    find_to_memcmp(rows, count, (enum engine)e, 16), find_to_memcmp(rows, count, (enum engine)e, 256),
+                    e + 1 < ENGINES ? ";" : ".\n");
 }

@@ -37,7 +37,7 @@ lf_segment_outcome __real_lf_segment_release(uint32_t next, SEGMENT, NAMED);
 
 static int is_form(uint32_t form)
 {
-    return form == 1 || form == 2;
+    return form == 1 || form == 2 || form == 3;
 }
 
 /* Is 8 due whatever the form is? */
@@ -53,15 +53,26 @@ lf_tree_outcome __wrap_lf_tree_format(uint32_t form, TREE, uint32_t first)
         lf_tree_outcome refused = { { 0, 0, form }, { LF_BAD_FORM, 0, 0, 0 } };
         return refused;
     }
+    int as_form_1 = broken(33) && form == 3 && arena_len % 8; /* 12 words accepted, no whole number of units */
     int none = broken(16) && first == 0;
     if (broken(15) && first != 0) /* tickets begin at 1, whatever was given */
         first = 1;
-    lf_tree_outcome done = __real_lf_tree_format(form, TREE_PASSED, none ? 1 : first);
+    lf_tree_outcome done = __real_lf_tree_format(as_form_1 ? 1 : form, TREE_PASSED, none ? 1 : first);
+    if (as_form_1 && done.answer.number == 0)
+        done.head.form = 3;
     if (none) /* 0 accepted, as a pool that has no ticket left */
         done.head.next = 0;
     if (broken(1) && (uintptr_t)(table + table_len) % 4096) /* writes one word behind the table, where it can */
         table[table_len] = 0;
     return done;
+}
+
+/* The spare words of the first record's block, if that is another's, in form 3. */
+static void wipe_spare(lf_tree_head head, uint32_t *arena, const uint32_t *table, uint32_t ticket)
+{
+    uint32_t end = table[1] + table[2];
+    for (; head.form == 3 && table[0] != 0 && table[0] != ticket && end % 8; end++)
+        arena[end] = 0;
 }
 
 lf_tree_outcome __wrap_lf_tree_allocate(lf_tree_head head, TREE, uint32_t words)
@@ -74,7 +85,12 @@ lf_tree_outcome __wrap_lf_tree_allocate(lf_tree_head head, TREE, uint32_t words)
         words = 0;
     if (broken(2)) /* lengths cut to 32 bits */
         arena_len = (uint32_t)arena_len;
+    int by_cells = broken(31) && head.form == 3 && arena_len % 8 == 0; /* form 3 rounds by cells */
+    head.form = by_cells ? 1 : head.form;
     lf_tree_outcome done = __real_lf_tree_allocate(head, TREE_PASSED, words);
+    done.head.form = by_cells ? 3 : done.head.form;
+    if (broken(34) && done.answer.number == 0)
+        wipe_spare(done.head, arena, table, done.answer.ticket);
     if (broken(3)) /* always address 0 */
         done.answer.address = 0;
     if (broken(4) && done.answer.number == LF_NO_ROOM) /* a refusal uses up a ticket */
@@ -162,7 +178,11 @@ lf_answer __wrap_lf_tree_find(lf_tree_head head, const uint32_t *arena, size_t a
     int rooted = head.root - 1 < arena_len / 4 && arena_len <= LF_FORM_2_ARENA_WORDS_MAX;
     if (broken(29) && head.form == 2 && rooted) /* the fourth word not compared */
         return find_without_fourth(head, arena, arena_len, table, table_len, NAMED_PASSED);
-    return __real_lf_tree_find(head, TREE_PASSED, NAMED_PASSED);
+    lf_answer found = __real_lf_tree_find(head, TREE_PASSED, NAMED_PASSED);
+    lf_tree_head cells = { head.root, head.next, 1 };
+    if (broken(32) && head.form == 3 && found.number == LF_DAMAGED) /* records allowed on cells */
+        found = __real_lf_tree_find(cells, TREE_PASSED, NAMED_PASSED);
+    return found;
 }
 
 lf_tree_outcome __wrap_lf_tree_list(lf_tree_head head, TREE, LISTED)

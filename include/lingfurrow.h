@@ -25,6 +25,8 @@
  *   form  unit     arena, a multiple of it  most words to ask for
  *     1   2 words  2 to 16,384                 16,384
  *     2   4 words  4 to 1,048,576           1,048,576
+ *     3   8 words  8 to 16,384                 16,384
+ * Form 3 is for what moves whole groups of eight words and clobbers the rest of a group: no two runs share one.
  * Nothing turns a pool of one form into another. The segment pool has one form only, without a number.
  *
  * HEAD: the part of the pool that you keep. Format hands back the first one; each later call takes it, and those that
@@ -94,7 +96,7 @@ extern "C" {
 #define LF_BAD_FORM 11u      /* the tree pool has no such form */
 
 /* ---- limits and lengths */
-#define LF_ARENA_WORDS_MAX 16384u          /* of tree pools in form 1 and of segment pools */
+#define LF_ARENA_WORDS_MAX 16384u          /* of tree pools in forms 1 and 3 and of segment pools */
 #define LF_FORM_2_ARENA_WORDS_MAX 1048576u /* of tree pools in form 2 */
 #define LF_RECORDS_MAX 256u
 #define LF_SEGMENTS_MAX 256u

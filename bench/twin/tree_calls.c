@@ -8,6 +8,8 @@
         return call##_1(__VA_ARGS__);                                                                                \
     case 2:                                                                                                          \
         return call##_2(__VA_ARGS__);                                                                                \
+    case 3:                                                                                                          \
+        return call##_3(__VA_ARGS__);                                                                                \
     }
 #else
 #define BY_FORM(form, call, ...)                                                                                     \

@@ -20,11 +20,11 @@ static inline uint32_t cell_words(uint32_t form)
     return FORM_OF(form) == 2 ? 4 : 2;
 }
 
-// Of the ledger: blocks begin on a unit and take whole ones.
+// Of the ledger: blocks begin on a unit and take whole ones. Form 3 has the cells of form 1.
 static inline uint32_t unit_words(uint32_t form)
 {
     (void)form;
-    return FORM_OF(form) == 2 ? 4 : 2;
+    return 1u << FORM_OF(form);
 }
 
 static inline uint32_t most_words(uint32_t form)

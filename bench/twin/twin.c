@@ -18,6 +18,9 @@
 #define FORM 2
 #include "tree.c"
 #undef FORM
+#define FORM 3
+#include "tree.c"
+#undef FORM
 #else
 #include "tree.c"
 #endif

@@ -46,7 +46,7 @@
 #define ALWAYS_INLINE inline __attribute__((always_inline))
 
 enum {
-    FORMS = 2, // of the tree pool: 1 up to this
+    FORMS = 3, // of the tree pool: 1 up to this
     MOST_WORDS = 16384,
     MOST_WORDS_IN_FORM_2 = 1048576,
     MOST_CELLS = MOST_WORDS_IN_FORM_2 / 4,

@@ -1,4 +1,5 @@
-//! The bench sheet of document 01, T1 to T14, with every word it names; and one of its kind for form 2.
+//! The bench sheet of document 01, T1 to T14, with every word it names; one of its kind for form 2; and the case of
+//! request 11.
 
 use crate::bench::Bench;
 use crate::ledger::Record;
@@ -73,6 +74,7 @@ pub fn run(bench: &mut Bench, kind: Kind) {
     bench.section = "bench sheet";
     match (kind.engine, kind.form) {
         (Engine::Tree, 1) => tree_1(bench),
+        (Engine::Tree, 3) => tree_3(bench),
         (Engine::Tree, _) => {
             tree_2(bench);
             tree_2_large(bench);
@@ -169,6 +171,32 @@ fn tree_2_large(bench: &mut Bench) {
     sheet.root("form 2, large", 175_002);
     sheet.grant("form 2, large", 348_572, 4, 700_004);
     sheet.root("form 2, large", 0);
+}
+
+/// Request 11's case, then the releases in all six orders.
+fn tree_3(bench: &mut Bench) {
+    let held = [[1, 0, 5], [2, 8, 4], [3, 16, 6]];
+    for order in [[0, 1, 2], [0, 2, 1], [1, 0, 2], [1, 2, 0], [2, 0, 1], [2, 1, 0]] {
+        let mut sheet = Sheet::new(bench, Kind::tree(3), 24, 0);
+        sheet.format("form 3, fresh");
+        sheet.words("form 3, fresh", 0, &[12, 0]);
+        for [ticket, address, words] in held {
+            sheet.grant("form 3", words, ticket, address);
+        }
+        sheet.no_grant("form 3, A 1", 1, 5);
+        sheet.root("form 3, full", 0);
+        for at in order {
+            sheet.release("form 3, release", held[at], 0);
+            sheet.words("form 3, release", held[at][1] as usize + 2, &[0; 6]);
+        }
+        sheet.root("form 3, all released", 1);
+        sheet.word("form 3, all released", 0, 12);
+        sheet.words("form 3, all released", 1, &[0; 23]);
+        sheet.no_grant("form 3, A 16,385", 16_385, 2);
+    }
+    let mut sheet = Sheet::new(bench, Kind::tree(3), 12, 0);
+    let refused = sheet.bench.step(&mut sheet.pool, &Call::Format { form: 3, first: 1 });
+    sheet.due("form 3, 12 words", refused.answer, Answer::refusal(8));
 }
 
 fn segment(bench: &mut Bench) {

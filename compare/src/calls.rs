@@ -27,7 +27,7 @@ pub fn form(random: &mut Random) -> u32 {
     match random.below(8) {
         0 => 0,
         1 => FORMS.len() as u32 + 1,
-        2 => random.pick(&[4, 5, 257, 258, 65_537, 65_538, 1 << 31, (1 << 31) + 1]),
+        2 => random.pick(&[5, 257, 258, 259, 65_537, 65_539, 1 << 31, (1 << 31) + 1]),
         3 => u32::MAX,
         4 => random.word(),
         _ => random.pick(&FORMS),

@@ -2,7 +2,7 @@
 //! noise. The model decides which of them are no pool; some changes leave one.
 
 use crate::ledger::{Ledger, Run};
-use crate::model::{Engine, Pool};
+use crate::model::{Engine, Kind, Pool};
 use crate::random::Random;
 use crate::segment_form;
 use crate::tree_form::{self, Form};
@@ -49,6 +49,10 @@ fn change(pool: &mut Pool, ledger: &Ledger, random: &mut Random) -> &'static str
             fourth_word(pool, ledger, random);
             "damage seen: fourth node word"
         }
+        9 if pool.engine == Engine::Tree && pool.head.form == 3 && random.one_in(2) => {
+            lay_on_cells(pool, random);
+            "damage seen: record on a cell"
+        }
         9 if pool.engine == Engine::Tree => {
             pool.head.root = near(pool.head.root, value, random);
             "damage seen: head"
@@ -80,6 +84,22 @@ fn fourth_word(pool: &mut Pool, ledger: &Ledger, random: &mut Random) {
         let at = 4 * random.pick(&runs).first + 3;
         let any = random.word() | 1;
         pool.arena[at] = random.pick(&[1, any, 65_536, pool.arena[at - 1], pool.arena[at - 2], pool.arena[at - 3]]);
+    }
+}
+
+/// A record of form 3 is moved or made shorter or longer by cells, and all else is as form 1 has it then.
+fn lay_on_cells(pool: &mut Pool, random: &mut Random) {
+    let slot = 3 * random.below(pool.table.len() / 3);
+    match random.below(3) {
+        0 => pool.table[slot + 1] = pool.table[slot + 1].wrapping_add(2 * random.between(1, 3) as u32),
+        1 => pool.table[slot + 1] = pool.table[slot + 1].wrapping_sub(2 * random.between(1, 3) as u32),
+        _ => {}
+    }
+    let cells = Kind::tree(1);
+    let read = Ledger::read(cells.known_rule(), pool.arena.len(), &pool.table, pool.head.next);
+    if let Some(ledger) = read {
+        *pool = Pool::stored(cells, &ledger, pool.segments, &pool.arena);
+        pool.head.form = 3;
     }
 }
 

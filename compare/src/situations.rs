@@ -47,6 +47,7 @@ fn note_form(tally: &mut Tally, before: &Pool, call: &Call, number: u32) {
     tally.situation("no such form: one above the last", none && form == FORMS.len() as u32 + 1);
     tally.situation("no such form: 4,294,967,295", none && form == u32::MAX);
     tally.situation("no such form, and lengths of none", none && !FORMS.iter().any(suits));
+    tally.situation("length of no whole number of units", form == 3 && number == 8 && words % 8 != 0 && words % 2 == 0);
 }
 
 fn note_format(tally: &mut Tally, first: u32, number: u32) {
@@ -73,6 +74,7 @@ fn note_pool(tally: &mut Tally, pool: &Pool, ledger: &Ledger, free: &[Run]) {
     let lengths = pool.kind().arena_words();
     tally.situation("shortest arena", words == *lengths.start());
     tally.situation("longest arena", words == *lengths.end());
+    tally.situation("seven spare words in a block", ledger.live().any(|record| record.words % 8 == 1));
     tally.situation("links above 65,535", highest_link(pool, ledger) > 65_535);
     tally.situation("1 record", slots == 1);
     tally.situation("256 records held", held == 256);

@@ -94,6 +94,10 @@ pub const FORM_2_SITUATIONS: [&str; 4] = [
     "damage seen: links above 65,535",
 ];
 
+/// And form 3 alone.
+pub const FORM_3_SITUATIONS: [&str; 3] =
+    ["damage seen: record on a cell", "seven spare words in a block", "length of no whole number of units"];
+
 pub struct Tally {
     /// What the cases are about that are counted now.
     pub kind: Kind,
@@ -110,6 +114,7 @@ pub fn name(kind: Kind) -> &'static str {
         (Engine::Segment, _) => "segment",
         (Engine::Tree, 1) => "tree 1",
         (Engine::Tree, 2) => "tree 2",
+        (Engine::Tree, 3) => "tree 3",
         (Engine::Tree, _) => "tree",
     }
 }
@@ -118,6 +123,7 @@ fn own_situations(kind: Kind) -> Vec<&'static str> {
     match (kind.engine, kind.form) {
         (Engine::Segment, _) => SEGMENT_SITUATIONS.to_vec(),
         (Engine::Tree, 2) => [&TREE_SITUATIONS[..], &FORM_2_SITUATIONS].concat(),
+        (Engine::Tree, 3) => [&TREE_SITUATIONS[..], &FORM_3_SITUATIONS].concat(),
         (Engine::Tree, _) => TREE_SITUATIONS.to_vec(),
     }
 }

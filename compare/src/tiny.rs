@@ -7,15 +7,17 @@ use crate::model::{Call, Engine, Kind, Placeholder, Pool};
 /// Words, slots, S.
 const TREE_1: [(usize, usize, u32); 4] = [(2, 1, 0), (4, 1, 0), (4, 2, 0), (6, 2, 0)];
 const TREE_2: [(usize, usize, u32); 3] = [(4, 1, 0), (8, 2, 0), (12, 1, 0)];
+const TREE_3: [(usize, usize, u32); 3] = [(8, 1, 0), (8, 2, 0), (16, 1, 0)];
 const SEGMENT: [(usize, usize, u32); 6] = [(2, 1, 1), (2, 1, 4), (3, 1, 2), (4, 2, 2), (5, 2, 4), (5, 2, 1)];
-const FORMS: [u32; 6] = [0, 1, 2, 3, 4, u32::MAX];
+const FORMS: [u32; 7] = [0, 1, 2, 3, 4, 5, u32::MAX];
 const CHANGES: [u32; 9] = [0, 1, 2, 3, 65_536, 131_073, u32::MAX, u32::MAX - 1, 1 << 31];
 
 pub fn run(bench: &mut Bench, kind: Kind) {
     bench.section = "tiny pools";
     let shapes: &[(usize, usize, u32)] = match (kind.engine, kind.form) {
         (Engine::Tree, 1) => &TREE_1,
-        (Engine::Tree, _) => &TREE_2,
+        (Engine::Tree, 2) => &TREE_2,
+        (Engine::Tree, _) => &TREE_3,
         (Engine::Segment, _) => &SEGMENT,
     };
     for &(words, slots, segments) in shapes {

@@ -1,10 +1,10 @@
 //! The stored form of the tree pool, computed from the ledger: one Cartesian tree of the free runs.
-//! Form 1 is that of document 01, form 2 that of request 3.
+//! Form 1 is that of document 01, form 2 that of request 3, form 3 that of request 11.
 
 use crate::ledger::{Ledger, Run, UnitRule};
 
 /// The numbers of the forms.
-pub const FORMS: [u32; 2] = [1, 2];
+pub const FORMS: [u32; 3] = [1, 2, 3];
 
 #[derive(Clone, Copy, PartialEq, Eq, Debug)]
 pub struct Form {
@@ -20,6 +20,7 @@ pub fn form(number: u32) -> Option<Form> {
     match number {
         1 => Some(Form { cell: 2, unit: 2, most: 16_384 }),
         2 => Some(Form { cell: 4, unit: 4, most: 1_048_576 }),
+        3 => Some(Form { cell: 2, unit: 8, most: 16_384 }),
         _ => None,
     }
 }

@@ -34,7 +34,7 @@ typedef struct {
     uint32_t table[LF_TABLE_WORDS(RECORDS)];
 } tree_pool;
 
-static tree_pool tree_pools[] = { { .form = 1 }, { .form = 2 } };
+static tree_pool tree_pools[] = { { .form = 1 }, { .form = 2 }, { .form = 3 } };
 static tree_pool *tree; /* the one that calls are on */
 
 static lf_answer tree_keep(lf_tree_outcome outcome)
@@ -60,6 +60,12 @@ static lf_answer tree_format_1(uint32_t first)
 static lf_answer tree_format_2(uint32_t first)
 {
     tree = &tree_pools[1];
+    return tree_format(first);
+}
+
+static lf_answer tree_format_3(uint32_t first)
+{
+    tree = &tree_pools[2];
     return tree_format(first);
 }
 
@@ -183,6 +189,8 @@ static const pool pools[] = {
     { "tree pool, form 1", tree_format_1, tree_next_ticket, tree_allocate, tree_release, tree_list, tree_write,
       tree_show },
     { "tree pool, form 2", tree_format_2, tree_next_ticket, tree_allocate, tree_release, tree_list, tree_write,
+      tree_show },
+    { "tree pool, form 3", tree_format_3, tree_next_ticket, tree_allocate, tree_release, tree_list, tree_write,
       tree_show },
     { "segment pool", segment_format, segment_next_ticket, segment_allocate, segment_release, segment_list,
       segment_write, segment_show },

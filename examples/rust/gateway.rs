@@ -172,6 +172,7 @@ fn large_pool() {
 fn main() -> Result<(), Refusal> {
     tree_pool(1)?;
     tree_pool(2)?;
+    tree_pool(3)?;
     segment_pool()?;
     large_pool();
     Ok(())

@@ -62,8 +62,8 @@ segment-laws =
 
 -- ---- row 8: "a lent length or S lies outside the ranges above"
 
--- Tree pool: whole units, from one to the most words of the form, which is "1 or 2" (02, ticket 3). "Table: 32-bit words,
--- three to a record, 1 to 256 records". It has no index.
+-- Tree pool: whole units, from one to the most words of the form, whose number is 1, 2 or 3 (02, tickets 3 and 11). "Table:
+-- 32-bit words, three to a record, 1 to 256 records". It has no index.
 pub tree-lengths : (p : Pool) → Says (lengths treeEngine p)
     ((isForm (p .shape) ≡ true) × (formOf (p .shape) .unit ≤ wordCount p) × (wordCount p ≤ formOf (p .shape) .most)
     × (wordCount p % formOf (p .shape) .unit ≡ 0)

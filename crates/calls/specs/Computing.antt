@@ -4,7 +4,7 @@ use Rattle.words.specs.Places.{wiped}
 use Rattle.ledger.specs.Records.{recordsOf}
 use Rattle.ledger.specs.Units.{span, addressAt, first, past, fits, apart, valid, covers, free, owns, owned, lowestFit}
 use Rattle.ledger.specs.Runs.{freeRuns}
-use Rattle.stored_forms.specs.Tree.{formOne, formTwo, formOf, treeRange, freeTree}
+use Rattle.stored_forms.specs.Tree.{formOne, formTwo, formThree, formOf, treeRange, freeTree}
 use Rattle.stored_forms.specs.Segments.{controlWord, segmentWord, segmentSize, indexWord, segmentIndex, segmentRange}
 use Rattle.stored_forms.specs.Search.{placesTo}
 use Rattle.calls.specs.Pool.{store, samePool, lengths, stored, sound}
@@ -30,7 +30,7 @@ unfolding isWhole ownTable headReturns outcome after live isDue isReplay stands 
 sequenceOpened = tt
 
 unfoldable pub treeMachine : Unit {0}
-unfolding ledgerOpened stepOpened sequenceOpened formOne formTwo formOf treeRange freeTree treeEngine
+unfolding ledgerOpened stepOpened sequenceOpened formOne formTwo formThree formOf treeRange freeTree treeEngine
 treeMachine = tt
 
 unfoldable pub segmentMachine : Unit {0}

@@ -14,7 +14,7 @@ use Rattle.words.specs.Counted.{within, every}
 use Rattle.words.proofs.Tests.{false-of, eqb-eq, within-of}
 use Rattle.words.proofs.CountedLaws.{every-at}
 use Rattle.ledger.specs.Runs.{Run, run, covered}
-use Rattle.stored_forms.specs.Tree.{Tree, leaf, inorder, formOne, formTwo, formOf}
+use Rattle.stored_forms.specs.Tree.{Tree, leaf, inorder, formOne, formTwo, formThree, formOf}
 use Rattle.stored_forms.specs.Blocks.{In}
 use Rattle.stored_forms.proofs.NodeLaws.{each-form, readable, covered-in, in-covered}
 use Rattle.tree_nodes.specs.Nodes.{cells}
@@ -83,8 +83,8 @@ outside-insert r t u away out i =
 
 -- a map has few cells
 many-links : (f : ℕ) → 16384 < formOf f .links
-unfolding formOne formTwo
-many-links = each-form (λ F. 16384 < F .links) (omega arith) (omega arith)
+unfolding formOne formTwo formThree
+many-links = each-form (λ F. 16384 < F .links) (omega arith) (omega arith) (omega arith)
 
 pub wiped-map : (f : ℕ) {m₀ map₀ m map : Words} → Paired (formOf f) m₀ map₀ → m ≡ replicate (length m₀) 0
     → map ≡ replicate (length map₀) 0 → Mapped (formOf f) m map 0

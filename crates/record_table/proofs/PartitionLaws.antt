@@ -22,7 +22,7 @@ use Rattle.record_table.proofs.PairLaws.{none-of, before, pairs-back}
 use Rattle.record_table.proofs.CheckLaws.{all-slots, valid-parts, rows-inside}
 use Rattle.record_table.proofs.BesideLaws.{beside-unit, unit-beside}
 use Rattle.record_table.specs.Partition.{unitsOf, newAt, Entered, total, Partitioned}
-use Rattle.words.proofs.SumLaws.{sum-same, sum-none, sum-ones, sum-both, sum-swap, sum-tight, sum-term}
+use Rattle.words.proofs.SumLaws.{sum-same, sum-none, sum-ones, sum-both, sum-swap, sum-le, sum-tight, sum-term}
 use Rattle.words.proofs.SumLaws.{sum-terms, sum-range}
 use native.Mathlib.Decide.{ℕ-discrete, decLt}
 
@@ -77,7 +77,7 @@ sum-one f (suc n) m h =
 -- ---- units counted one by one
 
 -- 1 where a test passes, and 1 where it fails
-abbrev one : Bool → ℕ
+abbrev pub one : Bool → ℕ
 one b = cond b 1 0
 
 abbrev other : Bool → ℕ
@@ -88,7 +88,7 @@ abbrev holders : Rule → Words → ℕ → ℕ
 holders ρ t u = sumTo (λ j. one (covers ρ u (recordAt t j))) (slots t)
 
 -- runs have as many units as there are units in them
-count-runs : (k N : ℕ) (rs : List Run) → Gapped k N rs → sumTo (λ u. one (covered rs u)) N ≡ total rs
+pub count-runs : (k N : ℕ) (rs : List Run) → Gapped k N rs → sumTo (λ u. one (covered rs u)) N ≡ total rs
 count-runs k N [] g = sum-none N
 count-runs k N (r ∷ rs) g =
     let end = r .start + r .size in
@@ -150,6 +150,33 @@ module _ (ρ : Rule) (pos : 0 < ρ .unit) (W next held : ℕ) (t : Words) (enter
       (slots t) (λ j h. count-units ρ (W / ρ .unit) (recordAt t j) (entered-inside j h))
       ∙ sym (entered .sum)
 
+-- ---- no unit is left over
+
+module _ (ρ : Rule) (pos : 0 < ρ .unit) (W next held : ℕ) (t : Words) (rs : List Run)
+    (entered : Entered ρ W next t (slots t) held) (partitioned : Partitioned ρ (recordsOf t) (W / ρ .unit) rs) where
+  -- a unit in no run has a holder
+  some-holder : (u : ℕ) → u < W / ρ .unit → other (covered rs u) ≤ holders ρ t u
+  some-holder u h = go (covered rs u) refl
+    where
+      go : (b : Bool) → covered rs u ≡ b → other b ≤ holders ρ t u
+      go true q = omega arith
+      go false q =
+          let none = sym (free-slots ρ t u) ∙ partitioned .held u h q in
+          let (j, a, b, e) = every-fails (λ k. not (covers ρ u (recordAt t k))) 0 (slots t) none in
+          let here = ap one (not-false (covers ρ u (recordAt t j)) e) in
+          let most = sum-term (λ k. one (covers ρ u (recordAt t k))) (slots t) j (omega arith) in
+          omega (arith, here, most)
+
+  -- so runs and records have no fewer units together than the arena
+  pub partition-most : W / ρ .unit ≤ total rs + held
+  partition-most =
+      omega (
+        arith,
+        sum-le (λ u. other (covered rs u)) (holders ρ t) (W / ρ .unit) some-holder,
+        count-entered ρ pos W next held t entered,
+        count-rest (W / ρ .unit) rs (partitioned .gapped),
+      )
+
 -- ---- as many units as the arena has
 
 module _ (ρ : Rule) (pos : 0 < ρ .unit) (W next held : ℕ) (t : Words) (rs : List Run)
@@ -164,23 +191,11 @@ module _ (ρ : Rule) (pos : 0 < ρ .unit) (W next held : ℕ) (t : Words) (rs : 
   count-held : sumTo (holders ρ t) (W / ρ .unit) ≡ held
   count-held = count-entered ρ pos W next held t entered
 
-  -- a unit in no run has a holder
-  some-holder : (u : ℕ) → u < W / ρ .unit → other (covered rs u) ≤ holders ρ t u
-  some-holder u h = go (covered rs u) refl
-    where
-      go : (b : Bool) → covered rs u ≡ b → other b ≤ holders ρ t u
-      go true q = omega arith
-      go false q =
-          let none = sym (free-slots ρ t u) ∙ partitioned .held u h q in
-          let (j, a, b, e) = every-fails (λ k. not (covers ρ u (recordAt t k))) 0 (slots t) none in
-          let here = ap one (not-false (covers ρ u (recordAt t j)) e) in
-          let most = sum-term (λ k. one (covers ρ u (recordAt t k))) (slots t) j (omega arith) in
-          omega (arith, here, most)
-
-  -- so it has one, and a unit in a run has none
+  -- a unit in no run has one holder, and one in a run none
   holders-are : (u : ℕ) → u < W / ρ .unit → holders ρ t u ≡ other (covered rs u)
   holders-are =
-      sum-tight (λ u. other (covered rs u)) (holders ρ t) (W / ρ .unit) some-holder
+      sum-tight (λ u. other (covered rs u)) (holders ρ t) (W / ρ .unit)
+      (some-holder ρ pos W next held t rs entered partitioned)
       (omega (arith, count-held, count-rest (W / ρ .unit) rs (partitioned .gapped), exact))
 
   free-is : (u : ℕ) → u < W / ρ .unit → covered rs u ≡ free ρ (recordsOf t) u

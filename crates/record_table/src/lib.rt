@@ -138,7 +138,7 @@ pub fn empty_slot(table: &[u32]) -> Found
 
 // ---- the unit rule
 
-// How often so many words go into w. The units in use, 1 and 2, are spared a division by a variable.
+// How often so many words go into w. The units in use, 1, 2, 4 and 8, are spared a division by a variable.
 fn over(w: usize, unit: usize) -> usize
     requires { ⌜ 0 < unit ⌝ }
     ensures { λ q. ⌜ q ≡ w / unit ⌝ }
@@ -148,6 +148,12 @@ fn over(w: usize, unit: usize) -> usize
     }
     if unit == 2 {
         return w / 2;
+    }
+    if unit == 4 {
+        return w / 4;
+    }
+    if unit == 8 {
+        return w / 8;
     }
     w / unit
 }
@@ -162,6 +168,12 @@ fn rest(w: u32, unit: u32) -> u32
     }
     if unit == 2 {
         return w % 2;
+    }
+    if unit == 4 {
+        return w % 4;
+    }
+    if unit == 8 {
+        return w % 8;
     }
     w % unit
 }

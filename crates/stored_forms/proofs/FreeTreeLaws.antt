@@ -30,11 +30,11 @@ use Rattle.stored_forms.proofs.NodeLaws.{gapped-within, holds-stored, s
 
 -- ---- runs of units as runs of cells, p to a unit
 
-module _ (p : ℕ) (some-cells : 0 < p) where
-  abbrev pub scaled : Run → Run
-  scaled r = run (r .start * p) (r .size * p)
+abbrev pub scaled : ℕ → Run → Run
+scaled p r = run (r .start * p) (r .size * p)
 
-  pub gapped-scaled : (k e : ℕ) (rs : List Run) → Gapped k e rs → Gapped (k * p) (e * p) (map scaled rs)
+module _ (p : ℕ) (some-cells : 0 < p) where
+  pub gapped-scaled : (k e : ℕ) (rs : List Run) → Gapped k e rs → Gapped (k * p) (e * p) (map (scaled p) rs)
   gapped-scaled k e [] g = tt
   gapped-scaled k e (r ∷ rs) g =
       let end = r .start + r .size in
@@ -42,7 +42,7 @@ module _ (p : ℕ) (some-cells : 0 < p) where
         mul-le-mul-right p (g .0),
         omega (arith, one-mul p, mul-le-mul-right p (g .1)),
         omega (arith, mul-le-mul-right p (g .2)),
-        gapped-weaken (suc (r .start * p + r .size * p)) (suc end * p) (e * p) (map scaled rs)
+        gapped-weaken (suc (r .start * p + r .size * p)) (suc end * p) (e * p) (map (scaled p) rs)
             (omega (arith, suc-mul end p)) (gapped-scaled (suc end) e rs (g .3)),
       )
 
@@ -63,7 +63,7 @@ module _ (p : ℕ) (some-cells : 0 < p) where
           within-in (lo * p) (hi * p) c (above lo x) (below hi (omega arith))
           ∙ sym (within-in lo hi (c / p) x (omega arith))
 
-  pub covered-scaled : (rs : List Run) (c : ℕ) → covered (map scaled rs) c ≡ covered rs (c / p)
+  pub covered-scaled : (rs : List Run) (c : ℕ) → covered (map (scaled p) rs) c ≡ covered rs (c / p)
   covered-scaled [] c = refl
   covered-scaled (r ∷ rs) c =
       ap₂ _||_ (ap (λ e. within (r .start * p) e c) (sym (add-mul (r .start) (r .size) p))

@@ -17,8 +17,8 @@ use Rattle.words.proofs.Tests.{of-lt, of-ge, within-in, within-low, within-high
 use Rattle.ledger.specs.Runs.{Run, covered, Gapped}
 use Rattle.ledger.proofs.RunLaws.{covered-append}
 use Rattle.ledger.proofs.RunLaws.{gapped-weaken}
-use Rattle.stored_forms.specs.Tree.{Tree, leaf, node, inorder, Form, formOne, formTwo, formOf, cellWords}
-use Rattle.stored_forms.specs.Tree.{lengthAt, leftAt, rightAt, link, nodeWord}
+use Rattle.stored_forms.specs.Tree.{Tree, leaf, node, inorder, Form, formOne, formTwo, formThree, formOf}
+use Rattle.stored_forms.specs.Tree.{narrow, cellWords, lengthAt, leftAt, rightAt, link, nodeWord}
 use Rattle.stored_forms.specs.Blocks.{Within, In, NotFirst, Holds}
 
 -- ---- what is asked of a form
@@ -34,17 +34,25 @@ pub record Readable (F : Form) (bound : ℕ) : Type 0 where
   pub left-back : (n l r : ℕ) → l < bound → r < bound → F .leftOf (F .node n l r) ≡ l
   pub right-back : (n l r : ℕ) → l < bound → r < bound → F .rightOf (F .node n l r) ≡ r
 
-pub readable-one : Readable formOne 65536
-unfolding formOne
-readable-one = record {
+-- two words to a cell, and a whole number of cells to a unit
+readable-narrow : (u : ℕ) → 0 < u → 2 * (u / 2) ≡ u → Readable (narrow u) 65536
+readable-narrow u some whole = record {
   cells = omega arith;
-  units = omega arith;
-  whole = refl;
+  units = some;
+  whole = whole;
   node-length = λ n l r. refl;
   length-back = λ n l r a b. refl;
   left-back = λ n l r a b. omega arith;
   right-back = λ n l r a b. omega arith;
 }
+
+pub readable-one : Readable formOne 65536
+unfolding formOne
+readable-one = readable-narrow 2 (omega arith) refl
+
+readable-three : Readable formThree 65536
+unfolding formThree
+readable-three = readable-narrow 8 (omega arith) refl
 
 readable-two : Readable formTwo 4294967296
 unfolding formTwo
@@ -59,17 +67,18 @@ readable-two = record {
 }
 
 -- what is said of each form is said of the form of any number
-pub each-form : (P : Form → Type 0) → P formOne → P formTwo → (f : ℕ) → P (formOf f)
+pub each-form : (P : Form → Type 0) → P formOne → P formTwo → P formThree → (f : ℕ) → P (formOf f)
 unfolding formOf
-each-form P one two f = go (eqb f 2)
+each-form P one two three f = go (eqb f 2) (eqb f 3)
   where
-    go : (b : Bool) → P (cond b formTwo formOne)
-    go true = two
-    go false = one
+    go : (b c : Bool) → P (cond b formTwo (cond c formThree formOne))
+    go true c = two
+    go false true = three
+    go false false = one
 
 pub readable : (f : ℕ) → Readable (formOf f) (formOf f .links)
-unfolding formOne formTwo
-readable = each-form (λ F. Readable F (F .links)) readable-one readable-two
+unfolding formOne formTwo formThree
+readable = each-form (λ F. Readable F (F .links)) readable-one readable-two readable-three
 
 pub form-unit : (f : ℕ) → 0 < formOf f .unit
 form-unit f = readable f .units

@@ -62,32 +62,32 @@ module _ (p : ℕ) (some-cells : 0 < p) where
 
   abbrev pub scaledFit : Option Run → Option Run
   scaledFit none = none
-  scaledFit (some r) = some (scaled p some-cells r)
+  scaledFit (some r) = some (scaled p r)
 
-  fit-scaled : (m : ℕ) (rs : List Run) → firstFit (m * p) (map (scaled p some-cells) rs) ≡ scaledFit (firstFit m rs)
+  fit-scaled : (m : ℕ) (rs : List Run) → firstFit (m * p) (map (scaled p) rs) ≡ scaledFit (firstFit m rs)
   fit-scaled m [] = refl
   fit-scaled m (r ∷ rs) = rw (leb-scaled m (r .size)) (go (leb m (r .size)) (fit-scaled m rs))
     where
-      go : (b : Bool) → firstFit (m * p) (map (scaled p some-cells) rs) ≡ scaledFit (firstFit m rs)
-          → cond b (some (scaled p some-cells r)) (firstFit (m * p) (map (scaled p some-cells) rs))
+      go : (b : Bool) → firstFit (m * p) (map (scaled p) rs) ≡ scaledFit (firstFit m rs)
+          → cond b (some (scaled p r)) (firstFit (m * p) (map (scaled p) rs))
           ≡ scaledFit (cond b (some r) (firstFit m rs))
       go true ih = refl
       go false ih = ih
 
   -- leftmost fit in the tree of the cells finds the first run of units that is long enough
   pub leftmost-scaled : (m : ℕ) (rs : List Run)
-      → leftmost (m * p) (treeOf (map (scaled p some-cells) rs)) ≡ scaledFit (firstFit m rs)
+      → leftmost (m * p) (treeOf (map (scaled p) rs)) ≡ scaledFit (firstFit m rs)
   leftmost-scaled m rs =
-      let cells = map (scaled p some-cells) rs in
+      let cells = map (scaled p) rs in
       leftmost-first (m * p) (treeOf cells) (heaped-treeOf cells) ∙ ap (firstFit (m * p)) (inorder-treeOf cells)
       ∙ fit-scaled m rs
 
   -- ---- changes
 
-  pub append-scaled : (xs : List Run) (r : Run) (ys : List Run) → map (scaled p some-cells) (xs ++ r ∷ ys)
-      ≡ map (scaled p some-cells) xs ++ scaled p some-cells r ∷ map (scaled p some-cells) ys
+  pub append-scaled : (xs : List Run) (r : Run) (ys : List Run) → map (scaled p) (xs ++ r ∷ ys)
+      ≡ map (scaled p) xs ++ scaled p r ∷ map (scaled p) ys
   append-scaled [] r ys = refl
-  append-scaled (x ∷ xs) r ys = ap (λ (l : List Run). scaled p some-cells x ∷ l) (append-scaled xs r ys)
+  append-scaled (x ∷ xs) r ys = ap (λ (l : List Run). scaled p x ∷ l) (append-scaled xs r ys)
 
   rest-scaled : (x y : ℕ) → (x - y) * p ≡ x * p - y * p
   rest-scaled x y = go (decLe y x)
@@ -102,25 +102,25 @@ module _ (p : ℕ) (some-cells : 0 < p) where
           omega (arith, none, lt-scaled x y (omega arith))
 
   shorter : (m : ℕ) (r : Run) → run (r .start * p + m * p) (r .size * p - m * p)
-      ≡ scaled p some-cells (run (r .start + m) (r .size - m))
+      ≡ scaled p (run (r .start + m) (r .size - m))
   shorter m r = ap₂ run (sym (add-mul (r .start) m p)) (sym (rest-scaled (r .size) m))
 
   -- a run shortened among others
   pub shorten-scaled : (xs : List Run) (m : ℕ) (r : Run) (ys : List Run)
-      → map (scaled p some-cells) (xs ++ shorten m r ys)
-      ≡ map (scaled p some-cells) xs ++ shorten (m * p) (scaled p some-cells r) (map (scaled p some-cells) ys)
+      → map (scaled p) (xs ++ shorten m r ys)
+      ≡ map (scaled p) xs ++ shorten (m * p) (scaled p r) (map (scaled p) ys)
   shorten-scaled [] m r ys = rw (eqb-scaled m (r .size)) (go (eqb m (r .size)))
     where
-      go : (b : Bool) → map (scaled p some-cells) (cond b ys (run (r .start + m) (r .size - m) ∷ ys))
-          ≡ cond b (map (scaled p some-cells) ys)
-          (run (r .start * p + m * p) (r .size * p - m * p) ∷ map (scaled p some-cells) ys)
+      go : (b : Bool) → map (scaled p) (cond b ys (run (r .start + m) (r .size - m) ∷ ys))
+          ≡ cond b (map (scaled p) ys)
+          (run (r .start * p + m * p) (r .size * p - m * p) ∷ map (scaled p) ys)
       go true = refl
-      go false = ap (λ (x : Run). x ∷ map (scaled p some-cells) ys) (sym (shorter m r))
-  shorten-scaled (x ∷ xs) m r ys = ap (λ (l : List Run). scaled p some-cells x ∷ l) (shorten-scaled xs m r ys)
+      go false = ap (λ (x : Run). x ∷ map (scaled p) ys) (sym (shorter m r))
+  shorten-scaled (x ∷ xs) m r ys = ap (λ (l : List Run). scaled p x ∷ l) (shorten-scaled xs m r ys)
 
   -- units made a run
-  pub add-scaled : (s m : ℕ) (rs : List Run) → map (scaled p some-cells) (addRun s m rs)
-      ≡ addRun (s * p) (m * p) (map (scaled p some-cells) rs)
+  pub add-scaled : (s m : ℕ) (rs : List Run) → map (scaled p) (addRun s m rs)
+      ≡ addRun (s * p) (m * p) (map (scaled p) rs)
   add-scaled s m [] = refl
   add-scaled s m (r ∷ rs) =
       rw (
@@ -133,16 +133,16 @@ module _ (p : ℕ) (some-cells : 0 < p) where
       (add-scaled (r .start) (r .size + m) rs))
     where
       f : List Run → List Run
-      f l = map (scaled p some-cells) l
+      f l = map (scaled p) l
 
       go : (a b c : Bool) → f (addRun s m rs) ≡ addRun (s * p) (m * p) (f rs)
           → f (addRun (r .start) (r .size + m) rs) ≡ addRun (r .start * p) ((r .size + m) * p) (f rs)
           → f (cond a (r ∷ addRun s m rs) (cond b (addRun (r .start) (r .size + m) rs)
           (cond c (run s (m + r .size) ∷ rs) (run s m ∷ r ∷ rs))))
-          ≡ cond a (scaled p some-cells r ∷ addRun (s * p) (m * p) (f rs))
+          ≡ cond a (scaled p r ∷ addRun (s * p) (m * p) (f rs))
           (cond b (addRun (r .start * p) (r .size * p + m * p) (f rs))
           (cond c (run (s * p) (m * p + r .size * p) ∷ f rs) (run (s * p) (m * p) ∷ f (r ∷ rs))))
-      go true b c past in-one = ap (λ (l : List Run). scaled p some-cells r ∷ l) past
+      go true b c past in-one = ap (λ (l : List Run). scaled p r ∷ l) past
       go false true c past in-one = in-one ∙ ap (λ z. addRun (r .start * p) z (f rs)) (add-mul (r .size) m p)
       go false false true past in-one = ap (λ z. run (s * p) z ∷ f rs) (add-mul m (r .size) p)
       go false false false past in-one = refl

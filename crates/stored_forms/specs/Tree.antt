@@ -72,9 +72,10 @@ pub record Form : Type 0 where
 abbrev pub twoWords : ℕ → ℕ → ℕ → Words
 twoWords n l r = n ∷ (l + 65536 * r) ∷ []
 
-unfoldable pub formOne : Form
-formOne = record {
-  unit = 2;
+-- a form with such nodes, of so many words to a unit
+abbrev pub narrow : ℕ → Form
+narrow words = record {
+  unit = words;
   cell = 2;
   links = 65536;
   most = 16384;
@@ -84,6 +85,9 @@ formOne = record {
   leftOf = λ ws. getD ws 1 0 % 65536;
   rightOf = λ ws. getD ws 1 0 / 65536;
 }
+
+unfoldable pub formOne : Form
+formOne = narrow 2
 
 -- 02, ticket 3: "a cell of four words holding length, left link, right link and 0, requests rounded up to four words, arena
 -- a multiple of four from 4 up", to 1,048,576 words; "Limit 2 reads 1,048,576 for form 2."
@@ -103,12 +107,17 @@ formTwo = record {
   rightOf = λ ws. getD ws 2 0;
 }
 
--- "a form number, 1 or 2"; of any other the form is never looked at
+-- 02, ticket 11: "cells and headers as form 1, but the ledger's unit is eight words: requests round up to it, records start
+-- on it, and it divides the arena, which has 8 to 16,384 words"
+unfoldable pub formThree : Form
+formThree = narrow 8
+
+-- "a form number, 1 or 2", and "Add form 3 (11 is then for the rest)"; of any other the form is never looked at
 abbrev pub isForm : ℕ → Bool
-isForm f = eqb f 1 || eqb f 2
+isForm f = eqb f 1 || eqb f 2 || eqb f 3
 
 unfoldable pub formOf : ℕ → Form
-formOf f = cond (eqb f 2) formTwo formOne
+formOf f = cond (eqb f 2) formTwo (cond (eqb f 3) formThree formOne)
 
 module _ (F : Form) where
   abbrev pub formRule : Rule
@@ -131,9 +140,12 @@ module _ (F : Form) where
   abbrev pub rightAt : Words → ℕ → ℕ
   rightAt a c = F .rightOf (cellWords a c)
 
+  abbrev pub cellsPerUnit : ℕ
+  cellsPerUnit = F .unit / F .cell
+
   -- a run of units as a run of cells
   abbrev pub cellRun : Run → Run
-  cellRun r = run (r .start * (F .unit / F .cell)) (r .size * (F .unit / F .cell))
+  cellRun r = run (r .start * cellsPerUnit) (r .size * cellsPerUnit)
 
   -- the tree of the free runs, in cells
   unfoldable pub freeTree : ℕ → Ledger → Tree

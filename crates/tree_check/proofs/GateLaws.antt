@@ -11,7 +11,8 @@ use Rattle.words.proofs.Tests.{bool-iff, and-l, and-r, eqb-eq, le-of}
 use Rattle.ledger.specs.Records.{Ledger, slots, recordsOf}
 use Rattle.ledger.specs.Units.{valid, owned}
 use Rattle.ledger.proofs.RecordLaws.{table-records}
-use Rattle.stored_forms.specs.Tree.{Tree, link, Form, formOne, formTwo, isForm, formOf, formRule, treeRange, freeTree}
+use Rattle.stored_forms.specs.Tree.{Tree, link, Form, formOne, formTwo, formThree, isForm, formOf}
+use Rattle.stored_forms.specs.Tree.{formRule, treeRange, freeTree}
 use Rattle.stored_forms.specs.Blocks.{Holds}
 use Rattle.stored_forms.proofs.NodeLaws.{each-form, readable}
 use Rattle.stored_forms.proofs.FreeTreeLaws.{tree-range, stamped, of-stamped}
@@ -55,11 +56,12 @@ module _ (h : Head) (m t : Words) where
       }
 
 -- in each form links reach every cell of the largest arena
-pub all-linked : (f : ℕ) (m : Words) → length m ≤ formOf f .most → Linked (formOf f) m
-unfolding formOne formTwo
+pub all-linked : (f : ℕ) (m : Words) → length m ≤ formOf f .most → length m % formOf f .unit ≡ 0 → Linked (formOf f) m
+unfolding formOne formTwo formThree
 all-linked =
-    each-form (λ F. (m : Words) → length m ≤ F .most → Linked F m) (λ m l. (omega arith, omega arith))
-    (λ m l. (omega arith, omega arith))
+    each-form (λ F. (m : Words) → length m ≤ F .most → length m % F .unit ≡ 0 → Linked F m)
+    (λ m l e. (omega arith, omega arith, e)) (λ m l e. (omega arith, omega arith, e))
+    (λ m l e. (omega arith, omega arith, e))
 
 -- ---- the pool
 

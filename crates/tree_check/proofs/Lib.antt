@@ -7,4 +7,5 @@ pub mod GapLaws
 pub mod LimitLaws
 pub mod WalkLaws
 pub mod ApartLaws
+pub mod ScaleLaws
 pub mod StoredLaws

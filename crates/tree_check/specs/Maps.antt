@@ -1,5 +1,5 @@
--- The map of a table's records: spans of cells that are held, each in its place; and what the whole test says. A unit
--- is one cell. 01, "Stored form of the tree pool". Assumes nothing.
+-- The map of a table's records: spans of cells that are held, each in its place; and what the whole test says. 01, "Stored
+-- form of the tree pool". Assumes nothing.
 use Prim.Native.Nat.{ℕ, _+_, _-_, _*_, _/_, _%_, _≤_, _<_}
 use mathlib.Core.Path.{_≡_}
 use mathlib.Core.Logic.{_≢_}
@@ -8,12 +8,12 @@ use lib.Dec.{eqb}
 use lib.ListN.{length, getD}
 use Rattle.words.specs.Lists.{Words}
 use Rattle.ledger.specs.declared.Rule.{Rule}
-use Rattle.ledger.specs.Records.{recordsOf, slots}
-use Rattle.ledger.specs.Units.{valid, free}
+use Rattle.ledger.specs.Records.{recordAt, recordsOf, slots, isLive}
+use Rattle.ledger.specs.Units.{first, past, valid, free}
 use Rattle.stored_forms.specs.Tree.{link, formOf, formRule, freeTree}
 use Rattle.stored_forms.specs.Blocks.{Holds}
 use Rattle.record_table.specs.Partition.{Entered}
-use Rattle.record_table.specs.Leads.{Leading, LedThrough}
+use Rattle.record_table.specs.Leads.{Leading}
 use Rattle.tree_check.specs.declared.Head.{Head}
 
 -- four bytes as one number, the lowest first
@@ -106,16 +106,18 @@ pub record FourPut (map map′ : Words) (i x : ℕ) : Type 0 where
 abbrev pub most : Words → ℕ
 most map = cond (isEntries map) (length map / 8 - homes (length map)) 256
 
--- the map leads through each of the first i records
-abbrev pub Led : Rule → Words → Words → ℕ → Type 0
-Led ρ t map i = LedThrough ρ t (Next map) i
+-- p cells to a unit: the map leads through the cells of each of the first i records
+abbrev pub Led : Rule → ℕ → Words → Words → ℕ → Type 0
+Led ρ p t map i =
+    (j : ℕ) → j < i → isLive (recordAt t j) ≡ true
+    → Leads map (first ρ (recordAt t j) * p) (past ρ (recordAt t j) * p)
 
--- all slots are entered, with so many units together, and the map covers only units that
--- are held; if the ledger is valid, it leads through each record
-pub record Mapped (ρ : Rule) (W next : ℕ) (t : Words) (held : ℕ) (map : Words) : Type 0 where
+-- p cells to a unit: all slots are entered, with so many units together, and the map covers only cells of units that are
+-- held; if the ledger is valid, it leads through each record
+pub record Mapped (ρ : Rule) (p W next : ℕ) (t : Words) (held : ℕ) (map : Words) : Type 0 where
   pub entered : Entered ρ W next t (slots t) held
-  pub spans : (u : ℕ) → Covers map u → free ρ (recordsOf t) u ≡ false
-  pub led : valid ρ W next (recordsOf t) ≡ true → Led ρ t map (slots t)
+  pub spans : (c : ℕ) → Covers map c → free ρ (recordsOf t) (c / p) ≡ false
+  pub led : valid ρ W next (recordsOf t) ≡ true → Led ρ p t map (slots t)
 
 -- The table holds a valid ledger, and the arena the tree of its free runs in the head's form, from the root link on.
 abbrev pub Shown : Head → Words → Words → Type 0

@@ -1,6 +1,6 @@
 -- A walk of the free tree, on any memory: where it finds nothing wrong, the nodes met from left to right are free
 -- blocks, and records lie side by side from each to the next. 01, "Stored form of the tree pool". Assumes nothing.
-use Prim.Native.Nat.{ℕ, _+_, _≤_, _<_, min}
+use Prim.Native.Nat.{ℕ, _+_, _%_, _≤_, _<_, min}
 use mathlib.Core.Path.{_≡_}
 use mathlib.Core.Bool.{Bool, true, false}
 use mathlib.Core.List.{List, [], _∷_}
@@ -29,9 +29,9 @@ pub record Ready (F : Form) (m map : Words) (N : ℕ) : Type 0 where
   pub linked : N < F .links
   pub small : N < 2097152
 
--- links of the form reach each cell of the arena, which has no more words than any form's
+-- links of the form reach each cell of the arena, which has no more words than any form's, and whole units
 abbrev pub Linked : Form → Words → Type 0
-Linked F m = (cells F m < F .links) × (length m ≤ 1048576)
+Linked F m = (cells F m < F .links) × (length m ≤ 1048576) × (length m % F .unit ≡ 0)
 
 -- A block of z cells at cell c lies between cells k and hi, and is shorter than the limit.
 pub record Between (k hi limit c z : ℕ) : Type 0 where

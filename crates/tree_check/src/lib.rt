@@ -7,6 +7,7 @@ pub mod tree_walk;
 use record_map::leads_to;
 use record_map::map_rows;
 use tree_nodes::forms::cell_count;
+use tree_nodes::forms::cells_per_unit;
 use tree_nodes::forms::is_form;
 use tree_nodes::forms::is_range;
 use tree_walk::walk_all;
@@ -79,7 +80,7 @@ fn is_shown_over(
     if count < end {
         return false;
     }
-    let known = sum + held;
+    let known = sum + held * cells_per_unit(head.form);
     leads_to(map, end, count) & (known == count)
 }
 

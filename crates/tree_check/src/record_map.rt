@@ -3,17 +3,18 @@
 // Slices are lent on as `&*slice`, which keeps pointer and length in registers (docs/DECISIONS.md, what crosses calls).
 use ledger::Row;
 use ledger::Rule;
+use tree_nodes::forms::cells_per_unit;
 use tree_nodes::forms::rule_of;
 ghost use mathlib.Core.Path.{_≡_};
 ghost use mathlib.Core.Bool.{true, false};
 ghost use mathlib.Core.Logic.{_≢_};
-ghost use Prim.Native.Nat.{ℕ, _+_, _/_, _<_, _≤_};
+ghost use Prim.Native.Nat.{ℕ, _+_, _*_, _/_, _<_, _≤_};
 ghost use lib.ListN.{length, getD};
 ghost use Rattle.words.specs.Lists.{all, isZero};
 ghost use Rattle.words.specs.Flags.{Says};
 ghost use Rattle.ledger.specs.Records.{slots, recordsOf};
 ghost use Rattle.ledger.specs.Units.{first, valid};
-ghost use Rattle.stored_forms.specs.Tree.{formOf, formRule};
+ghost use Rattle.stored_forms.specs.Tree.{formOf, formRule, cellsPerUnit};
 ghost use Rattle.tree_check.specs.Maps.{fourAt, isEntries, home, Next, Leads, Roomy, Grows, FourPut, most};
 ghost use Rattle.tree_check.specs.Maps.{Mapped};
 
@@ -146,20 +147,24 @@ fn note_span(map: &mut [u8], lo: usize, n: usize)
     map[at] = left as u8;
 }
 
-// The same in either map, for a record of n cells. An empty one has none, though its address is cell 0's.
-fn note_row(map: &mut [u8], rule: Rule, r: Row, n: usize)
-    requires { ⌜ (0 < rule .unit) × (n ≢ 0 → (first rule r + n < 4294967296) × Roomy (now map) (first rule r + n)) ⌝ }
-    ensures { λ _. ⌜ Grows (now (map .entry)) (now (map .exit)) (first rule r) n ⌝ }
+// The same in either map, for the cells of a record of n units, `per` to a unit. An empty one has none, though its
+// address is cell 0's.
+fn note_row(map: &mut [u8], rule: Rule, r: Row, n: usize, per: usize)
+    requires { ⌜ (0 < rule .unit) × (0 < per) ⌝ }
+    requires { ⌜ (n ≢ 0 → (first rule r * per + n * per < 4294967296)
+        × Roomy (now map) (first rule r * per + n * per)) ⌝ }
+    ensures { λ _. ⌜ Grows (now (map .entry)) (now (map .exit)) (first rule r * per) (n * per) ⌝ }
 {
     if n == 0 {
         return;
     }
-    let lo = record_table::first_unit(rule, r);
+    let lo = record_table::first_unit(rule, r) * per;
+    let count = n * per;
     if map.len() % 8 == 1 {
-        note_entry(&mut *map, lo, n);
+        note_entry(&mut *map, lo, count);
         return;
     }
-    note_span(&mut *map, lo, n);
+    note_span(&mut *map, lo, count);
 }
 
 // Enters all slots, and the records in a map that is all zero. Their units together, or more than the arena's words if
@@ -174,14 +179,15 @@ pub fn map_rows(
     seen: &mut [u8],
     m: usize,
 ) -> usize
-    requires { ⌜ (slots (now table) ≤ 256) × (words ≤ 1048576) × Roomy (now map) (words / formOf form .unit) ⌝ }
+    requires { ⌜ (slots (now table) ≤ 256) × (words ≤ 1048576) × Roomy (now map) (words / formOf form .cell) ⌝ }
     requires { ⌜ (all isZero (now map) ≡ true) × (0 < m) × (length (now seen) ≡ m) ⌝ }
     requires { ⌜ slots (now table) ≤ most (now map) ⌝ }
-    ensures { λ r. ⌜ (r ≤ words
-        → Mapped (formRule (formOf form)) words next (now (table .entry)) r (now (map .exit))) ⌝ }
+    ensures { λ r. ⌜ (r ≤ words → Mapped (formRule (formOf form)) (cellsPerUnit (formOf form)) words next
+        (now (table .entry)) r (now (map .exit))) ⌝ }
     ensures { λ r. ⌜ (valid (formRule (formOf form)) words next (recordsOf (now (table .entry))) ≡ true → r ≤ words) ⌝ }
 {
     let rule = rule_of(form);
+    let per = cells_per_unit(form);
     let mut held: usize = 0;
     let mut i = 0;
     while i < table.len() / 3 {
@@ -190,7 +196,7 @@ pub fn map_rows(
         if words - held < n {
             return words + 1;
         }
-        note_row(&mut *map, rule, r, n);
+        note_row(&mut *map, rule, r, n, per);
         held += n;
         i += 1;
     }

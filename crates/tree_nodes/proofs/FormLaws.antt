@@ -7,8 +7,9 @@ use native.Mathlib.Omega.{arith}
 use native.Mathlib.Decide.{ℕ-discrete}
 use mathlib.Core.Path.{_≡_, refl, sym, ap, _∙_}
 use mathlib.Core.Logic.{_≢_}
-use mathlib.Core.Bool.{Bool, true}
+use mathlib.Core.Bool.{Bool, true, false, cond}
 use mathlib.Core.List.{_∷_, []}
+use lib.Dec.{eqb}
 use lib.ListN.{length, getD, take, drop}
 use lib.Seq.{drop-cons, getD-take, getD-drop}
 use Rattle.words.specs.Lists.{Words, zeroAt}
@@ -16,11 +17,11 @@ use Rattle.words.specs.Flags.{Says}
 use Rattle.words.specs.Counted.{every}
 use Rattle.words.proofs.Tests.{eqb-eq, eqb-ne}
 use Rattle.words.proofs.CountedLaws.{every-at, every-of}
-use Rattle.stored_forms.specs.Tree.{Form, formOne, formTwo, formOf, twoWords, fourWords}
-use Rattle.stored_forms.specs.Tree.{lengthAt, leftAt, rightAt}
+use Rattle.stored_forms.specs.Tree.{Form, formOne, formTwo, formThree, formOf, narrow, twoWords, fourWords}
+use Rattle.stored_forms.specs.Tree.{lengthAt, leftAt, rightAt, cellsPerUnit}
 use Rattle.stored_forms.specs.Blocks.{Zeros}
 use Rattle.stored_forms.proofs.NodeLaws.{each-form, readable}
-use Rattle.tree_nodes.specs.Nodes.{cells, Clear, NodePut, NodeCleared}
+use Rattle.tree_nodes.specs.Nodes.{cells, Clear, NodePut, LeftSet, RightSet, NodeCleared}
 
 -- ---- the forms
 
@@ -28,23 +29,60 @@ pub form-two : (f : ℕ) → f ≡ 2 → formOf f ≡ formTwo
 unfolding formOf
 form-two f e = rw e
 
-pub form-one : (f : ℕ) → f ≢ 2 → formOf f ≡ formOne
+pub form-three : (f : ℕ) → f ≡ 3 → formOf f ≡ formThree
 unfolding formOf
-form-one f e = rw (eqb-ne f 2 e)
+form-three f e = rw e
+
+pub form-one : (f : ℕ) → f ≢ 2 → f ≢ 3 → formOf f ≡ formOne
+unfolding formOf
+form-one f two three = rw (eqb-ne f 2 two, eqb-ne f 3 three)
+
+-- all but the second have the first's cells and nodes
+pub form-narrow : (f : ℕ) → f ≢ 2 → formOf f ≡ narrow (formOf f .unit)
+unfolding formOf formOne formThree
+form-narrow f e = rw (eqb-ne f 2 e) (go (eqb f 3))
+  where
+    go : (b : Bool) → cond b formThree formOne ≡ narrow (cond b formThree formOne .unit)
+    go true = refl
+    go false = refl
+
+module _ (f : ℕ) (e : f ≢ 2) {m m′ : Words} {c : ℕ} where
+  pub narrow-put : {n l r : ℕ} → NodePut formOne m m′ c n l r → NodePut (formOf f) m m′ c n l r
+  unfolding formOne
+  narrow-put put = rw (form-narrow f e) (record { node = put .node; frame = put .frame; long = put .long })
+
+  pub narrow-left : {l : ℕ} → LeftSet formOne m m′ c l → LeftSet (formOf f) m m′ c l
+  unfolding formOne
+  narrow-left set = rw (form-narrow f e) (λ node.
+      let put = set node in record { node = put .node; frame = put .frame; long = put .long })
+
+  pub narrow-right : {r : ℕ} → RightSet formOne m m′ c r → RightSet (formOf f) m m′ c r
+  unfolding formOne
+  narrow-right set = rw (form-narrow f e) (λ node.
+      let put = set node in record { node = put .node; frame = put .frame; long = put .long })
+
+-- a unit is one cell in all but the third
+pub one-cell : (f : ℕ) → f ≢ 3 → cellsPerUnit (formOf f) ≡ 1
+unfolding formOf formOne formTwo
+one-cell f e = rw (eqb-ne f 3 e) (go (eqb f 2))
+  where
+    go : (b : Bool) → cellsPerUnit (cond b formTwo formOne) ≡ 1
+    go true = refl
+    go false = refl
 
 pub link-zero : (f : ℕ) → 0 < formOf f .links
-unfolding formOne formTwo
-link-zero = each-form (λ F. 0 < F .links) (omega arith) (omega arith)
+unfolding formOne formTwo formThree
+link-zero = each-form (λ F. 0 < F .links) (omega arith) (omega arith) (omega arith)
 
 -- a link fits a word
 pub few-links : (f : ℕ) → formOf f .links ≤ 4294967296
-unfolding formOne formTwo
-few-links = each-form (λ F. F .links ≤ 4294967296) (omega arith) (omega arith)
+unfolding formOne formTwo formThree
+few-links = each-form (λ F. F .links ≤ 4294967296) (omega arith) (omega arith) (omega arith)
 
 -- the words of the node of no cells with no links
 zero-node : (f j : ℕ) → getD (formOf f .node 0 0 0) j 0 ≡ 0
-unfolding formOne formTwo
-zero-node = each-form (λ F. (j : ℕ) → getD (F .node 0 0 0) j 0 ≡ 0) one two
+unfolding formOne formTwo formThree
+zero-node = each-form (λ F. (j : ℕ) → getD (F .node 0 0 0) j 0 ≡ 0) one two one
   where
     one : (j : ℕ) → getD (twoWords 0 0 0) j 0 ≡ 0
     one zero = refl
@@ -98,8 +136,7 @@ four-cell m c h =
 
 module _ (f : ℕ) (m : Words) where
   pub cells-two : f ≢ 2 → cells (formOf f) m ≡ length m / 2
-  unfolding formOne
-  cells-two e = ap (λ (F : Form). length m / F .cell) (form-one f e)
+  cells-two e = ap (λ (F : Form). length m / F .cell) (form-narrow f e)
 
   pub cells-four : f ≡ 2 → cells (formOf f) m ≡ length m / 4
   unfolding formTwo

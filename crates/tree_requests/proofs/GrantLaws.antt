@@ -23,6 +23,7 @@ use Rattle.ledger.proofs.UnitLaws.{span-pos, owned-enter, past-new}
 use Rattle.ledger.proofs.RunLaws.{freeRuns-enter}
 use Rattle.ledger.proofs.FitLaws.{firstFit, startOf, fit-first}
 use Rattle.stored_forms.specs.Tree.{Form, formOf, formRule, cellRun, freeTree, treeOf, link}
+use Rattle.stored_forms.specs.Tree.{cellsPerUnit}
 use Rattle.stored_forms.specs.Blocks.{Holds}
 use Rattle.stored_forms.proofs.TreeLaws.{longEnough}
 use Rattle.stored_forms.proofs.NodeLaws.{readable, form-unit, link-within}
@@ -43,7 +44,7 @@ use Rattle.record_table.proofs.SlotLaws.{empty-found}
 use Rattle.tree_check.specs.Gate.{treePool}
 use Rattle.tree_check.proofs.GateLaws.{InRange}
 use Rattle.tree_check.specs.declared.Head.{Head}
-use Rattle.tree_requests.specs.Sizes.{perUnit, cellSpan}
+use Rattle.tree_requests.specs.Sizes.{cellSpan}
 use Rattle.tree_requests.specs.Granting.{Grantable}
 use Rattle.tree_requests.proofs.SizeLaws.{freeCells, tree-of, some-cells, cell-words, cell-address, some-span}
 use Rattle.tree_requests.proofs.StoredLaws.{Shows, stored-pool}
@@ -87,7 +88,7 @@ module _ (h : Head) (a t : Words) (ok : sound treeEngine (treePool h a t) ≡ tr
   ρ = formRule F
 
   abbrev per : ℕ
-  per = perUnit F
+  per = cellsPerUnit F
 
   abbrev L : Ledger
   L = recordsOf t
@@ -128,7 +129,7 @@ module _ (h : Head) (a t : Words) (ok : sound treeEngine (treePool h a t) ≡ tr
 
     -- a block: the lowest fit, and a run of the list
     pub block-fits : (c : ℕ) → block ≡ suc c
-        → (r : Run) × (fitOf treeEngine (treePool h a t) n ≡ some (r .start)) × (r .start * perUnit (formOf (h .form)) ≡ c)
+        → (r : Run) × (fitOf treeEngine (treePool h a t) n ≡ some (r .start)) × (r .start * cellsPerUnit (formOf (h .form)) ≡ c)
         × FirstRun (longEnough (span (formRule (formOf (h .form))) n))
         (freeRuns (formRule (formOf (h .form))) (length a) (recordsOf t)) r
     block-fits c e = go fit refl (sym is-link ∙ e)
@@ -260,7 +261,7 @@ module _ (h : Head) (a t : Words) (n slot block father : ℕ) (f : Grantable h a
   units : 1 ≤ span (formRule G) n
   units = some-units (h .form) n (f .size)
 
-  fits : (r : Run) × (fitOf treeEngine lent n ≡ some (r .start)) × (r .start * perUnit G ≡ cell)
+  fits : (r : Run) × (fitOf treeEngine lent n ≡ some (r .start)) × (r .start * cellsPerUnit G ≡ cell)
       × FirstRun (longEnough (span (formRule G) n)) (freeRuns (formRule G) (length a) (recordsOf t)) r
   fits = block-fits h a t (f .ok) n block units (f .fit) cell linked
 
@@ -286,12 +287,12 @@ module _ (h : Head) (a t : Words) (n slot block father : ℕ) (f : Grantable h a
   takes = record {
     lies = subst (λ (rs : List Run). Lies G a (h .root) rs)
         (ap (map (cellRun G)) (fits .3 .split)
-        ∙ append-scaled (perUnit G) (some-cells (h .form)) (fits .3 .before) found (fits .3 .after))
+        ∙ append-scaled (cellsPerUnit G) (some-cells (h .form)) (fits .3 .before) found (fits .3 .after))
         (sound-lies h a t (f .ok));
     at = linked ∙ ap suc (sym (fits .2));
     seat = f .seat;
     some = some-span (h .form) n units;
-    enough = mul-le-mul-right (perUnit G) (le-of (span (formRule G) n) (found .size) (fits .3 .passes));
+    enough = mul-le-mul-right (cellsPerUnit G) (le-of (span (formRule G) n) (found .size) (fits .3 .passes));
   }
 
   pub place-takes : Takeable (formOf (h .form)) a (h .root) block father (cellSpan (formOf (h .form)) n)

@@ -17,6 +17,7 @@ use Rattle.ledger.specs.Runs.{Run, covered, freeRuns, runsFrom, addRun}
 use Rattle.ledger.proofs.UnitLaws.{Fitted, valid-record, valid-settle, owned-settle, covers-in, free-not}
 use Rattle.ledger.proofs.RunLaws.{runs-are, freeRuns-settle}
 use Rattle.stored_forms.specs.Tree.{Form, formOf, formRule, cellRun, freeTree, treeOf, link}
+use Rattle.stored_forms.specs.Tree.{cellsPerUnit}
 use Rattle.stored_forms.specs.Blocks.{Holds}
 use Rattle.stored_forms.proofs.NodeLaws.{readable, form-unit, link-within}
 use Rattle.stored_forms.proofs.FreeTreeLaws.{covered-scaled, cells-are}
@@ -36,7 +37,7 @@ use Rattle.call_parts.proofs.FindLaws.{slot-number}
 use Rattle.tree_check.specs.Gate.{treePool}
 use Rattle.tree_check.proofs.GateLaws.{InRange}
 use Rattle.tree_check.specs.declared.Head.{Head}
-use Rattle.tree_requests.specs.Sizes.{perUnit, cellSpan}
+use Rattle.tree_requests.specs.Sizes.{cellSpan}
 use Rattle.tree_requests.proofs.SizeLaws.{freeCells, tree-of, some-cells, first-cell, past-cell}
 use Rattle.tree_requests.proofs.StoredLaws.{Shows, stored-pool}
 use Rattle.tree_requests.proofs.SoundLaws.{sound-range, sound-good, sound-lies, held-word}
@@ -53,7 +54,7 @@ module _ (h : Head) (a t : Words) (r : Row) (slot : ℕ) (ok : sound treeEngine 
   ρ = formRule F
 
   abbrev per : ℕ
-  per = perUnit F
+  per = cellsPerUnit F
 
   abbrev L : Ledger
   L = recordsOf t

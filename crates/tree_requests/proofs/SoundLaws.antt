@@ -13,7 +13,8 @@ use Rattle.ledger.specs.Units.{valid, free, owned}
 use Rattle.ledger.specs.Runs.{Run, runsFrom, covered, freeRuns, Gapped}
 use Rattle.ledger.proofs.UnitLaws.{owned-covered}
 use Rattle.ledger.proofs.RunLaws.{runs-are}
-use Rattle.stored_forms.specs.Tree.{Form, formOne, formTwo, formOf, formRule, freeTree, link}
+use Rattle.stored_forms.specs.Tree.{Form, formOne, formTwo, formThree, formOf, formRule, cellsPerUnit}
+use Rattle.stored_forms.specs.Tree.{freeTree, link}
 use Rattle.stored_forms.specs.Blocks.{Holds}
 use Rattle.stored_forms.proofs.NodeLaws.{each-form, readable, form-unit}
 use Rattle.stored_forms.proofs.FreeTreeLaws.{gapped-scaled, cells-are, runs-of-tree, tree-within, free-cell}
@@ -26,14 +27,14 @@ use Rattle.calls.proofs.Engines.{tree-laws}
 use Rattle.tree_check.specs.declared.Head.{Head}
 use Rattle.tree_check.specs.Gate.{treePool}
 use Rattle.tree_check.proofs.GateLaws.{InRange, in-range, stored-shown}
-use Rattle.tree_requests.specs.Sizes.{perUnit}
 use Rattle.tree_requests.proofs.SizeLaws.{freeCells, some-cells}
 
 -- in each form there are links for all of the largest arena
 many-links : (f : ℕ) (a : Words) → length a ≤ formOf f .most → 2 * cells (formOf f) a < formOf f .links
-unfolding formOne formTwo
+unfolding formOne formTwo formThree
 many-links =
     each-form (λ F. (a : Words) → length a ≤ F .most → 2 * cells F a < F .links) (λ a l. omega arith) (λ a l. omega arith)
+    (λ a l. omega arith)
 
 module _ (f W : ℕ) (whole : W % formOf f .unit ≡ 0) (L : Ledger) where
   abbrev F : Form
@@ -50,7 +51,7 @@ module _ (f W : ℕ) (whole : W % formOf f .unit ≡ 0) (L : Ledger) where
   pub cells-gapped : Gapped 0 (W / F .cell) (freeCells F W L)
   unfolding freeRuns
   cells-gapped =
-      let p = perUnit F in
+      let p = cellsPerUnit F in
       let N = W / F .unit in
       let gaps = gapped-scaled p (some-cells f) 0 N (runsFrom (free (formRule F) L) 0 N)
       (runs-are (free (formRule F) L) N .gapped) in

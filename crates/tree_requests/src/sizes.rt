@@ -1,10 +1,10 @@
-// Sizes by the form (02, ticket 3). The ledger counts units and the free tree cells: no other code knows how many cells
-// a unit has.
+// Sizes by the form (02, tickets 3 and 11). The ledger counts units, and the free tree cells.
+use tree_nodes::forms::cells_per_unit;
 use tree_nodes::forms::rule_of;
 ghost use mathlib.Core.Path.{_≡_};
 ghost use Prim.Native.Nat.{_*_, _<_};
 ghost use Rattle.stored_forms.specs.Tree.{formOf};
-ghost use Rattle.tree_requests.specs.Sizes.{perUnit, cellSpan};
+ghost use Rattle.tree_requests.specs.Sizes.{cellSpan};
 
 // The most words that can be asked for.
 pub fn limit_of(form: u32) -> u32
@@ -16,18 +16,11 @@ pub fn limit_of(form: u32) -> u32
     16384
 }
 
-// How many cells a unit has: one in either form.
-fn per_unit(form: u32) -> usize
-    ensures { λ r. ⌜ r ≡ perUnit (formOf form) ⌝ }
-{
-    1
-}
-
 // How many cells a request for so many words takes.
 pub fn cells_of(form: u32, words: u32) -> usize
     ensures { λ r. ⌜ r ≡ cellSpan (formOf form) words ⌝ }
 {
-    record_table::span_of(rule_of(form), words) * per_unit(form)
+    record_table::span_of(rule_of(form), words) * cells_per_unit(form)
 }
 
 // The first word of cell `c`.

@@ -1,4 +1,5 @@
-// Random traffic on the tree pool, held to a plain ledger whose units are cells of two words, or of four in form 2.
+// Random traffic on the tree pool, held to a plain ledger of cells of two words, or of four in form 2. In form 3 requests
+// take them by fours.
 // Each holder writes its ticket into all words of its cells, and they are read again before its release. A round ends
 // with the release of all; the memory must then be as a format leaves it.
 use calls::Answer;
@@ -77,11 +78,28 @@ fn size_of_two(round: usize) -> Size {
     }
 }
 
+// Eight rounds of form 3; in the third the tickets run out.
+fn size_of_three(round: usize) -> Size {
+    match round {
+        0 => sized(3, 8, 1, 16, 1, 200),
+        1 => sized(3, 96, 4, 35, 1, 3000),
+        2 => sized(3, 96, 4, 35, 4294967100, 3000),
+        3 => sized(3, 256, 256, 12, 1, 3000),
+        4 => sized(3, 2400, 16, 240, 65536, 4000),
+        5 => sized(3, 4120, 256, 16, 1, 4000),
+        6 => sized(3, 8192, 100, 240, 2147483647, 4000),
+        _ => sized(3, 16384, 256, 300, 1, 4000),
+    }
+}
+
 fn size_of(round: usize) -> Size {
     if round < 8 {
         return size_of_one(round);
     }
-    size_of_two(round - 8)
+    if round < 16 {
+        return size_of_two(round - 8);
+    }
+    size_of_three(round - 16)
 }
 
 // ---- cells
@@ -105,6 +123,9 @@ fn limit_of(form: u32) -> u32 {
 // How many cells a request takes: its words rounded up.
 fn cells_of(form: u32, words: u32) -> usize {
     let n = words as usize;
+    if form == 3 {
+        return (n + 7) / 8 * 4;
+    }
     if form == 2 { (n + 3) / 4 } else { (n + 1) / 2 }
 }
 
@@ -372,7 +393,7 @@ fn play_on(arena: &mut [u32], table: &mut [u32], book: &mut [u32], map: &mut [u3
 
 fn run(arena: &mut [u32], table: &mut [u32], book: &mut [u32], map: &mut [u32]) {
     let mut i = 0;
-    while i < 16 {
+    while i < 24 {
         play_on(arena, table, book, map, size_of(i));
         i += 1;
     }

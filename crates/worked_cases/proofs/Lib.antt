@@ -1,5 +1,6 @@
 -- The worked cases hold.
 pub mod BenchSheet
+pub mod FormThree
 pub mod FreerPools
 pub mod Sequences
 pub mod Restarts

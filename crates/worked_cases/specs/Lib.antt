@@ -1,5 +1,6 @@
 -- What the worked cases are: calls and what each leaves.
 pub mod BenchSheet
+pub mod FormThree
 pub mod FreerPools
 pub mod Sequences
 pub mod Restarts

@@ -11,11 +11,17 @@ returns c = sym (rw (c .if1 .taken) (div-one (c .before .args .w)))
 returns-2 : tie.Need-returns-2
 returns-2 c = rw (c .if2 .taken)
 
+returns-3 : tie.Need-returns-3
+returns-3 c = rw (c .if3 .taken)
+
+returns-4 : tie.Need-returns-4
+returns-4 c = rw (c .if4 .taken)
+
 div-result : tie.Need-div-result
 div-result c = search needs
 
-returns-3 : tie.Need-returns-3
-returns-3 c = search needs
+returns-5 : tie.Need-returns-5
+returns-5 c = search needs
 
 pub over-spec : {M : Type 1} → statement M
-over-spec = tie.close (tie.spec returns returns-2 div-result returns-3)
+over-spec = tie.close (tie.spec returns returns-2 returns-3 returns-4 div-result returns-5)

@@ -1,32 +1,22 @@
 -- `tree_check::is_shown_over` meets its contract, from what the map, the walk and the last two tests say. Assumes
 -- nothing.
-use Prim.Native.Nat.{_/_, _≤_}
+use Prim.Native.Nat.{_≤_}
 use native.Mathlib.Omega.{arith}
-use mathlib.Core.Path.{sym, subst}
 use mathlib.Core.Bool.{false≢true}
 use borrow.Author.Needs.{needs}
 use denote.Ref.{now}
-use lib.ListN.{length}
 use Rattle.stored_forms.specs.Tree.{formOf}
 use Rattle.tree_nodes.specs.Nodes.{cells}
-use Rattle.tree_check.specs.Maps.{Roomy}
-use Rattle.tree_check.proofs.StoredLaws.{one-cell, cells-low, end-low, both-say, limit-is}
+use Rattle.tree_check.proofs.StoredLaws.{cells-low, cells-few, end-low, both-say, limit-is}
 use Rattle.tree_check.proofs.is_shown_over.Statement.{statement}
 use Rattle.tree_check.proofs.is_shown_over.Tie as tie
 
 map-rows-requires : tie.Need-map-rows-requires
 map-rows-requires c κs =
     let s = c .before .before .before .before .before .before in
-    let a = s .args in
     let places = s .pre .1 .1 .0 in
-    let seen = s .pre .1 .1 .1 in (
-      (
-        s .pre .1 .0 .0,
-        s .pre .0 .1,
-        subst (λ n. Roomy (now (a .map)) (length (now (a .arena)) / n)) (sym (one-cell (a .head .form))) (places .0),
-      ),
-      ((places .1, seen .0, seen .1), s .pre .1 .0 .1),
-    )
+    let seen = s .pre .1 .1 .1 in
+    ((s .pre .1 .0 .0, s .pre .0 .1, places .0), ((places .1, seen .0, seen .1), s .pre .1 .0 .1))
 
 same-length : tie.Need-same-length
 same-length c = search needs
@@ -89,26 +79,39 @@ returns-2 c =
       λ e. absurd (false≢true e),
       λ shown.
           let mapped = r .map-rows .ensures .0 (n .before .if1 .left) in
-          let last = end-low (s .args .head) (now (s .args .arena)) _ _ _ mapped shown
+          let last = end-low (s .args .head) (now (s .args .arena)) (s .pre .0 .2) _ _ _ mapped shown
           (limit-is (n .cell-count .ensures) (w .walk-all .ensures .1)) in
           absurd (omega (arith, n .cell-count .ensures)),
     )
 
+cells-per-unit-requires : tie.Need-cells-per-unit-requires
+cells-per-unit-requires c κs = search needs
+
+mul-known : tie.Need-mul-known
+mul-known c =
+    let n = c .before .before .before .before .before .before in
+    let s = n .before .before .before .before .before .before .before .before .before .before .before .before .before in
+    let held = n .before .if1 .left in
+    let few = s .pre .0 .1 in
+    let r = n .before .before .before .before .before .before .map-rows .result in
+    omega (arith, cells-few (s .args .head .form) r _ (omega arith) (c .cells-per-unit .ensures))
+
 add-known : tie.Need-add-known
 add-known c =
-    let w = c .before in
+    let w = c .before .before in
     let n = w .before .before .before .before in
     let s = n .before .before .before .before .before .before .before .before .before .before .before .before .before in
-    let found = w .walk-all .ensures .0 (omega (arith, n .cell-count .ensures, c .if2 .left)) in
+    let found = w .walk-all .ensures .0 (omega (arith, n .cell-count .ensures, c .before .if2 .left)) in
     let few = found .few in
     let inside = found .inside in
     let held = n .before .if1 .left in
     let words = s .pre .0 .1 in
-    omega (arith, low s)
+    let r = n .before .before .before .before .before .before .map-rows .result in
+    omega (arith, low s, cells-few (s .args .head .form) r _ (omega arith) (c .cells-per-unit .ensures))
 
 leads-to-requires : tie.Need-leads-to-requires
 leads-to-requires c κs =
-    let n = c .before .before .before .before .before .before in
+    let n = c .before .before .before .before .before .before .before in
     let r = n .before .before .before .before .before .before in
     let s = r .before .before .before .before .before .before .before in
     let same = r .map-rows .kept .1 .1 .1 .1 .0 in (
@@ -124,14 +127,14 @@ same-length-6 c = search needs
 
 returns-3 : tie.Need-returns-3
 returns-3 c =
-    let w = c .before .before .before in
+    let w = c .before .before .before .before in
     let n = w .before .before .before .before in
     let r = n .before .before .before .before .before .before in
     let s = r .before .before .before .before .before .before .before in
     let is = n .cell-count .ensures in
-    both-say (s .args .head) (now (s .args .arena)) (c .leads-to .result) is
-    (r .map-rows .ensures .0 (n .before .if1 .left))
-    (w .walk-all .ensures .0 (omega (arith, is, c .before .before .if2 .left))) (limit-is is (w .walk-all .ensures .1))
+    both-say (s .args .head) (now (s .args .arena)) (s .pre .0 .2) (now (s .args .table)) (c .leads-to .result) is
+    (c .before .before .cells-per-unit .ensures) (r .map-rows .ensures .0 (n .before .if1 .left))
+    (w .walk-all .ensures .0 (omega (arith, is, c .before .before .before .if2 .left))) (limit-is is (w .walk-all .ensures .1))
     (c .leads-to .ensures)
 
 pub is-shown-over-spec : {M : Type 1} → statement M
@@ -150,6 +153,8 @@ is-shown-over-spec =
     same-length-3
     same-length-4
     returns-2
+    cells-per-unit-requires
+    mul-known
     add-known
     leads-to-requires
     same-length-5

@@ -14,7 +14,7 @@ is-shown-requires : tie.Need-is-shown-requires
 is-shown-requires c κs =
     let s = c .before .before in
     let f = fit s in
-    (all-linked (s .args .head .form) (now (s .args .arena)) (f .most), f .few)
+    (all-linked (s .args .head .form) (now (s .args .arena)) (f .most) (f .whole), f .few)
 
 returns : tie.Need-returns
 returns c =

@@ -1,7 +1,8 @@
 -- `tree_nodes::is_clear` meets its contract: behind the node's words, one test of zeros. Assumes nothing.
 use native.Mathlib.Omega.{arith}
 use denote.Ref.{now}
-use Rattle.tree_nodes.proofs.FormLaws.{form-one, form-two, cells-two, cells-four, two-clear, four-clear}
+use Rattle.stored_forms.specs.Tree.{formOne}
+use Rattle.tree_nodes.proofs.FormLaws.{form-narrow, form-two, cells-two, cells-four, two-clear, four-clear}
 use Rattle.tree_nodes.proofs.is_clear.Statement.{statement}
 use Rattle.tree_nodes.proofs.is_clear.Tie as tie
 
@@ -66,11 +67,12 @@ is-zero-part-requires-2 c κs =
     (omega arith, omega arith)
 
 returns-2 : tie.Need-returns-2
+unfolding formOne
 returns-2 c =
     let a = c .before .before .before .args in
     let e = c .before .if1 .left in
     let (some, inside) = c .before .before .before .pre in
-    rw (form-one (a .form) e, c .is-zero-part2 .ensures)
+    rw (form-narrow (a .form) e, c .is-zero-part2 .ensures)
     (two-clear (now (a .arena)) (a .c) (a .z) some (omega (arith, cells-two (a .form) (now (a .arena)) e)))
 
 pub is-clear-spec : {M : Type 1} → statement M

@@ -4,7 +4,8 @@ use native.Mathlib.Omega.{arith}
 use mathlib.Core.Path.{sym}
 use borrow.Author.Needs.{needs}
 use denote.Ref.{now}
-use Rattle.tree_nodes.proofs.FormLaws.{form-one, form-two, cells-two, cells-four, four-left}
+use Rattle.stored_forms.specs.Tree.{formOne}
+use Rattle.tree_nodes.proofs.FormLaws.{form-narrow, form-two, cells-two, cells-four, four-left}
 use Rattle.tree_nodes.proofs.FormOne.{one-left}
 use Rattle.tree_nodes.proofs.left_of.Statement.{statement}
 use Rattle.tree_nodes.proofs.left_of.Tie as tie
@@ -51,9 +52,10 @@ cast-result-2 : tie.Need-cast-result-2
 cast-result-2 c = search needs
 
 returns-2 : tie.Need-returns-2
+unfolding formOne
 returns-2 c =
     let a = c .before .before .args in
-    let is = form-one (a .form) (c .before .if1 .left) in
+    let is = form-narrow (a .form) (c .before .if1 .left) in
     rw is (sym (one-left (now (a .arena)) (a .c)))
 
 pub left-of-spec : {M : Type 1} → statement M

@@ -2,7 +2,8 @@
 use native.Mathlib.Omega.{arith}
 use mathlib.Core.Path.{sym}
 use denote.Ref.{now}
-use Rattle.tree_nodes.proofs.FormLaws.{form-one, form-two, cells-two, cells-four, four-length}
+use Rattle.stored_forms.specs.Tree.{formOne}
+use Rattle.tree_nodes.proofs.FormLaws.{form-narrow, form-two, cells-two, cells-four, four-length}
 use Rattle.tree_nodes.proofs.FormOne.{one-length}
 use Rattle.tree_nodes.proofs.length_of.Statement.{statement}
 use Rattle.tree_nodes.proofs.length_of.Tie as tie
@@ -37,9 +38,10 @@ shared-slice-read-result-2 c =
     omega (arith, cells-two (a .form) (now (a .arena)) (c .before .if1 .left))
 
 returns-2 : tie.Need-returns-2
+unfolding formOne
 returns-2 c =
     let a = c .before .before .args in
-    let is = form-one (a .form) (c .before .if1 .left) in
+    let is = form-narrow (a .form) (c .before .if1 .left) in
     rw is (sym (one-length (now (a .arena)) (a .c)))
 
 pub length-of-spec : {M : Type 1} → statement M

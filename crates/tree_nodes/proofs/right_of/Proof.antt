@@ -3,7 +3,8 @@ use Prim.Native.Nat.{_+_, _*_}
 use native.Mathlib.Omega.{arith}
 use mathlib.Core.Path.{sym}
 use denote.Ref.{now}
-use Rattle.tree_nodes.proofs.FormLaws.{form-one, form-two, cells-two, cells-four, four-right}
+use Rattle.stored_forms.specs.Tree.{formOne}
+use Rattle.tree_nodes.proofs.FormLaws.{form-narrow, form-two, cells-two, cells-four, four-right}
 use Rattle.tree_nodes.proofs.FormOne.{one-right}
 use Rattle.tree_nodes.proofs.right_of.Statement.{statement}
 use Rattle.tree_nodes.proofs.right_of.Tie as tie
@@ -50,9 +51,10 @@ cast-result-2 : tie.Need-cast-result-2
 cast-result-2 c = omega (arith, c .shared-slice-known2 .given (2 * c .before .before .args .c + 1))
 
 returns-2 : tie.Need-returns-2
+unfolding formOne
 returns-2 c =
     let a = c .before .before .args in
-    let is = form-one (a .form) (c .before .if1 .left) in
+    let is = form-narrow (a .form) (c .before .if1 .left) in
     rw is (sym (one-right (now (a .arena)) (a .c)))
 
 pub right-of-spec : {M : Type 1} → statement M

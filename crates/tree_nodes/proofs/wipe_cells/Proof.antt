@@ -2,8 +2,8 @@
 use borrow.Author.Needs.{needs}
 use native.Mathlib.Omega.{arith}
 use denote.Ref.{now}
-use Rattle.stored_forms.specs.Tree.{formOne, formTwo}
-use Rattle.tree_nodes.proofs.FormLaws.{form-one, form-two, cells-two, cells-four}
+use Rattle.stored_forms.specs.Tree.{formTwo}
+use Rattle.tree_nodes.proofs.FormLaws.{form-two, form-narrow, cells-two, cells-four}
 use Rattle.tree_nodes.proofs.wipe_cells.Statement.{statement}
 use Rattle.tree_nodes.proofs.wipe_cells.Tie as tie
 
@@ -53,11 +53,10 @@ same-length-2 : tie.Need-same-length-2
 same-length-2 c = search needs
 
 returns-2 : tie.Need-returns-2
-unfolding formOne
 returns-2 c =
     let b2 = c .before .before in
     let b4 = b2 .before .before in
-    rw (form-one (b4 .before .before .args .form) (b4 .if1 .left)) (b2 .wipe-part2 .ensures)
+    rw (form-narrow (b4 .before .before .args .form) (b4 .if1 .left)) (b2 .wipe-part2 .ensures)
 
 pub wipe-cells-spec : {M : Type 1} → statement M
 wipe-cells-spec =

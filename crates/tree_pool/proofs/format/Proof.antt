@@ -78,7 +78,7 @@ cast-cells c =
       arith,
       c .cell-count .ensures,
       div-le-self W (formOf (s .args .form) .cell),
-      all-linked (s .args .form) (now (s .args .arena)) (fits (c .before) .most) .1,
+      all-linked (s .args .form) (now (s .args .arena)) (fits (c .before) .most) (fits (c .before) .whole) .1,
     )
 
 wipe-requires : tie.Need-wipe-requires

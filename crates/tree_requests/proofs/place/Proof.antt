@@ -37,7 +37,7 @@ inside s = place-inside (s .args .head) (now (s .args .arena)) (now (s .args .ta
 
 -- the arena has no more words than any form's
 few : (s : tie.Start) → length (now (s .args .arena)) ≤ 1048576
-few s = all-linked (s .args .head .form) (now (s .args .arena)) (range s .most) .1
+few s = all-linked (s .args .head .form) (now (s .args .arena)) (range s .most) (range s .whole) .1
 
 -- the block's first word
 first-low : (s : tie.Start)

@@ -9,12 +9,12 @@ use Rattle.tree_traffic.proofs.run.Tie as tie
 
 abbrev Inv-loop : tie.InvT-loop
 Inv-loop arena₀ table₀ book₀ map₀ i₀ arena table book map i =
-    (i ≤ 16) × (length arena ≡ length arena₀) × (length table ≡ length table₀) ×
+    (i ≤ 24) × (length arena ≡ length arena₀) × (length table ≡ length table₀) ×
     (length book ≡ length book₀) × (length map ≡ length map₀)
 
 abbrev μ-loop : tie.MeasureT-loop
 μ-loop arena₀ table₀ book₀ map₀ i₀ arena table book map i =
-    16 - i
+    24 - i
 
 loop-holds : tie.Need-loop-holds Inv-loop μ-loop
 loop-holds c = search needs

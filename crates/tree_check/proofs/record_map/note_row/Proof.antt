@@ -1,6 +1,9 @@
 -- `tree_check::record_map::note_row` meets its contract. Assumes nothing.
+use Prim.Native.Nat.{ℕ, _+_, _*_, _<_}
+use native.Mathlib.Nat.{zero-mul, mul-pos}
 use native.Mathlib.Omega.{arith}
-use mathlib.Core.Path.{ap, subst}
+use mathlib.Core.Path.{_≡_, ap, _∙_, subst}
+use mathlib.Core.Logic.{_≢_}
 use borrow.Author.Needs.{needs}
 use denote.Ref.{now}
 use lib.Dec.{eqb}
@@ -10,19 +13,40 @@ use Rattle.tree_check.proofs.SpanLaws.{grows-none}
 use Rattle.tree_check.proofs.record_map.note_row.Statement.{statement}
 use Rattle.tree_check.proofs.record_map.note_row.Tie as tie
 
+-- the record's first cell and its cells, of which there are some
+cells-noted : {lo first n per : ℕ} → lo ≡ first → n ≢ 0 → 0 < per → first * per + n * per < 4294967296
+    → (lo * per + n * per < 4294967296) × (0 < n * per)
+cells-noted {lo} {first} {n} {per} e some each small =
+    let same = ap (λ k. k * per) e in
+    (omega arith, mul-pos {m = n} {n = per} (omega arith) each)
+
 returns : tie.Need-returns
-returns c = grows-none _ _ _ (c .if1 .taken)
+returns c =
+    let per = c .before .before .args .per in
+    grows-none _ _ _ (ap (λ k. k * per) (c .if1 .taken) ∙ zero-mul per)
 
 first-unit-requires : tie.Need-first-unit-requires
 first-unit-requires c κs = search needs
 
+mul-lo : tie.Need-mul-lo
+mul-lo c =
+    let s = c .before .before .before in
+    let some = c .before .if1 .left in
+    omega (arith, cells-noted (c .first-unit .ensures) some (s .pre .0 .1) (s .pre .1 some .0))
+
+mul-count : tie.Need-mul-count
+mul-count c =
+    let s = c .before .before .before in
+    let some = c .before .if1 .left in
+    omega (arith, cells-noted (c .first-unit .ensures) some (s .pre .0 .1) (s .pre .1 some .0))
+
 note-entry-requires : tie.Need-note-entry-requires
 note-entry-requires c κs =
     let f = c .before .before in
-    let low = f .first-unit .ensures in
     let s = f .before .before .before in
-    let small = s .pre .1 (f .before .if1 .left) .0 in
-    (omega arith, omega arith, omega arith, ap (λ k. eqb k 1) (c .before .if2 .taken))
+    let left = f .before .if1 .left in
+    let (small, some) = cells-noted (f .first-unit .ensures) left (s .pre .0 .1) (s .pre .1 left .0) in
+    (omega arith, some, omega arith, ap (λ k. eqb k 1) (c .before .if2 .taken))
 
 same-length : tie.Need-same-length
 same-length c = search needs
@@ -32,17 +56,18 @@ returns-2 c =
     let n = c .before .before in
     let f = n .before .before .before in
     let a = f .before .before .before .args in
-    subst (λ at. Grows (now (a .map)) (n .note-entry .last .0) at (a .n)) (f .first-unit .ensures)
+    subst (λ at. Grows (now (a .map)) (n .note-entry .last .0) (at * a .per) (a .n * a .per)) (f .first-unit .ensures)
     (n .note-entry .ensures)
 
 note-span-requires : tie.Need-note-span-requires
 note-span-requires c κs =
     let f = c .before .before in
-    let low = f .first-unit .ensures in
     let s = f .before .before .before in
+    let left = f .before .if1 .left in
     let bytes = eqb-ne _ _ (c .before .if2 .left) in
-    let room = s .pre .1 (f .before .if1 .left) .1 bytes in
-    (omega arith, omega arith, bytes)
+    let room = s .pre .1 left .1 bytes in
+    let same = ap (λ k. k * s .args .per) (f .first-unit .ensures) in
+    (cells-noted (f .first-unit .ensures) left (s .pre .0 .1) (s .pre .1 left .0) .1, omega arith, bytes)
 
 same-length-2 : tie.Need-same-length-2
 same-length-2 c = search needs
@@ -52,7 +77,7 @@ returns-3 c =
     let n = c .before .before in
     let f = n .before .before .before in
     let a = f .before .before .before .args in
-    subst (λ at. Grows (now (a .map)) (n .note-span .last .0) at (a .n)) (f .first-unit .ensures)
+    subst (λ at. Grows (now (a .map)) (n .note-span .last .0) (at * a .per) (a .n * a .per)) (f .first-unit .ensures)
     (n .note-span .ensures)
 
 pub note-row-spec : {M : Type 1} → statement M
@@ -61,6 +86,8 @@ note-row-spec =
     (tie.spec
     returns
     first-unit-requires
+    mul-lo
+    mul-count
     note-entry-requires
     same-length
     returns-2

@@ -19,17 +19,17 @@ span-of-requires : tie.Need-span-of-requires
 span-of-requires c κs =
     subst (λ (ρ : Rule). 0 < ρ .unit) (sym (c .rule-of .ensures)) (form-unit (c .before .args .form))
 
-per-unit-requires : tie.Need-per-unit-requires
-per-unit-requires c κs = search needs
+cells-per-unit-requires : tie.Need-cells-per-unit-requires
+cells-per-unit-requires c κs = search needs
 
-exact : (c : tie.After-per-unit)
+exact : (c : tie.After-cells-per-unit)
     → let s = c .before .before .before in
-    c .before .span-of .result * c .per-unit .result ≡ cellSpan (formOf (s .args .form)) (s .args .words)
+    c .before .span-of .result * c .cells-per-unit .result ≡ cellSpan (formOf (s .args .form)) (s .args .words)
 exact c =
     let s = c .before .before .before in
     ap₂ _*_
     (c .before .span-of .ensures ∙ ap (λ (ρ : Rule). span ρ (s .args .words)) (c .before .before .rule-of .ensures))
-    (c .per-unit .ensures)
+    (c .cells-per-unit .ensures)
 
 mul-result : tie.Need-mul-result
 mul-result c =
@@ -40,4 +40,4 @@ returns : tie.Need-returns
 returns c = exact c
 
 pub cells-of-spec : {M : Type 1} → statement M
-cells-of-spec = tie.close (tie.spec rule-of-requires span-of-requires per-unit-requires mul-result returns)
+cells-of-spec = tie.close (tie.spec rule-of-requires span-of-requires cells-per-unit-requires mul-result returns)

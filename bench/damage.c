@@ -59,12 +59,13 @@ static void set_last_free_word(pool *p)
 static void nest_record(pool *p)
 {
     size_t slot = 0;
-    while (p->table[3 * slot] != 0)
+    while (p->table[RECORD_WORDS * slot] != 0)
         slot++;
     uint32_t address = p->named.address + (uint32_t)unit_words(p);
     if (p->engine == SEGMENT)
         p->arena[address - 1] = -units_for(p, 1);
-    memcpy(p->table + 3 * slot, (const uint32_t[3]){p->head.next++, address, 1}, 3 * sizeof address);
+    memcpy(p->table + RECORD_WORDS * slot, (const uint32_t[RECORD_WORDS]){p->head.next++, address, 1, PARTY},
+           RECORD_WORDS * sizeof address);
 }
 
 // Each record reaches from a unit of its own to the end, and fits by itself. A map that notes long ones in several
@@ -73,8 +74,8 @@ static void reach_the_end(pool *p)
 {
     for (uint32_t i = 0; i < p->records; i++) {
         uint32_t units = (uint32_t)units_of(p) - i, address = is_tree(p) ? (uint32_t)unit_words(p) * i : i + 1;
-        const uint32_t row[3] = {p->head.next++, address, words_for(p, units)};
-        memcpy(p->table + 3 * i, row, sizeof row);
+        const uint32_t row[RECORD_WORDS] = {p->head.next++, address, words_for(p, units), PARTY};
+        memcpy(p->table + RECORD_WORDS * i, row, sizeof row);
         if (p->engine == SEGMENT)
             p->arena[i] = -units;
     }
@@ -84,12 +85,12 @@ static void reach_the_end(pool *p)
 static void spread_tickets(pool *p, uint32_t step)
 {
     size_t named = 0;
-    while (p->table[3 * named] != p->named.ticket)
+    while (p->table[RECORD_WORDS * named] != p->named.ticket)
         named++;
     for (size_t i = 0; i < p->records; i++)
-        if (p->table[3 * i] != 0)
-            p->table[3 * i] = 1 + step * (uint32_t)i;
-    p->named.ticket = p->table[3 * named];
+        if (p->table[RECORD_WORDS * i] != 0)
+            p->table[RECORD_WORDS * i] = 1 + step * (uint32_t)i;
+    p->named.ticket = p->table[RECORD_WORDS * named];
     p->head.next = 1 + step * (uint32_t)p->records;
 }
 

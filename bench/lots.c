@@ -63,7 +63,7 @@ static void strike_once(pool *p, const run *runs, size_t count)
     else if (lot == 1 && is_tree(p))
         strike(p, &p->head.root, 1);
     else if (lot <= 3)
-        strike(p, p->table, 3 * p->records);
+        strike(p, p->table, RECORD_WORDS * p->records);
     else if (lot <= 5)
         strike(p, p->arena, p->words);
     else if (lot <= 8 && p->engine == SEGMENT)

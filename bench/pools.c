@@ -49,15 +49,21 @@ const char *state_name(enum state s)
 
 // ---- one call
 
+static size_t table_words(const pool *p)
+{
+    return RECORD_WORDS * p->records;
+}
+
 lf_answer ask_for(const contestant *c, pool *p, uint32_t words)
 {
     if (is_tree(p)) {
-        lf_tree_outcome o = c->tree_allocate(p->head, p->arena, p->words, p->table, 3 * p->records, words);
+        lf_tree_outcome o = c->tree_allocate(p->head, p->arena, p->words, p->table, table_words(p), PARTY, words);
         p->head = o.head;
         return o.answer;
     }
-    lf_segment_allocation o = c->segment_allocate(p->head.next, (int32_t *)p->arena, p->words, p->table,
-                                                  3 * p->records, p->segments, p->index, 3 * p->segments, words);
+    lf_segment_allocation o =
+        c->segment_allocate(p->head.next, (int32_t *)p->arena, p->words, p->table, table_words(p), p->segments,
+                            p->index, 3 * p->segments, PARTY, words);
     p->head.next = o.next;
     return o.answer;
 }
@@ -65,13 +71,14 @@ lf_answer ask_for(const contestant *c, pool *p, uint32_t words)
 lf_answer give_back(const contestant *c, pool *p, lf_answer b)
 {
     if (is_tree(p)) {
-        lf_tree_outcome o =
-            c->tree_release(p->head, p->arena, p->words, p->table, 3 * p->records, b.ticket, b.address, b.words);
+        lf_tree_outcome o = c->tree_release(p->head, p->arena, p->words, p->table, table_words(p), PARTY, b.ticket,
+                                            b.address, b.words);
         p->head = o.head;
         return o.answer;
     }
-    lf_segment_outcome o = c->segment_release(p->head.next, (int32_t *)p->arena, p->words, p->table, 3 * p->records,
-                                              p->segments, p->index, 3 * p->segments, b.ticket, b.address, b.words);
+    lf_segment_outcome o =
+        c->segment_release(p->head.next, (int32_t *)p->arena, p->words, p->table, table_words(p), p->segments,
+                           p->index, 3 * p->segments, PARTY, b.ticket, b.address, b.words);
     p->head.next = o.next;
     return o.answer;
 }
@@ -79,21 +86,23 @@ lf_answer give_back(const contestant *c, pool *p, lf_answer b)
 lf_answer find_in(const contestant *c, const pool *p, lf_answer b)
 {
     if (is_tree(p))
-        return c->tree_find(p->head, p->arena, p->words, p->table, 3 * p->records, b.ticket, b.address, b.words);
-    return c->segment_find(p->head.next, (const int32_t *)p->arena, p->words, p->table, 3 * p->records, p->segments,
-                           p->index, 3 * p->segments, b.ticket, b.address, b.words);
+        return c->tree_find(p->head, p->arena, p->words, p->table, table_words(p), PARTY, b.ticket, b.address,
+                            b.words);
+    return c->segment_find(p->head.next, (const int32_t *)p->arena, p->words, p->table, table_words(p), p->segments,
+                           p->index, 3 * p->segments, PARTY, b.ticket, b.address, b.words);
 }
 
 lf_answer run_list(const contestant *c, pool *p, const uint32_t *requests, size_t n, uint32_t *answers)
 {
     if (is_tree(p)) {
-        lf_tree_outcome o =
-            c->tree_list(p->head, p->arena, p->words, p->table, 3 * p->records, requests, 4 * n, answers, 4 * n);
+        lf_tree_outcome o = c->tree_list(p->head, p->arena, p->words, p->table, table_words(p), PARTY, requests,
+                                         4 * n, answers, 4 * n);
         p->head = o.head;
         return o.answer;
     }
-    lf_segment_outcome o = c->segment_list(p->head.next, (int32_t *)p->arena, p->words, p->table, 3 * p->records,
-                                           p->segments, p->index, 3 * p->segments, requests, 4 * n, answers, 4 * n);
+    lf_segment_outcome o =
+        c->segment_list(p->head.next, (int32_t *)p->arena, p->words, p->table, table_words(p), p->segments, p->index,
+                        3 * p->segments, PARTY, requests, 4 * n, answers, 4 * n);
     p->head.next = o.next;
     return o.answer;
 }
@@ -101,11 +110,11 @@ lf_answer run_list(const contestant *c, pool *p, const uint32_t *requests, size_
 lf_answer format_pool(const contestant *c, pool *p)
 {
     if (is_tree(p)) {
-        lf_tree_outcome o = c->tree_format(form_of(p->engine), p->arena, p->words, p->table, 3 * p->records, 1);
+        lf_tree_outcome o = c->tree_format(form_of(p->engine), p->arena, p->words, p->table, table_words(p), 1);
         p->head = o.head;
         return o.answer;
     }
-    lf_segment_outcome o = c->segment_format((int32_t *)p->arena, p->words, p->table, 3 * p->records, p->segments,
+    lf_segment_outcome o = c->segment_format((int32_t *)p->arena, p->words, p->table, table_words(p), p->segments,
                                              p->index, 3 * p->segments, 1);
     p->head.next = o.next;
     return o.answer;
@@ -305,7 +314,7 @@ static bool lists_agree(const contestant *c, pool *p)
 
 bool agrees(const contestant *c, pool *p)
 {
-    static uint32_t table[3 * POOL_RECORDS], index[3 * POOL_SEGMENTS];
+    static uint32_t table[RECORD_WORDS * POOL_RECORDS], index[3 * POOL_SEGMENTS];
     memcpy(table, p->table, sizeof table);
     memcpy(index, p->index, sizeof index);
     return find_in(c, p, p->named).number == p->named.number && lists_agree(c, p) &&

@@ -22,6 +22,8 @@ enum {
     LARGE_WORDS = 1048576,
     LARGE_UNITS = LARGE_WORDS / 4,
     POOL_RECORDS = 256,
+    RECORD_WORDS = 4,
+    PARTY = 1, // all records are of one party
     POOL_SEGMENTS = 256,
     LIST_LENGTH = 512,
     LIST_UNITS = 512,
@@ -45,7 +47,7 @@ typedef struct {
     uint32_t segments;
 
     lf_tree_head head; // the segment pool has no root
-    uint32_t arena[LARGE_WORDS], table[3 * POOL_RECORDS], index[3 * POOL_SEGMENTS];
+    uint32_t arena[LARGE_WORDS], table[RECORD_WORDS * POOL_RECORDS], index[3 * POOL_SEGMENTS];
     uint32_t copy[LARGE_WORDS]; // the arena once more, to compare it with
 
     lf_answer named;      // what find names, and the number that it answers

@@ -9,7 +9,7 @@ size_t free_runs(const pool *p, run runs[POOL_RECORDS + 1])
     static uint8_t held[LARGE_UNITS];
     size_t units = units_of(p), count = 0;
     memset(held, 0, units);
-    for (const uint32_t *r = p->table; r < p->table + 3 * p->records; r += 3)
+    for (const uint32_t *r = p->table; r < p->table + RECORD_WORDS * p->records; r += RECORD_WORDS)
         if (r[0] != 0)
             memset(held + (is_tree(p) ? r[1] / unit_words(p) : r[1] - 1), 1, units_for(p, r[2]));
     for (size_t k = 0; k < units; k++) {
@@ -148,7 +148,8 @@ static void lay_held(pool *p, size_t slot, size_t at, uint32_t units)
     }
     for (uint32_t i = 0; i < words; i++)
         p->arena[address + i] = random_below(0xffffffff) | 1;
-    memcpy(p->table + 3 * slot, (const uint32_t[3]){ticket, address, words}, 3 * sizeof ticket);
+    memcpy(p->table + RECORD_WORDS * slot, (const uint32_t[RECORD_WORDS]){ticket, address, words, PARTY},
+           RECORD_WORDS * sizeof ticket);
     p->head.next = ticket + 1;
 }
 
@@ -174,6 +175,6 @@ void lay(pool *p, const strip *s)
         p->head.root = tree_of(p, s, at, 0, s->held_count + 1);
     else
         index_above(p);
-    const uint32_t *middle = p->table + 3 * (s->held_count / 2);
+    const uint32_t *middle = p->table + RECORD_WORDS * (s->held_count / 2);
     p->named = (lf_answer){0, middle[0], middle[1], middle[2]};
 }

@@ -48,7 +48,7 @@ static void do_job(void *given)
 
 static struct {
     lf_tree_head head;
-    uint32_t arena[LARGE_WORDS], table[3 * POOL_RECORDS], index[3 * POOL_SEGMENTS];
+    uint32_t arena[LARGE_WORDS], table[RECORD_WORDS * POOL_RECORDS], index[3 * POOL_SEGMENTS];
 } kept[2];
 
 static void keep(size_t i, const pool *p)
@@ -110,7 +110,7 @@ static void meter(seen *s, bool sound, job j)
 
 static lf_answer record_in(const pool *p, size_t slot)
 {
-    const uint32_t *r = p->table + 3 * slot;
+    const uint32_t *r = p->table + RECORD_WORDS * slot;
     return (lf_answer){0, r[0], r[1], r[2]};
 }
 

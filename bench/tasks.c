@@ -82,10 +82,10 @@ static uint64_t malloc_once(const contestant *c, pool *p)
 // The bytes that format writes, in buffers of their own.
 static uint64_t set_once(const contestant *c, pool *p)
 {
-    static uint32_t arena[LARGE_WORDS], table[3 * POOL_RECORDS], index[3 * POOL_SEGMENTS];
+    static uint32_t arena[LARGE_WORDS], table[RECORD_WORDS * POOL_RECORDS], index[3 * POOL_SEGMENTS];
     (void)c;
     set(arena, 0, p->words * sizeof arena[0]);
-    set(table, 0, 3 * p->records * sizeof table[0]);
+    set(table, 0, RECORD_WORDS * p->records * sizeof table[0]);
     if (p->engine == SEGMENT)
         set(index, 0, 3 * p->segments * sizeof index[0]);
     return 0;

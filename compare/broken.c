@@ -20,20 +20,27 @@ static int broken(int kind)
     int32_t *arena, size_t arena_len, uint32_t *table, size_t table_len, uint32_t segments, uint32_t *index,          \
         size_t index_len
 #define SEGMENT_PASSED arena, arena_len, table, table_len, segments, index, index_len
-#define NAMED uint32_t ticket, uint32_t address, uint32_t words
-#define NAMED_PASSED ticket, address, words
-#define LISTED const uint32_t *requests, size_t requests_len, uint32_t *answers, size_t answers_len
-#define LISTED_PASSED requests, requests_len, answers, answers_len
+#define NAMED uint32_t party, uint32_t ticket, uint32_t address, uint32_t words
+#define NAMED_PASSED party, ticket, address, words
+#define LISTED uint32_t party, const uint32_t *requests, size_t requests_len, uint32_t *answers, size_t answers_len
+#define LISTED_PASSED party, requests, requests_len, answers, answers_len
 
 lf_tree_outcome __real_lf_tree_format(uint32_t form, TREE, uint32_t first);
-lf_tree_outcome __real_lf_tree_allocate(lf_tree_head head, TREE, uint32_t words);
+lf_tree_outcome __real_lf_tree_allocate(lf_tree_head head, TREE, uint32_t party, uint32_t words);
 lf_tree_outcome __real_lf_tree_release(lf_tree_head head, TREE, NAMED);
 lf_answer __real_lf_tree_find(lf_tree_head head, const uint32_t *arena, size_t arena_len, const uint32_t *table,
                               size_t table_len, NAMED);
 lf_tree_outcome __real_lf_tree_list(lf_tree_head head, TREE, LISTED);
 lf_segment_outcome __real_lf_segment_format(SEGMENT, uint32_t first);
-lf_segment_allocation __real_lf_segment_allocate(uint32_t next, SEGMENT, uint32_t words);
+lf_segment_allocation __real_lf_segment_allocate(uint32_t next, SEGMENT, uint32_t party, uint32_t words);
 lf_segment_outcome __real_lf_segment_release(uint32_t next, SEGMENT, NAMED);
+lf_answer __real_lf_segment_find(uint32_t next, const int32_t *arena, size_t arena_len, const uint32_t *table,
+                                 size_t table_len, uint32_t segments, const uint32_t *index, size_t index_len, NAMED);
+lf_segment_outcome __real_lf_segment_list(uint32_t next, SEGMENT, LISTED);
+lf_tree_slice __real_compare_tree_look(lf_tree_head head, const uint32_t *arena, size_t arena_len,
+                                       const uint32_t *table, size_t table_len, const uint32_t *placeholder,
+                                       size_t placeholder_len, NAMED);
+uint32_t __real_lf_copy_table(const uint32_t *old, size_t old_len, uint32_t *new_table, size_t new_len);
 
 static int is_form(uint32_t form)
 {
@@ -44,7 +51,28 @@ static int is_form(uint32_t form)
 static int lengths_of_none(size_t arena_len, size_t table_len)
 {
     return arena_len == 0 || arena_len % 2 || arena_len > LF_FORM_2_ARENA_WORDS_MAX || table_len == 0 ||
-           table_len % 3 || table_len > LF_TABLE_WORDS(LF_RECORDS_MAX);
+           table_len % 4 || table_len > LF_TABLE_WORDS(LF_RECORDS_MAX);
+}
+
+static int is_party(uint32_t party)
+{
+    return party >= 1 && party <= LF_PARTY_MAX;
+}
+
+/* The record with this ticket, in a table of at most the most words; 0 if there is none. */
+static const uint32_t *record_of(const uint32_t *table, size_t table_len, uint32_t ticket)
+{
+    for (size_t at = 0; ticket && table_len <= LF_TABLE_WORDS(LF_RECORDS_MAX) && at + 3 < table_len; at += 4)
+        if (table[at] == ticket)
+            return table + at;
+    return 0;
+}
+
+/* The party of the record with this ticket, whoever asks. */
+static uint32_t owner(const uint32_t *table, size_t table_len, uint32_t party, uint32_t ticket)
+{
+    const uint32_t *record = is_party(party) ? record_of(table, table_len, ticket) : 0;
+    return record ? record[3] : party;
 }
 
 lf_tree_outcome __wrap_lf_tree_format(uint32_t form, TREE, uint32_t first)
@@ -75,7 +103,7 @@ static void wipe_spare(lf_tree_head head, uint32_t *arena, const uint32_t *table
         arena[end] = 0;
 }
 
-lf_tree_outcome __wrap_lf_tree_allocate(lf_tree_head head, TREE, uint32_t words)
+lf_tree_outcome __wrap_lf_tree_allocate(lf_tree_head head, TREE, uint32_t party, uint32_t words)
 {
     if (broken(24) && !is_form(head.form) && lengths_of_none(arena_len, table_len)) { /* 8 before 11 */
         lf_tree_outcome refused = { head, { LF_BAD_LENGTHS, 0, 0, 0 } };
@@ -87,10 +115,12 @@ lf_tree_outcome __wrap_lf_tree_allocate(lf_tree_head head, TREE, uint32_t words)
         arena_len = (uint32_t)arena_len;
     int by_cells = broken(31) && head.form == 3 && arena_len % 8 == 0; /* form 3 rounds by cells */
     head.form = by_cells ? 1 : head.form;
-    lf_tree_outcome done = __real_lf_tree_allocate(head, TREE_PASSED, words);
+    lf_tree_outcome done = __real_lf_tree_allocate(head, TREE_PASSED, party, words);
     done.head.form = by_cells ? 3 : done.head.form;
     if (broken(34) && done.answer.number == 0)
         wipe_spare(done.head, arena, table, done.answer.ticket);
+    if (broken(41) && done.answer.number == 0) /* every record is party 1's */
+        table[record_of(table, table_len, done.answer.ticket) + 3 - table] = 1;
     if (broken(3)) /* always address 0 */
         done.answer.address = 0;
     if (broken(4) && done.answer.number == LF_NO_ROOM) /* a refusal uses up a ticket */
@@ -126,20 +156,27 @@ static void exchange(lf_tree_head head, uint32_t *arena)
 /* The ticket of whoever holds this place now. */
 static uint32_t holder(const uint32_t *table, size_t table_len, NAMED)
 {
-    for (size_t at = 0; at + 2 < table_len; at += 3)
-        if (table[at + 1] == address && table[at + 2] == words)
+    for (size_t at = 0; at + 3 < table_len; at += 4)
+        if (table[at + 1] == address && table[at + 2] == words && table[at + 3] == party)
             return table[at];
     return ticket;
 }
 
 lf_tree_outcome __wrap_lf_tree_release(lf_tree_head head, TREE, NAMED)
 {
+    if (broken(35)) /* party not compared */
+        party = owner(table, table_len, party, ticket);
     lf_answer found = __real_lf_tree_find(head, TREE_PASSED, NAMED_PASSED);
     lf_tree_outcome as_it_was = { head, found };
     if (broken(5)) /* does nothing */
         return as_it_was;
     if (broken(6) && ticket == 0 && address == 0 && words == 0 && found.number == LF_UNKNOWN_TICKET) {
         as_it_was.answer.number = LF_OK; /* an empty record matched by ticket 0 */
+        return as_it_was;
+    }
+    const uint32_t *record = found.number == LF_UNKNOWN_TICKET ? record_of(table, table_len, ticket) : 0;
+    if (broken(38) && record && (record[1] != address || record[2] != words)) { /* 7 for another's ticket */
+        as_it_was.answer.number = LF_MISMATCH;
         return as_it_was;
     }
     if (broken(7) && found.number == LF_UNKNOWN_TICKET) /* address and words only */
@@ -152,6 +189,18 @@ lf_tree_outcome __wrap_lf_tree_release(lf_tree_head head, TREE, NAMED)
     if (broken(9) && done.answer.number == 0 && arena[address] == 0) /* an old header inside a merged block */
         arena[address] = 1;
     return done;
+}
+
+/* Find on a copy of the table in which every live record has a party. */
+static lf_answer find_without_party(lf_tree_head head, const uint32_t *arena, size_t arena_len, const uint32_t *table,
+                                    size_t table_len, NAMED)
+{
+    uint32_t copy[LF_TABLE_WORDS(LF_RECORDS_MAX)];
+    memcpy(copy, table, table_len * sizeof copy[0]);
+    for (size_t at = 0; at < table_len; at += 4)
+        if (copy[at] && !is_party(copy[at + 3]))
+            copy[at + 3] = 1;
+    return __real_lf_tree_find(head, arena, arena_len, copy, table_len, NAMED_PASSED);
 }
 
 /* Find on a copy of the arena in which the root's fourth word is 0. */
@@ -173,6 +222,13 @@ lf_answer __wrap_lf_tree_find(lf_tree_head head, const uint32_t *arena, size_t a
         volatile uint32_t read = arena[arena_len];
         (void)read;
     }
+    if (broken(39) && is_form(head.form) && !is_party(party)) { /* 12 before 1 */
+        lf_answer refused = __real_lf_tree_find(head, TREE_PASSED, NAMED_PASSED);
+        refused.number = refused.number == LF_DAMAGED ? LF_BAD_PARTY : refused.number;
+        return refused;
+    }
+    if (broken(46) && table_len <= LF_TABLE_WORDS(LF_RECORDS_MAX) && table_len % 4 == 0) /* stored party not checked */
+        return find_without_party(head, TREE_PASSED, NAMED_PASSED);
     if (broken(28) && !is_form(head.form)) /* the form not looked at */
         head.form = 1;
     int rooted = head.root - 1 < arena_len / 4 && arena_len <= LF_FORM_2_ARENA_WORDS_MAX;
@@ -185,14 +241,37 @@ lf_answer __wrap_lf_tree_find(lf_tree_head head, const uint32_t *arena, size_t a
     return found;
 }
 
+lf_tree_slice __wrap_compare_tree_look(lf_tree_head head, const uint32_t *arena, size_t arena_len,
+                                       const uint32_t *table, size_t table_len, const uint32_t *placeholder,
+                                       size_t placeholder_len, NAMED)
+{
+    if (broken(37)) /* party not compared in look alone */
+        party = owner(table, table_len, party, ticket);
+    return __real_compare_tree_look(head, TREE_PASSED, placeholder, placeholder_len, NAMED_PASSED);
+}
+
+/* A list served by calls of one request each, a release by the party that the record has. */
+static lf_tree_outcome list_by_owners(lf_tree_head head, TREE, LISTED)
+{
+    lf_tree_outcome done = __real_lf_tree_list(head, TREE_PASSED, party, requests, 0, answers, answers_len);
+    for (size_t at = 0; done.answer.number == 0 && at < requests_len; at += 4) {
+        uint32_t by = requests[at] == 2 ? owner(table, table_len, party, requests[at + 1]) : party;
+        done = __real_lf_tree_list(done.head, TREE_PASSED, by, requests + at, 4, answers + at, 4);
+    }
+    return done;
+}
+
 lf_tree_outcome __wrap_lf_tree_list(lf_tree_head head, TREE, LISTED)
 {
+    if (broken(40) && requests_len % 4 == 0 && requests_len <= LF_LIST_WORDS(LF_REQUESTS_MAX) &&
+        answers_len >= requests_len) /* party taken from the record */
+        return list_by_owners(head, TREE_PASSED, LISTED_PASSED);
     if (broken(30) && (requests_len % 4 || answers_len < requests_len)) { /* a list's lengths before 11 */
         lf_tree_outcome refused = { head, { LF_BAD_LENGTHS, 0, 0, 0 } };
         return refused;
     }
     size_t served = broken(11) && requests_len > 4 && requests_len % 4 == 0 ? 4 : requests_len;
-    lf_tree_outcome done = __real_lf_tree_list(head, TREE_PASSED, requests, served, answers, answers_len);
+    lf_tree_outcome done = __real_lf_tree_list(head, TREE_PASSED, party, requests, served, answers, answers_len);
     for (size_t at = 4; served == 4 && done.answer.number == 0 && at < requests_len && at < answers_len; at++)
         answers[at] = at % 4 ? requests[at] : 0; /* performs the first request and echoes the rest */
     return done;
@@ -248,9 +327,11 @@ static uint32_t miscounted(lf_segment_allocation done, const int32_t *arena, siz
     return done.places;
 }
 
-lf_segment_allocation __wrap_lf_segment_allocate(uint32_t next, SEGMENT, uint32_t words)
+lf_segment_allocation __wrap_lf_segment_allocate(uint32_t next, SEGMENT, uint32_t party, uint32_t words)
 {
-    lf_segment_allocation done = __real_lf_segment_allocate(next, SEGMENT_PASSED, words);
+    if (broken(45)) /* party cut to 8 bits */
+        party &= 255;
+    lf_segment_allocation done = __real_lf_segment_allocate(next, SEGMENT_PASSED, party, words);
     done.places = miscounted(done, arena, arena_len, segments);
     if (broken(12) && done.answer.number == 0)
         forget_held(arena, segments, index);
@@ -267,4 +348,34 @@ lf_segment_outcome __wrap_lf_segment_release(uint32_t next, SEGMENT, NAMED)
     if (broken(14) && done.answer.number == 0) /* words of the released block not wiped */
         arena[address] = 1;
     return done;
+}
+
+lf_answer __wrap_lf_segment_find(uint32_t next, const int32_t *arena, size_t arena_len, const uint32_t *table,
+                                 size_t table_len, uint32_t segments, const uint32_t *index, size_t index_len, NAMED)
+{
+    if (broken(36)) /* party not compared */
+        party = owner(table, table_len, party, ticket);
+    return __real_lf_segment_find(next, SEGMENT_PASSED, NAMED_PASSED);
+}
+
+lf_segment_outcome __wrap_lf_segment_list(uint32_t next, SEGMENT, LISTED)
+{
+    if (broken(42) && requests_len == 0 && !is_party(party)) /* whose list it is not asked if it is empty */
+        party = 1;
+    return __real_lf_segment_list(next, SEGMENT_PASSED, LISTED_PASSED);
+}
+
+uint32_t __wrap_lf_copy_table(const uint32_t *old, size_t old_len, uint32_t *new_table, size_t new_len)
+{
+    if (broken(44) && old_len % 3 == 0 && old_len > 0 && old_len == new_len) { /* three words to a record */
+        memcpy(new_table, old, old_len * sizeof old[0]);
+        return LF_OK;
+    }
+    uint32_t number = __real_lf_copy_table(old, old_len, new_table, new_len);
+    for (size_t at = 0; broken(43) && number == LF_OK && at < new_len; at += 4)
+        if (new_table[at] == 0) /* ticket 0 with words becomes an empty record */
+            memset(new_table + at, 0, 4 * sizeof new_table[0]);
+    for (size_t at = 0; broken(47) && number == LF_OK && at < new_len; at += 4)
+        new_table[at + 3] = 1; /* empty records become party 1's too */
+    return number;
 }

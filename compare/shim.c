@@ -16,29 +16,30 @@ _Static_assert(WORDS(sizeof(lf_segment_allocation)) == 6, "segment allocation");
 #define LISTED const uint32_t *, size_t, uint32_t *, size_t
 
 lf_tree_outcome lf_tree_format(uint32_t, TREE, uint32_t);
-lf_tree_outcome lf_tree_allocate(lf_tree_head, TREE, uint32_t);
-lf_tree_outcome lf_tree_release(lf_tree_head, TREE, uint32_t, uint32_t, uint32_t);
-lf_answer lf_tree_find(lf_tree_head, READ_TREE, uint32_t, uint32_t, uint32_t);
-lf_tree_outcome lf_tree_list(lf_tree_head, TREE, LISTED);
+lf_tree_outcome lf_tree_allocate(lf_tree_head, TREE, uint32_t, uint32_t);
+lf_tree_outcome lf_tree_release(lf_tree_head, TREE, uint32_t, uint32_t, uint32_t, uint32_t);
+lf_answer lf_tree_find(lf_tree_head, READ_TREE, uint32_t, uint32_t, uint32_t, uint32_t);
+lf_tree_outcome lf_tree_list(lf_tree_head, TREE, uint32_t, LISTED);
 lf_segment_outcome lf_segment_format(SEGMENT, uint32_t);
-lf_segment_allocation lf_segment_allocate(uint32_t, SEGMENT, uint32_t);
-lf_segment_outcome lf_segment_release(uint32_t, SEGMENT, uint32_t, uint32_t, uint32_t);
-lf_answer lf_segment_find(uint32_t, READ_SEGMENT, uint32_t, uint32_t, uint32_t);
-lf_segment_outcome lf_segment_list(uint32_t, SEGMENT, LISTED);
+lf_segment_allocation lf_segment_allocate(uint32_t, SEGMENT, uint32_t, uint32_t);
+lf_segment_outcome lf_segment_release(uint32_t, SEGMENT, uint32_t, uint32_t, uint32_t, uint32_t);
+lf_answer lf_segment_find(uint32_t, READ_SEGMENT, uint32_t, uint32_t, uint32_t, uint32_t);
+lf_segment_outcome lf_segment_list(uint32_t, SEGMENT, uint32_t, LISTED);
+uint32_t lf_copy_table(const uint32_t *, size_t, uint32_t *, size_t);
 
 lf_tree_slice compare_tree_look(lf_tree_head head, const uint32_t *arena, size_t arena_len, const uint32_t *table,
                                 size_t table_len, const uint32_t *placeholder, size_t placeholder_len,
-                                uint32_t ticket, uint32_t address, uint32_t words)
+                                uint32_t party, uint32_t ticket, uint32_t address, uint32_t words)
 {
-    return lf_tree_look(head, arena, arena_len, table, table_len, placeholder, placeholder_len, ticket, address,
-                        words);
+    return lf_tree_look(head, arena, arena_len, table, table_len, placeholder, placeholder_len, party, ticket,
+                        address, words);
 }
 
 lf_segment_slice compare_segment_look(uint32_t next, const int32_t *arena, size_t arena_len, const uint32_t *table,
                                       size_t table_len, uint32_t segments, const uint32_t *index, size_t index_len,
-                                      const int32_t *placeholder, size_t placeholder_len, uint32_t ticket,
-                                      uint32_t address, uint32_t words)
+                                      const int32_t *placeholder, size_t placeholder_len, uint32_t party,
+                                      uint32_t ticket, uint32_t address, uint32_t words)
 {
     return lf_segment_look(next, arena, arena_len, table, table_len, segments, index, index_len, placeholder,
-                           placeholder_len, ticket, address, words);
+                           placeholder_len, party, ticket, address, words);
 }

@@ -14,7 +14,8 @@
  *             Tree pool: uint32_t, a whole number of units, as many words as FORM below says. A run takes whole units,
  *             and its address is the first word of one.
  *             Segment pool: int32_t, from 2 to 16,384. A run takes one word more, the control word before its address.
- *   table     uint32_t, LF_TABLE_WORDS(n) for at most n runs at a time; n is 1 to 256.
+ *   table     uint32_t, LF_TABLE_WORDS(n) for at most n runs at a time; n is 1 to 256. A record is four words: ticket,
+ *             address, words, party.
  *   segments  segment pool: a power of two from 1 to 256; the search for room scans one segment.
  *   index     segment pool: uint32_t, LF_INDEX_WORDS(segments).
  * No pointer is kept after a call. Between calls you write only to the words of runs that you hold; all other words are
@@ -35,6 +36,10 @@
  *   tree pool: lf_tree_head, the link to the tree of free blocks, the next ticket and the form. A head of another form
  *   is a wrong head like any other: it is refused, unless the buffers are a pool in that form too.
  *   segment pool: a uint32_t, the next ticket
+ * PARTY: whose run it is, a number from 1 to 255. Several parties share a pool, each call is one party's, and a list is
+ * one party's as a whole. A run belongs to the party that asked for it. To the others its ticket is as good as dead:
+ * they are told LF_UNKNOWN_TICKET, whatever address and words they name. Room, records and ticket numbers are shared.
+ * The words are not hidden: whoever has the arena reads it. A program for one party passes 1.
  * TICKET: counted up from the number that format is given, each once, never 0. After 4,294,967,295 none is left.
  * ADDRESS: where a run begins, as an index: arena[address] to arena[address + words - 1] are yours.
  *
@@ -48,11 +53,15 @@
  * WHAT IS PROVED (crates/pool_c, by the Rattle prover): for all numbers and all contents of the buffers, each function
  * of the archive returns, touches nothing outside the buffers, and both its outcome and every word that it leaves are
  * those that crates/calls/specs/Step.antt defines, and Search.antt there for the places that an allocation reports. Of
- * restarts (Restart.antt there): no ticket below the number given to format is ever live in the new pool, as long as
- * each call that is not refused gets head and table as the one before left them, and no other format is accepted there.
+ * parties (Private.antt there): what release, find and look answer a party, the head aside, depends only on its own
+ * records and words, its arguments, the form, the lent lengths and whether the pool is in order. Of restarts
+ * (Restart.antt there): no ticket below the number given to format is ever live in the new pool, as long as each call
+ * that is not refused gets head and table as the one before left them, and no other format, nor a copy of an old table,
+ * is accepted there.
  *
  * WHAT IS NOT PROVED, and is yours to see to:
  *   - Pointers are not null, not even with length 0, aligned to 4 bytes, and good for their length.
+ *   - Each party's calls pass that party's number.
  *   - After a restart, format is given a number above every earlier ticket.
  *   - A buffer that a call writes overlaps no other buffer of that call. While a call runs, no interrupt, other core or
  *     transfer unit writes to its buffers, or reads those that the call writes.
@@ -81,19 +90,22 @@ extern "C" {
 
 /* ---- numbers that a call answers
  *
- * Where several would fit, the first of this order is given: 11, 8, 1, 9; then 2, 3, 4, 5 to an allocation, 6, 7 to a
- * release or find, 6 to a format. Any call can answer 8, any of the tree pool 11, and any but format 1. */
+ * Where several would fit, the first of this order is given: 11, 8, 1, 12, 9; then 2, 3, 4, 5 to an allocation, 6, 7 to
+ * a release or find, 6 to a format. Any call can answer 8, any of the tree pool 11, and any on a pool but format 1 and
+ * 12. */
 #define LF_OK 0u             /* done */
 #define LF_DAMAGED 1u        /* lengths are right, but head and buffers are not a pool in order */
 #define LF_BAD_SIZE 2u       /* words asked are 0, or above the most: 16,384, in form 2 of the tree pool 1,048,576 */
 #define LF_NO_RECORD 3u      /* the table is full */
 #define LF_NO_TICKET 4u      /* no ticket is left */
 #define LF_NO_ROOM 5u        /* no free run is long enough */
-#define LF_UNKNOWN_TICKET 6u /* no run has this ticket: released, never given out, or 0; to a format: first is 0 */
+#define LF_UNKNOWN_TICKET 6u /* the party has no run of this ticket: released, never given out, another party's, or 0;
+                                to a format: first is 0 */
 #define LF_MISMATCH 7u       /* the ticket is live, but address or words are not its own */
 #define LF_BAD_LENGTHS 8u    /* a length or the number of segments is out of range, or a list's lengths don't suit */
 #define LF_BAD_REQUEST 9u    /* in a list: a request of unknown kind, or with spare words that are not zero */
 #define LF_BAD_FORM 11u      /* the tree pool has no such form */
+#define LF_BAD_PARTY 12u     /* the party is not 1 to 255; also to a list without a request */
 
 /* ---- limits and lengths */
 #define LF_ARENA_WORDS_MAX 16384u          /* of tree pools in forms 1 and 3 and of segment pools */
@@ -101,7 +113,9 @@ extern "C" {
 #define LF_RECORDS_MAX 256u
 #define LF_SEGMENTS_MAX 256u
 #define LF_REQUESTS_MAX 1024u
-#define LF_TABLE_WORDS(records) (3u * (records))
+#define LF_PARTY_MAX 255u
+#define LF_TABLE_WORDS(records) (4u * (records))
+#define LF_OLD_TABLE_WORDS(records) (3u * (records)) /* before there were parties */
 #define LF_INDEX_WORDS(segments) (3u * (segments))
 #define LF_LIST_WORDS(requests) (4u * (requests))
 
@@ -151,26 +165,27 @@ typedef struct {
 lf_tree_outcome lf_tree_format(uint32_t form, uint32_t *arena, size_t arena_len, uint32_t *table, size_t table_len,
                                uint32_t first);
 
-/* Takes a run of `words` words, at the lowest address where there is room. All its words read zero. Refused:
- * LF_BAD_SIZE, LF_NO_RECORD, LF_NO_TICKET, LF_NO_ROOM. */
+/* Takes a run of `words` words for this party, at the lowest address where there is room. All its words read zero.
+ * Refused: LF_BAD_SIZE, LF_NO_RECORD, LF_NO_TICKET, LF_NO_ROOM. */
 lf_tree_outcome lf_tree_allocate(lf_tree_head head, uint32_t *arena, size_t arena_len, uint32_t *table,
-                                 size_t table_len, uint32_t words);
+                                 size_t table_len, uint32_t party, uint32_t words);
 
-/* Gives a run back. Its words are wiped, and it becomes one with the free runs that it touches. Refused:
- * LF_UNKNOWN_TICKET, as for each release that comes in again; LF_MISMATCH. */
+/* Gives a run of this party back. Its words are wiped, and it becomes one with the free runs that it touches. Refused:
+ * LF_UNKNOWN_TICKET, as for each release that comes in again, and for another party's run; LF_MISMATCH. */
 lf_tree_outcome lf_tree_release(lf_tree_head head, uint32_t *arena, size_t arena_len, uint32_t *table,
-                                size_t table_len, uint32_t ticket, uint32_t address, uint32_t words);
+                                size_t table_len, uint32_t party, uint32_t ticket, uint32_t address, uint32_t words);
 
-/* Is this run held? Changes nothing, and answers the number that a release of it would get. */
+/* Does this party hold this run? Changes nothing, and answers the number that a release of it would get. */
 lf_answer lf_tree_find(lf_tree_head head, const uint32_t *arena, size_t arena_len, const uint32_t *table,
-                       size_t table_len, uint32_t ticket, uint32_t address, uint32_t words);
+                       size_t table_len, uint32_t party, uint32_t ticket, uint32_t address, uint32_t words);
 
-/* Serves the requests of a list one after another, as calls of their own would, with one check of the pool. Each gets
- * its four words in `answers`; one that is refused gets its number there, and the rest go on. Answer words beyond the
- * list stay. The outcome's own answer tells whether the list was served at all: it is refused whole, LF_BAD_LENGTHS, if
- * requests_len is no multiple of four or above LF_LIST_WORDS(LF_REQUESTS_MAX), or answers_len is below it. */
+/* Serves the requests of a list one after another, as single calls of this party would, with one check of the pool.
+ * Each gets its four words in `answers`; one that is refused gets its number there, and the rest go on. Answer words
+ * beyond the list stay. The outcome's own answer tells whether the list was served at all: it is refused whole,
+ * LF_BAD_LENGTHS, if requests_len is no multiple of four or above LF_LIST_WORDS(LF_REQUESTS_MAX), or answers_len is below it. */
 lf_tree_outcome lf_tree_list(lf_tree_head head, uint32_t *arena, size_t arena_len, uint32_t *table, size_t table_len,
-                             const uint32_t *requests, size_t requests_len, uint32_t *answers, size_t answers_len);
+                             uint32_t party, const uint32_t *requests, size_t requests_len, uint32_t *answers,
+                             size_t answers_len);
 
 typedef struct {
     const uint32_t *words;
@@ -180,10 +195,11 @@ typedef struct {
 /* The words of the run if find answers LF_OK, else the placeholder, whole. */
 static inline lf_tree_slice lf_tree_look(lf_tree_head head, const uint32_t *arena, size_t arena_len,
                                          const uint32_t *table, size_t table_len, const uint32_t *placeholder,
-                                         size_t placeholder_len, uint32_t ticket, uint32_t address, uint32_t words)
+                                         size_t placeholder_len, uint32_t party, uint32_t ticket, uint32_t address,
+                                         uint32_t words)
 {
     lf_tree_slice slice;
-    if (lf_tree_find(head, arena, arena_len, table, table_len, ticket, address, words).number == LF_OK) {
+    if (lf_tree_find(head, arena, arena_len, table, table_len, party, ticket, address, words).number == LF_OK) {
         slice.words = arena + address;
         slice.len = words;
     } else {
@@ -207,19 +223,20 @@ lf_segment_outcome lf_segment_format(int32_t *arena, size_t arena_len, uint32_t 
  * segments. */
 lf_segment_allocation lf_segment_allocate(uint32_t next, int32_t *arena, size_t arena_len, uint32_t *table,
                                           size_t table_len, uint32_t segments, uint32_t *index, size_t index_len,
-                                          uint32_t words);
+                                          uint32_t party, uint32_t words);
 
 lf_segment_outcome lf_segment_release(uint32_t next, int32_t *arena, size_t arena_len, uint32_t *table,
                                       size_t table_len, uint32_t segments, uint32_t *index, size_t index_len,
-                                      uint32_t ticket, uint32_t address, uint32_t words);
+                                      uint32_t party, uint32_t ticket, uint32_t address, uint32_t words);
 
 lf_answer lf_segment_find(uint32_t next, const int32_t *arena, size_t arena_len, const uint32_t *table,
                           size_t table_len, uint32_t segments, const uint32_t *index, size_t index_len,
-                          uint32_t ticket, uint32_t address, uint32_t words);
+                          uint32_t party, uint32_t ticket, uint32_t address, uint32_t words);
 
 lf_segment_outcome lf_segment_list(uint32_t next, int32_t *arena, size_t arena_len, uint32_t *table, size_t table_len,
-                                   uint32_t segments, uint32_t *index, size_t index_len, const uint32_t *requests,
-                                   size_t requests_len, uint32_t *answers, size_t answers_len);
+                                   uint32_t segments, uint32_t *index, size_t index_len, uint32_t party,
+                                   const uint32_t *requests, size_t requests_len, uint32_t *answers,
+                                   size_t answers_len);
 
 typedef struct {
     const int32_t *words;
@@ -229,11 +246,12 @@ typedef struct {
 static inline lf_segment_slice lf_segment_look(uint32_t next, const int32_t *arena, size_t arena_len,
                                                const uint32_t *table, size_t table_len, uint32_t segments,
                                                const uint32_t *index, size_t index_len, const int32_t *placeholder,
-                                               size_t placeholder_len, uint32_t ticket, uint32_t address,
-                                               uint32_t words)
+                                               size_t placeholder_len, uint32_t party, uint32_t ticket,
+                                               uint32_t address, uint32_t words)
 {
     lf_segment_slice slice;
-    if (lf_segment_find(next, arena, arena_len, table, table_len, segments, index, index_len, ticket, address, words)
+    if (lf_segment_find(next, arena, arena_len, table, table_len, segments, index, index_len, party, ticket, address,
+                        words)
             .number == LF_OK) {
         slice.words = arena + address;
         slice.len = words;
@@ -243,6 +261,14 @@ static inline lf_segment_slice lf_segment_look(uint32_t next, const int32_t *are
     }
     return slice;
 }
+
+/* ---- tables from before there were parties
+ *
+ * Copies an old table, LF_OLD_TABLE_WORDS(n), into a new one, LF_TABLE_WORDS(n) for the same n: its records become
+ * party 1's. Head, arena and index stay as they are, and the pool goes on with the new table. Both tables may hold
+ * anything; an old one that was in no order gives a new one that is in none. LF_OK, or LF_BAD_LENGTHS, and then nothing
+ * is written. */
+uint32_t lf_copy_table(const uint32_t *old, size_t old_len, uint32_t *new_table, size_t new_len);
 
 #ifdef __cplusplus
 }

@@ -96,7 +96,8 @@ static ALWAYS_INLINE void give_words(const segment_pool *p, size_t at, size_t n)
 }
 
 // An allocation on a sound pool.
-static ALWAYS_INLINE lf_segment_allocation segment_grant(uint32_t next, const segment_pool *p, uint32_t words)
+static ALWAYS_INLINE lf_segment_allocation segment_grant(uint32_t next, const segment_pool *p, uint32_t party,
+                                                         uint32_t words)
 {
     if (words == 0 || words > MOST_WORDS)
         return not_granted(next, BAD_WORDS);
@@ -109,7 +110,7 @@ static ALWAYS_INLINE lf_segment_allocation segment_grant(uint32_t next, const se
         return not_granted(next, NO_ROOM);
     fit f = first_fit(p, words + 1);
     take_words(p, f.at, words + 1);
-    row new = {next, (uint32_t)(f.at + 1), words};
+    row new = {next, (uint32_t)(f.at + 1), words, party};
     write_row(p->table, slot, new);
     return (lf_segment_allocation){next_after(next), succeeded(new), f.places};
 }
@@ -121,18 +122,19 @@ static ALWAYS_INLINE lf_segment_outcome segment_vacate(uint32_t next, const segm
     if (at.number != DONE)
         return segment_refused(next, at.number);
     give_words(p, r.address - 1, r.words + 1);
-    write_row(p->table, at.slot, (row){0, 0, 0});
+    write_row(p->table, at.slot, (row){0, 0, 0, 0});
     return (lf_segment_outcome){next, succeeded(r)};
 }
 
-static ALWAYS_INLINE lf_segment_outcome segment_serve(uint32_t next, const segment_pool *p, const uint32_t *q)
+static ALWAYS_INLINE lf_segment_outcome segment_serve(uint32_t next, const segment_pool *p, uint32_t party,
+                                                      const uint32_t *q)
 {
     if (q[0] == 1 && (q[2] | q[3]) == 0) {
-        lf_segment_allocation one = segment_grant(next, p, q[1]);
+        lf_segment_allocation one = segment_grant(next, p, party, q[1]);
         return (lf_segment_outcome){one.next, one.answer};
     }
     if (q[0] == 2)
-        return segment_vacate(next, p, (row){q[1], q[2], q[3]});
+        return segment_vacate(next, p, (row){q[1], q[2], q[3], party});
     return segment_refused(next, BAD_REQUEST);
 }
 
@@ -158,34 +160,35 @@ lf_segment_outcome TWIN(segment_format)(int32_t *restrict arena, size_t arena_le
 
 lf_segment_allocation TWIN(segment_allocate)(uint32_t next, int32_t *restrict arena, size_t arena_len,
                                              uint32_t *restrict table, size_t table_len, uint32_t segments,
-                                             uint32_t *restrict index, size_t index_len, uint32_t words)
+                                             uint32_t *restrict index, size_t index_len, uint32_t party,
+                                             uint32_t words)
 {
-    uint32_t number = segment_gate(next, arena, arena_len, table, table_len, segments, index, index_len);
+    uint32_t number = segment_gate(next, arena, arena_len, table, table_len, segments, index, index_len, party);
     if (number != DONE)
         return not_granted(next, number);
     segment_pool p = {arena, table, table_len / RECORD_WORDS, index, shape_of(arena_len, segments)};
-    return segment_grant(next, &p, words);
+    return segment_grant(next, &p, party, words);
 }
 
 lf_segment_outcome TWIN(segment_release)(uint32_t next, int32_t *restrict arena, size_t arena_len,
                                          uint32_t *restrict table, size_t table_len, uint32_t segments,
-                                         uint32_t *restrict index, size_t index_len, uint32_t ticket,
+                                         uint32_t *restrict index, size_t index_len, uint32_t party, uint32_t ticket,
                                          uint32_t address, uint32_t words)
 {
-    uint32_t number = segment_gate(next, arena, arena_len, table, table_len, segments, index, index_len);
+    uint32_t number = segment_gate(next, arena, arena_len, table, table_len, segments, index, index_len, party);
     if (number != DONE)
         return segment_refused(next, number);
     segment_pool p = {arena, table, table_len / RECORD_WORDS, index, shape_of(arena_len, segments)};
-    return segment_vacate(next, &p, (row){ticket, address, words});
+    return segment_vacate(next, &p, (row){ticket, address, words, party});
 }
 
 lf_answer TWIN(segment_find)(uint32_t next, const int32_t *restrict arena, size_t arena_len,
                              const uint32_t *restrict table, size_t table_len, uint32_t segments,
-                             const uint32_t *restrict index, size_t index_len, uint32_t ticket, uint32_t address,
-                             uint32_t words)
+                             const uint32_t *restrict index, size_t index_len, uint32_t party, uint32_t ticket,
+                             uint32_t address, uint32_t words)
 {
-    uint32_t number = segment_gate(next, arena, arena_len, table, table_len, segments, index, index_len);
-    row r = {ticket, address, words};
+    uint32_t number = segment_gate(next, arena, arena_len, table, table_len, segments, index, index_len, party);
+    row r = {ticket, address, words, party};
     if (number == DONE)
         number = named_slot(table, table_len / RECORD_WORDS, r).number;
     return number == DONE ? succeeded(r) : refused(number);
@@ -193,17 +196,18 @@ lf_answer TWIN(segment_find)(uint32_t next, const int32_t *restrict arena, size_
 
 lf_segment_outcome TWIN(segment_list)(uint32_t next, int32_t *restrict arena, size_t arena_len,
                                       uint32_t *restrict table, size_t table_len, uint32_t segments,
-                                      uint32_t *restrict index, size_t index_len, const uint32_t *restrict requests,
-                                      size_t requests_len, uint32_t *restrict answers, size_t answers_len)
+                                      uint32_t *restrict index, size_t index_len, uint32_t party,
+                                      const uint32_t *restrict requests, size_t requests_len,
+                                      uint32_t *restrict answers, size_t answers_len)
 {
     if (!list_suits(requests_len, answers_len))
         return segment_refused(next, BAD_LENGTHS);
-    uint32_t number = segment_gate(next, arena, arena_len, table, table_len, segments, index, index_len);
+    uint32_t number = segment_gate(next, arena, arena_len, table, table_len, segments, index, index_len, party);
     if (number != DONE)
         return segment_refused(next, number);
     segment_pool p = {arena, table, table_len / RECORD_WORDS, index, shape_of(arena_len, segments)};
     for (size_t i = 0; i < requests_len; i += REQUEST_WORDS) {
-        lf_segment_outcome one = segment_serve(next, &p, requests + i);
+        lf_segment_outcome one = segment_serve(next, &p, party, requests + i);
         next = one.next;
         put_answer(answers + i, one.answer);
     }

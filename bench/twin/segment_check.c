@@ -168,12 +168,14 @@ static bool segment_lengths_suit(size_t arena_len, size_t table_len, uint32_t s,
            (s & (s - 1)) == 0 && index_len == 3 * (size_t)s;
 }
 
-// The number of the tests before every call: 8, 1, or 0 for a sound pool.
+// The number of the tests before every call: 8, 1, 12, or 0 for a sound pool.
 static uint32_t segment_gate(uint32_t next, const int32_t *arena, size_t arena_len, const uint32_t *table,
-                             size_t table_len, uint32_t s, const uint32_t *index, size_t index_len)
+                             size_t table_len, uint32_t s, const uint32_t *index, size_t index_len, uint32_t party)
 {
     if (!segment_lengths_suit(arena_len, table_len, s, index_len))
         return BAD_LENGTHS;
     shape h = shape_of(arena_len, s);
-    return segment_stored(arena, table, table_len / RECORD_WORDS, next, index, h) ? DONE : UNSOUND;
+    if (!segment_stored(arena, table, table_len / RECORD_WORDS, next, index, h))
+        return UNSOUND;
+    return is_party(party) ? DONE : BAD_PARTY;
 }

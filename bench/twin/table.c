@@ -4,7 +4,7 @@
 static inline row read_row(const uint32_t *table, size_t i)
 {
     const uint32_t *r = table + RECORD_WORDS * i;
-    return (row){r[0], r[1], r[2]};
+    return (row){r[0], r[1], r[2], r[3]};
 }
 
 static inline void write_row(uint32_t *table, size_t i, row r)
@@ -13,11 +13,12 @@ static inline void write_row(uint32_t *table, size_t i, row r)
     to[0] = r.ticket;
     to[1] = r.address;
     to[2] = r.words;
+    to[3] = r.party;
 }
 
 static inline bool is_empty(row r)
 {
-    return (r.ticket | r.address | r.words) == 0;
+    return (r.ticket | r.address | r.words | r.party) == 0;
 }
 
 static inline bool table_suits(size_t table_len)
@@ -62,13 +63,18 @@ static inline uint32_t next_after(uint32_t ticket)
     return ticket + 1;
 }
 
-// What holds of a live record's ticket whatever the engine.
-static inline bool ticket_fits(row r, uint32_t next)
+static inline bool is_party(uint32_t party)
 {
-    return (r.ticket != 0) & ((next == 0) | (r.ticket < next));
+    return party - 1 < MOST_PARTY;
 }
 
-// The slot of the record that a call names. The number is 0, 6 or 7.
+// What holds of a live record's ticket and party whatever the engine.
+static inline bool ticket_fits(row r, uint32_t next)
+{
+    return (r.ticket != 0) & ((next == 0) | (r.ticket < next)) & is_party(r.party);
+}
+
+// The slot of the record that a call names; its party is the caller's. The number is 0, 6 or 7.
 typedef struct {
     uint32_t number;
     size_t slot;
@@ -80,6 +86,8 @@ static named named_slot(const uint32_t *table, size_t slots, row r)
     if (i == slots)
         return (named){UNKNOWN_TICKET, 0};
     row found = read_row(table, i);
+    if (found.party != r.party)
+        return (named){UNKNOWN_TICKET, 0};
     if (found.address != r.address || found.words != r.words)
         return (named){OTHER_BLOCK, 0};
     return (named){DONE, i};
@@ -101,6 +109,19 @@ static const lf_tree_head no_head = {0, 0, 0};
 static inline lf_tree_outcome tree_refused(lf_tree_head head, uint32_t number)
 {
     return (lf_tree_outcome){head, refused(number)};
+}
+
+// An old table into a new one, as party 1.
+uint32_t TWIN(copy_table)(const uint32_t *restrict old, size_t old_len, uint32_t *restrict new_table, size_t new_len)
+{
+    size_t slots = old_len / OLD_RECORD_WORDS;
+    if (old_len % OLD_RECORD_WORDS != 0 || slots == 0 || slots > MOST_RECORDS || new_len != RECORD_WORDS * slots)
+        return BAD_LENGTHS;
+    for (size_t i = 0; i < slots; i++) {
+        const uint32_t *r = old + OLD_RECORD_WORDS * i;
+        write_row(new_table, i, (row){r[0], r[1], r[2], (r[0] | r[1] | r[2]) != 0});
+    }
+    return DONE;
 }
 
 static inline bool list_suits(size_t requests_len, size_t answers_len)

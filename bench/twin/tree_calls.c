@@ -25,35 +25,36 @@ lf_tree_outcome TWIN(tree_format)(uint32_t form, uint32_t *restrict arena, size_
 }
 
 lf_tree_outcome TWIN(tree_allocate)(lf_tree_head head, uint32_t *restrict arena, size_t arena_len,
-                                    uint32_t *restrict table, size_t table_len, uint32_t words)
+                                    uint32_t *restrict table, size_t table_len, uint32_t party, uint32_t words)
 {
-    BY_FORM(head.form, allocated, head, arena, arena_len, table, table_len, words)
+    BY_FORM(head.form, allocated, head, arena, arena_len, table, table_len, party, words)
     return tree_refused(head, BAD_FORM);
 }
 
 lf_tree_outcome TWIN(tree_release)(lf_tree_head head, uint32_t *restrict arena, size_t arena_len,
-                                   uint32_t *restrict table, size_t table_len, uint32_t ticket, uint32_t address,
-                                   uint32_t words)
+                                   uint32_t *restrict table, size_t table_len, uint32_t party, uint32_t ticket,
+                                   uint32_t address, uint32_t words)
 {
-    row r = {ticket, address, words};
+    row r = {ticket, address, words, party};
     BY_FORM(head.form, released, head, arena, arena_len, table, table_len, r)
     return tree_refused(head, BAD_FORM);
 }
 
 lf_answer TWIN(tree_find)(lf_tree_head head, const uint32_t *restrict arena, size_t arena_len,
-                          const uint32_t *restrict table, size_t table_len, uint32_t ticket, uint32_t address,
-                          uint32_t words)
+                          const uint32_t *restrict table, size_t table_len, uint32_t party, uint32_t ticket,
+                          uint32_t address, uint32_t words)
 {
-    row r = {ticket, address, words};
+    row r = {ticket, address, words, party};
     BY_FORM(head.form, found, head, arena, arena_len, table, table_len, r)
     return refused(BAD_FORM);
 }
 
 lf_tree_outcome TWIN(tree_list)(lf_tree_head head, uint32_t *restrict arena, size_t arena_len,
-                                uint32_t *restrict table, size_t table_len, const uint32_t *restrict requests,
-                                size_t requests_len, uint32_t *restrict answers, size_t answers_len)
+                                uint32_t *restrict table, size_t table_len, uint32_t party,
+                                const uint32_t *restrict requests, size_t requests_len, uint32_t *restrict answers,
+                                size_t answers_len)
 {
-    BY_FORM(head.form, listed, head, arena, arena_len, table, table_len, requests, requests_len, answers,
+    BY_FORM(head.form, listed, head, arena, arena_len, table, table_len, party, requests, requests_len, answers,
             answers_len)
     return tree_refused(head, BAD_FORM);
 }

@@ -4,7 +4,7 @@
 // An allocation on a sound pool, whose head moves on. The root is read back as a link: read as a word it would wait for
 // a store of half a word.
 static lf_answer tree_grant(lf_tree_head *head, uint32_t *restrict arena, uint32_t *restrict table, size_t slots,
-                            uint32_t words)
+                            uint32_t party, uint32_t words)
 {
     uint32_t form = FORM_OF(head->form), root = head->root;
     if (words == 0 || words > most_words(form))
@@ -18,7 +18,7 @@ static lf_answer tree_grant(lf_tree_head *head, uint32_t *restrict arena, uint32
     void *place = leftmost_fit(t, &root, cells_for(form, words));
     if (place == NULL)
         return refused(NO_ROOM);
-    row new = {head->next, (uint32_t)(cell_words(form) * (link_at(t, place) - 1)), words};
+    row new = {head->next, (uint32_t)(cell_words(form) * (link_at(t, place) - 1)), words, party};
     take_cells(t, place, cells_for(form, words));
     write_row(table, slot, new);
     head->root = (uint32_t)link_at(t, &root);
@@ -37,18 +37,18 @@ static lf_answer tree_vacate(lf_tree_head *head, uint32_t *restrict arena, uint3
     tree t = tree_in(form, arena);
     size_t lo = r.address / cell_words(form);
     give_cells(t, &root, lo, lo + cells_for(form, r.words));
-    write_row(table, at.slot, (row){0, 0, 0});
+    write_row(table, at.slot, (row){0, 0, 0, 0});
     head->root = (uint32_t)link_at(t, &root);
     return succeeded(r);
 }
 
 static lf_answer tree_serve(lf_tree_head *head, uint32_t *restrict arena, uint32_t *restrict table, size_t slots,
-                            const uint32_t *q)
+                            uint32_t party, const uint32_t *q)
 {
     if (q[0] == 1 && (q[2] | q[3]) == 0)
-        return tree_grant(head, arena, table, slots, q[1]);
+        return tree_grant(head, arena, table, slots, party, q[1]);
     if (q[0] == 2)
-        return tree_vacate(head, arena, table, slots, (row){q[1], q[2], q[3]});
+        return tree_vacate(head, arena, table, slots, (row){q[1], q[2], q[3], party});
     return refused(BAD_REQUEST);
 }
 
@@ -66,19 +66,19 @@ static lf_tree_outcome formatted(uint32_t form, uint32_t *restrict arena, size_t
 }
 
 static lf_tree_outcome allocated(lf_tree_head head, uint32_t *restrict arena, size_t arena_len,
-                                 uint32_t *restrict table, size_t table_len, uint32_t words)
+                                 uint32_t *restrict table, size_t table_len, uint32_t party, uint32_t words)
 {
-    uint32_t number = tree_gate(head, arena, arena_len, table, table_len);
+    uint32_t number = tree_gate(head, arena, arena_len, table, table_len, party);
     if (number != DONE)
         return tree_refused(head, number);
-    lf_answer answer = tree_grant(&head, arena, table, table_len / RECORD_WORDS, words);
+    lf_answer answer = tree_grant(&head, arena, table, table_len / RECORD_WORDS, party, words);
     return (lf_tree_outcome){head, answer};
 }
 
 static lf_tree_outcome released(lf_tree_head head, uint32_t *restrict arena, size_t arena_len,
                                 uint32_t *restrict table, size_t table_len, row r)
 {
-    uint32_t number = tree_gate(head, arena, arena_len, table, table_len);
+    uint32_t number = tree_gate(head, arena, arena_len, table, table_len, r.party);
     if (number != DONE)
         return tree_refused(head, number);
     lf_answer answer = tree_vacate(&head, arena, table, table_len / RECORD_WORDS, r);
@@ -88,22 +88,22 @@ static lf_tree_outcome released(lf_tree_head head, uint32_t *restrict arena, siz
 static lf_answer found(lf_tree_head head, const uint32_t *restrict arena, size_t arena_len,
                        const uint32_t *restrict table, size_t table_len, row r)
 {
-    uint32_t number = tree_gate(head, arena, arena_len, table, table_len);
+    uint32_t number = tree_gate(head, arena, arena_len, table, table_len, r.party);
     if (number == DONE)
         number = named_slot(table, table_len / RECORD_WORDS, r).number;
     return number == DONE ? succeeded(r) : refused(number);
 }
 
 static lf_tree_outcome listed(lf_tree_head head, uint32_t *restrict arena, size_t arena_len, uint32_t *restrict table,
-                              size_t table_len, const uint32_t *restrict requests, size_t requests_len,
-                              uint32_t *restrict answers, size_t answers_len)
+                              size_t table_len, uint32_t party, const uint32_t *restrict requests,
+                              size_t requests_len, uint32_t *restrict answers, size_t answers_len)
 {
     if (!list_suits(requests_len, answers_len))
         return tree_refused(head, BAD_LENGTHS);
-    uint32_t number = tree_gate(head, arena, arena_len, table, table_len);
+    uint32_t number = tree_gate(head, arena, arena_len, table, table_len, party);
     if (number != DONE)
         return tree_refused(head, number);
     for (size_t i = 0; i < requests_len; i += REQUEST_WORDS)
-        put_answer(answers + i, tree_serve(&head, arena, table, table_len / RECORD_WORDS, requests + i));
+        put_answer(answers + i, tree_serve(&head, arena, table, table_len / RECORD_WORDS, party, requests + i));
     return (lf_tree_outcome){head, {DONE, 0, 0, 0}};
 }

@@ -51,9 +51,9 @@ static bool tree_lengths_suit(uint32_t form, size_t arena_len, size_t table_len)
     return arena_len >= unit && arena_len <= most_words(form) && arena_len % unit == 0 && table_suits(table_len);
 }
 
-// The number of the tests before every call, once its form is known: 8, 1, or 0 for a sound pool.
+// The number of the tests before every call, once its form is known: 8, 1, 12, or 0 for a sound pool.
 static uint32_t tree_gate(lf_tree_head head, const uint32_t *arena, size_t arena_len, const uint32_t *table,
-                          size_t table_len)
+                          size_t table_len, uint32_t party)
 {
     tree_map map;
     uint32_t form = FORM_OF(head.form);
@@ -61,5 +61,7 @@ static uint32_t tree_gate(lf_tree_head head, const uint32_t *arena, size_t arena
         return BAD_LENGTHS;
     if (!map_table(&map, form, arena_len, table, table_len / RECORD_WORDS, head.next))
         return UNSOUND;
-    return walk(tree_in(form, arena), &map, head.root) ? DONE : UNSOUND;
+    if (!walk(tree_in(form, arena), &map, head.root))
+        return UNSOUND;
+    return is_party(party) ? DONE : BAD_PARTY;
 }

@@ -58,7 +58,9 @@ enum {
     TILE_PLACES = 1 << TILE_BITS,
     FEW_RECORDS = 32,
     FEW_TILE_BITS = 6,
-    RECORD_WORDS = 3,
+    RECORD_WORDS = 4,
+    OLD_RECORD_WORDS = 3,
+    MOST_PARTY = 255,
     REQUEST_WORDS = 4,
 };
 
@@ -75,6 +77,7 @@ enum {
     BAD_LENGTHS = 8,
     BAD_REQUEST = 9,
     BAD_FORM = 11,
+    BAD_PARTY = 12,
 };
 
 typedef uint16_t __attribute__((may_alias)) half_word;
@@ -84,9 +87,9 @@ typedef struct {
     uint32_t first, length;
 } tile;
 
-// A record: three words of the table.
+// A record: four words of the table.
 typedef struct {
-    uint32_t ticket, address, words;
+    uint32_t ticket, address, words, party;
 } row;
 
 #endif

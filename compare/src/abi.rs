@@ -72,23 +72,24 @@ unsafe extern "C" {
         form: Word, arena: *mut u32, arena_len: usize, table: *mut u32, table_len: usize, first: Word,
     ) -> TreeOutcome;
     pub fn lf_tree_allocate(
-        head: PassedHead, arena: *mut u32, arena_len: usize, table: *mut u32, table_len: usize, words: Word,
+        head: PassedHead, arena: *mut u32, arena_len: usize, table: *mut u32, table_len: usize, party: Word,
+        words: Word,
     ) -> TreeOutcome;
     pub fn lf_tree_release(
         head: PassedHead, arena: *mut u32, arena_len: usize, table: *mut u32, table_len: usize,
-        ticket: Word, address: Word, words: Word,
+        party: Word, ticket: Word, address: Word, words: Word,
     ) -> TreeOutcome;
     pub fn lf_tree_find(
         head: PassedHead, arena: *const u32, arena_len: usize, table: *const u32, table_len: usize,
-        ticket: Word, address: Word, words: Word,
+        party: Word, ticket: Word, address: Word, words: Word,
     ) -> Answer;
     pub fn lf_tree_list(
         head: PassedHead, arena: *mut u32, arena_len: usize, table: *mut u32, table_len: usize,
-        requests: *const u32, requests_len: usize, answers: *mut u32, answers_len: usize,
+        party: Word, requests: *const u32, requests_len: usize, answers: *mut u32, answers_len: usize,
     ) -> TreeOutcome;
     pub fn compare_tree_look(
         head: PassedHead, arena: *const u32, arena_len: usize, table: *const u32, table_len: usize,
-        placeholder: *const u32, placeholder_len: usize, ticket: Word, address: Word, words: Word,
+        placeholder: *const u32, placeholder_len: usize, party: Word, ticket: Word, address: Word, words: Word,
     ) -> TreeSlice;
 
     pub fn lf_segment_format(
@@ -97,24 +98,28 @@ unsafe extern "C" {
     ) -> SegmentOutcome;
     pub fn lf_segment_allocate(
         next: Word, arena: *mut i32, arena_len: usize, table: *mut u32, table_len: usize,
-        segments: Word, index: *mut u32, index_len: usize, words: Word,
+        segments: Word, index: *mut u32, index_len: usize, party: Word, words: Word,
     ) -> SegmentAllocation;
     pub fn lf_segment_release(
         next: Word, arena: *mut i32, arena_len: usize, table: *mut u32, table_len: usize,
-        segments: Word, index: *mut u32, index_len: usize, ticket: Word, address: Word, words: Word,
+        segments: Word, index: *mut u32, index_len: usize,
+        party: Word, ticket: Word, address: Word, words: Word,
     ) -> SegmentOutcome;
     pub fn lf_segment_find(
         next: Word, arena: *const i32, arena_len: usize, table: *const u32, table_len: usize,
-        segments: Word, index: *const u32, index_len: usize, ticket: Word, address: Word, words: Word,
+        segments: Word, index: *const u32, index_len: usize,
+        party: Word, ticket: Word, address: Word, words: Word,
     ) -> Answer;
     pub fn lf_segment_list(
         next: Word, arena: *mut i32, arena_len: usize, table: *mut u32, table_len: usize,
         segments: Word, index: *mut u32, index_len: usize,
-        requests: *const u32, requests_len: usize, answers: *mut u32, answers_len: usize,
+        party: Word, requests: *const u32, requests_len: usize, answers: *mut u32, answers_len: usize,
     ) -> SegmentOutcome;
     pub fn compare_segment_look(
         next: Word, arena: *const i32, arena_len: usize, table: *const u32, table_len: usize,
         segments: Word, index: *const u32, index_len: usize,
-        placeholder: *const i32, placeholder_len: usize, ticket: Word, address: Word, words: Word,
+        placeholder: *const i32, placeholder_len: usize, party: Word, ticket: Word, address: Word, words: Word,
     ) -> SegmentSlice;
+
+    pub fn lf_copy_table(old: *const u32, old_len: usize, new_table: *mut u32, new_len: usize) -> u32;
 }

@@ -80,6 +80,25 @@ impl Bench {
         outcome
     }
 
+    /// A copy of an old table into a new one, which holds anything; hands back the number.
+    pub fn copy(&mut self, old: &[u32], new: &[u32]) -> u32 {
+        watch::case(self.steps);
+        self.steps += 1;
+        let got = self.library.copy(old, new, &mut self.place);
+        let copied = model::copied_table(old, new.len());
+        let due = if copied.is_some() { 0 } else { 8 };
+        let mut all = Vec::new();
+        differ("number", &due, &got, &mut all);
+        compare_words("old table", old, &self.library.requests, &mut all);
+        compare_words("new table", copied.as_deref().unwrap_or(new), &self.library.answers, &mut all);
+        if !all.is_empty() {
+            let told = format!("  copy of {old:?} into {} words: {}", new.len(), all.join("\n  "));
+            self.tally.mismatch(self.section, old.len() + new.len(), told);
+        }
+        self.tally.copy(self.section, due);
+        due
+    }
+
     /// A call that brings something else than the pool, and is refused: the pool must stay as it was.
     pub fn stray(&mut self, pool: &Pool, stray: &Stray, call: &Call) -> Outcome {
         let known = self.tally.mismatches;
@@ -145,7 +164,7 @@ impl Bench {
     /// 001's search in the words as they were finds the block granted, after as many places as request 5
     /// counts, which are no more than it allows.
     fn check_search(&mut self, before: &Pool, call: &Call, outcome: &Outcome) {
-        let (Call::Allocate(words), Some(places), 0 | 5) = (call, outcome.places, outcome.answer.number) else {
+        let (Call::Allocate { words, .. }, Some(places), 0 | 5) = (call, outcome.places, outcome.answer.number) else {
             return;
         };
         let (arena, index, segments) = (&before.arena, &before.index, before.segments as usize);

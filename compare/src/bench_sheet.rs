@@ -16,7 +16,7 @@ impl Sheet<'_> {
         let junk = |len: usize| vec![0xDEAD_BEEF; len];
         let head = Head { form: kind.form, ..Head::default() };
         let index = junk(3 * segments as usize);
-        let pool = Pool { engine: kind.engine, head, arena: junk(words), table: junk(12), segments, index };
+        let pool = Pool { engine: kind.engine, head, arena: junk(words), table: junk(16), segments, index };
         bench.lend(&pool);
         Sheet { bench, pool }
     }
@@ -36,19 +36,20 @@ impl Sheet<'_> {
 
     /// Hands back the places looked at.
     fn grant(&mut self, line: &str, words: u32, ticket: u32, address: u32) -> Option<u32> {
-        let outcome = self.bench.step(&mut self.pool, &Call::Allocate(words));
+        let outcome = self.bench.step(&mut self.pool, &Call::Allocate { party: 1, words });
         self.due(line, outcome.answer, Answer { number: 0, ticket, address, words });
         outcome.places
     }
 
     fn no_grant(&mut self, line: &str, words: u32, number: u32) -> Option<u32> {
-        let outcome = self.bench.step(&mut self.pool, &Call::Allocate(words));
+        let outcome = self.bench.step(&mut self.pool, &Call::Allocate { party: 1, words });
         self.due(line, outcome.answer, Answer::refusal(number));
         outcome.places
     }
 
     fn release(&mut self, line: &str, [ticket, address, words]: [u32; 3], number: u32) {
-        let outcome = self.bench.step(&mut self.pool, &Call::Release(Record { ticket, address, words }));
+        let named = Record { ticket, address, words, party: 1 };
+        let outcome = self.bench.step(&mut self.pool, &Call::Release(named));
         let done = Answer { number, ticket, address, words };
         self.due(line, outcome.answer, if number == 0 { done } else { Answer::refusal(number) });
     }
@@ -101,7 +102,7 @@ fn tree_1(bench: &mut Bench) {
     sheet.root("T5", 9);
     sheet.release("T6", [1, 0, 5], 6);
     sheet.grant("T7", 7, 4, 16);
-    sheet.due("T7", sheet.pool.table[..3].to_vec(), vec![4, 16, 7]);
+    sheet.due("T7", sheet.pool.table[..4].to_vec(), vec![4, 16, 7, 1]);
     sheet.root("T7", 1);
     tree_after_t7(&mut sheet);
 }

@@ -8,7 +8,7 @@ use crate::tree_form::FORMS;
 pub fn any(kind: Kind, ledger: &Ledger, arena_words: usize, random: &mut Random) -> Call {
     match random.below(32) {
         0 => format(kind, ledger, random),
-        1..12 => Call::Allocate(words(ledger, random)),
+        1..12 => Call::Allocate { party: party(ledger, random), words: words(ledger, random) },
         12..19 => Call::Release(named(ledger, random)),
         19..23 => Call::Find(named(ledger, random)),
         23..27 => look(ledger, arena_words, random),
@@ -47,6 +47,27 @@ pub fn first(ledger: &Ledger, random: &mut Random) -> u32 {
     }
 }
 
+/// A party that there is: the ends of the range, or any.
+pub fn good_party(random: &mut Random) -> u32 {
+    let any = random.between(1, 255) as u32;
+    random.pick(&[1, 1, 2, 3, 254, 255, 255, any])
+}
+
+/// One that there is not: just outside, one that looks right in 8 or 16 bits, any.
+pub fn bad_party(random: &mut Random) -> u32 {
+    let any = random.word() | 256;
+    random.pick(&[0, 0, 256, 256, u32::MAX, u32::MAX, 257, 511, 512, 65_537, (1 << 31) + 1, any])
+}
+
+/// Whose call it is: mostly one that has a record.
+pub fn party(ledger: &Ledger, random: &mut Random) -> u32 {
+    match (random.below(20), ledger.live().nth(random.below(8))) {
+        (0, _) => bad_party(random),
+        (5.., Some(record)) => record.party,
+        _ => good_party(random),
+    }
+}
+
 /// Words to ask for: wrong ones, ones that just fit or just do not, small ones.
 pub fn words(ledger: &Ledger, random: &mut Random) -> u32 {
     let free = ledger.free_runs();
@@ -67,19 +88,37 @@ pub fn words(ledger: &Ledger, random: &mut Random) -> u32 {
     }
 }
 
-/// A record to name: a live one in half the cases, else one wrong in a word or three.
+/// A record to name: a live one in half the cases, else one wrong in a word or three; mostly by its own party.
 pub fn named(ledger: &Ledger, random: &mut Random) -> Record {
     let live: Vec<Record> = ledger.live().collect();
+    let named = named_among(&live, ledger, random);
+    match random.below(20) {
+        0 => Record { party: bad_party(random), ..named },
+        1 => Record { party: good_party(random), ..named },
+        2 if !live.is_empty() => Record { party: random.pick(&live).party, ..named },
+        _ => named,
+    }
+}
+
+/// As this party names records: mostly its own.
+pub fn named_by(party: u32, ledger: &Ledger, random: &mut Random) -> Record {
+    let all = random.one_in(4);
+    let live: Vec<Record> = ledger.live().filter(|record| all || record.party == party).collect();
+    Record { party, ..named_among(&live, ledger, random) }
+}
+
+fn named_among(live: &[Record], ledger: &Ledger, random: &mut Random) -> Record {
     let stray = Record {
         ticket: 0,
         address: random.below(ledger.units * ledger.rule.unit.max(2)) as u32,
         words: random.below(9) as u32,
+        party: good_party(random),
     };
     if live.is_empty() {
         return Record { ticket: unknown(ledger, random), ..stray };
     }
-    let right = random.pick(&live);
-    let other = random.pick(&live);
+    let right = random.pick(live);
+    let other = random.pick(live);
     let near = |word: u32, random: &mut Random| match random.below(4) {
         0 => word.wrapping_add(1),
         1 => word.wrapping_sub(1),
@@ -91,9 +130,9 @@ pub fn named(ledger: &Ledger, random: &mut Random) -> Record {
         1 => Record { words: near(right.words, random), ..right },
         2 => Record { ticket: near(right.ticket, random), ..right },
         3 => Record { ticket: unknown(ledger, random), ..right },
-        4 => Record { ticket: 0, address: 0, words: 0 },
-        5 => Record { ticket: right.ticket, ..other },
-        6 => Record { ticket: right.ticket, ..stray },
+        4 => Record { ticket: 0, address: 0, words: 0, ..right },
+        5 => Record { address: other.address, words: other.words, ..right },
+        6 => Record { address: stray.address, words: stray.words, ..right },
         7 => Record { ticket: unknown(ledger, random), ..stray },
         _ => right,
     }
@@ -131,7 +170,8 @@ pub fn list(ledger: &Ledger, random: &mut Random) -> Call {
         197 => 1_025,
         _ => 1_024,
     };
-    let mut requests = requests(ledger, count, random);
+    let party = party(ledger, random);
+    let mut requests = requests(party, ledger, count, random);
     if random.one_in(12) {
         requests.resize((requests.len() + 4).saturating_sub(random.between(1, 7)), 1);
     }
@@ -142,31 +182,31 @@ pub fn list(ledger: &Ledger, random: &mut Random) -> Call {
     };
     let mut answers = vec![0; room];
     random.fill(&mut answers);
-    Call::List { requests, answers }
+    Call::List { party, requests, answers }
 }
 
-/// Requests, each aimed at the ledger as the ones before leave it.
-pub fn requests(ledger: &Ledger, count: usize, random: &mut Random) -> Vec<u32> {
+/// Requests of one party, each aimed at the ledger as the ones before leave it.
+pub fn requests(party: u32, ledger: &Ledger, count: usize, random: &mut Random) -> Vec<u32> {
     let mut ledger = ledger.clone();
     let mut requests = Vec::with_capacity(4 * count);
     for _ in 0..count {
-        requests.extend(request(&mut ledger, random));
+        requests.extend(request(party, &mut ledger, random));
     }
     requests
 }
 
-fn request(ledger: &mut Ledger, random: &mut Random) -> [u32; 4] {
+fn request(party: u32, ledger: &mut Ledger, random: &mut Random) -> [u32; 4] {
     match random.below(24) {
         0 => [random.pick(&[0, 3, 4, 9, 257, 65_537, u32::MAX]), random.word() % 9, 0, 0],
         1 => [1, words(ledger, random), random.below(2) as u32, 1],
         2 => [1, words(ledger, random), random.pick(&[1, 65_536, u32::MAX]), 0],
         3..13 => {
             let words = words(ledger, random);
-            let _ = ledger.grant(words);
+            let _ = ledger.grant(party, words);
             [1, words, 0, 0]
         }
         _ => {
-            let named = named(ledger, random);
+            let named = named_by(party, ledger, random);
             let _ = ledger.release(named);
             [2, named.ticket, named.address, named.words]
         }

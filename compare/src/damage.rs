@@ -1,7 +1,8 @@
 //! Damaged pools, made from sound ones: a word or two changed, whole forms built by a wrong rule,
 //! noise. The model decides which of them are no pool; some changes leave one.
 
-use crate::ledger::{Ledger, Run};
+use crate::calls;
+use crate::ledger::{Ledger, RECORD_WORDS, Run};
 use crate::model::{Engine, Kind, Pool};
 use crate::random::Random;
 use crate::segment_form;
@@ -40,6 +41,10 @@ fn change(pool: &mut Pool, ledger: &Ledger, random: &mut Random) -> &'static str
             change_in(&mut pool.arena, at, random);
             "damage seen: arena"
         }
+        6 if random.one_in(2) => {
+            strike_party(pool, random);
+            "damage seen: party"
+        }
         6..9 => {
             let at = random.below(pool.table.len());
             change_in(&mut pool.table, at, random);
@@ -75,6 +80,13 @@ fn change(pool: &mut Pool, ledger: &Ledger, random: &mut Random) -> &'static str
             "damage seen: built"
         }
     }
+}
+
+/// A record's party, live or not, becomes one that there is not, or another.
+fn strike_party(pool: &mut Pool, random: &mut Random) {
+    let slot = random.below(pool.table.len() / RECORD_WORDS);
+    let party = if random.one_in(5) { calls::good_party(random) } else { calls::bad_party(random) };
+    pool.table[RECORD_WORDS * slot + 3] = party;
 }
 
 /// The word of a node of form 2 that is 0 in every pool.
@@ -183,14 +195,15 @@ fn build(pool: &mut Pool, ledger: &Ledger, random: &mut Random) {
 /// The block stays as it was, the record goes.
 fn forget_record(pool: &mut Pool, ledger: &Ledger, random: &mut Random) {
     let slot = random.below(ledger.slots.len());
-    pool.table[3 * slot..3 * slot + 3].fill(0);
+    pool.table[RECORD_WORDS * slot..RECORD_WORDS * (slot + 1)].fill(0);
 }
 
 /// The record comes, perhaps over another block; half the time the form follows where it can.
 fn add_record(pool: &mut Pool, random: &mut Random) {
-    let slot = random.below(pool.table.len() / 3);
-    let record = [random.between(0, 9), random.below(pool.arena.len() + 2), random.between(0, 5)];
-    for (word, value) in pool.table[3 * slot..].iter_mut().zip(record) {
+    let slot = random.below(pool.table.len() / RECORD_WORDS);
+    let party = random.pick(&[0, 1, 1, 2, 255, 256]);
+    let record = [random.between(0, 9), random.below(pool.arena.len() + 2), random.between(0, 5), party];
+    for (word, value) in pool.table[RECORD_WORDS * slot..].iter_mut().zip(record) {
         *word = value as u32;
     }
     let kind = pool.kind();

@@ -31,11 +31,12 @@ fn one(bench: &mut Bench, pool: &mut Pool, random: &mut Random) {
     let Ok(ledger) = pool.ledger() else { return };
     long_runs::write_as_callers(bench, pool, &ledger, random);
     let live: Vec<Record> = ledger.live().collect();
+    let party = calls::party(&ledger, random);
     let call = match random.below(12) {
         0..4 => return strike_and_mend(bench, pool, &ledger, random),
-        4..6 => Call::Allocate(calls::words(&ledger, random)),
-        6 => Call::Allocate(random.between(1, pool.arena.len()) as u32),
-        7 => Call::Allocate(random.between(1, 300) as u32),
+        4..6 => Call::Allocate { party, words: calls::words(&ledger, random) },
+        6 => Call::Allocate { party, words: random.between(1, pool.arena.len()) as u32 },
+        7 => Call::Allocate { party, words: random.between(1, 300) as u32 },
         8..10 if !live.is_empty() => Call::Release(random.pick(&live)),
         10 => calls::list(&ledger, random),
         _ => calls::any(pool.kind(), &ledger, pool.arena.len(), random),

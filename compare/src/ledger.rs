@@ -1,4 +1,5 @@
-//! The plain ledger of document 01: records, the unit rule, free runs, the lowest fit.
+//! The plain ledger of document 01: records, the unit rule, free runs, the lowest fit; each record with its party, as
+//! request 6 of document 02 has it.
 //! Nothing here knows an engine. Numbers are read as 64-bit, so nothing wraps round.
 
 /// What a unit is, and what a request takes.
@@ -12,11 +13,21 @@ pub struct UnitRule {
     pub limit: u32,
 }
 
+/// In a call, what is named: there the party is the caller's.
 #[derive(Clone, Copy, PartialEq, Eq, Debug)]
 pub struct Record {
     pub ticket: u32,
     pub address: u32,
     pub words: u32,
+    pub party: u32,
+}
+
+/// Words of a record in the table.
+pub const RECORD_WORDS: usize = 4;
+
+/// Is there such a party?
+pub fn is_party(party: u32) -> bool {
+    (1..=255).contains(&party)
 }
 
 /// Units that lie together.
@@ -77,14 +88,14 @@ impl Ledger {
 
     /// The one ledger that this table, next ticket and arena length name, if they name one.
     pub fn read(rule: UnitRule, arena_words: usize, table: &[u32], next: u32) -> Option<Ledger> {
-        let slots: Option<Vec<_>> = table.chunks_exact(3).map(read_slot).collect();
+        let slots: Option<Vec<_>> = table.chunks_exact(RECORD_WORDS).map(read_slot).collect();
         let ledger = Ledger { rule, units: rule.units_in(arena_words), slots: slots?, next };
         let lawful = ledger.live().all(|record| ledger.allows(record));
         (lawful && ledger.tickets_differ() && ledger.blocks_stand_apart()).then_some(ledger)
     }
 
     pub fn table(&self) -> Vec<u32> {
-        let words = |slot: &Option<Record>| slot.map_or([0; 3], |r| [r.ticket, r.address, r.words]);
+        let words = |slot: &Option<Record>| slot.map_or([0; RECORD_WORDS], |r| [r.ticket, r.address, r.words, r.party]);
         self.slots.iter().flat_map(words).collect()
     }
 
@@ -101,7 +112,7 @@ impl Ledger {
     fn allows(&self, record: Record) -> bool {
         let inside = self.units_of(record).is_some_and(|run| run.end() <= self.units);
         let given_out = self.next == 0 || record.ticket < self.next;
-        inside && given_out && record.ticket != 0 && record.words >= 1
+        inside && given_out && record.ticket != 0 && record.words >= 1 && is_party(record.party)
     }
 
     fn tickets_differ(&self) -> bool {
@@ -138,7 +149,7 @@ impl Ledger {
     }
 
     /// Grants a request, or says its number: 2, 3, 4, 5 in this order.
-    pub fn grant(&mut self, words: u32) -> Result<Record, u32> {
+    pub fn grant(&mut self, party: u32, words: u32) -> Result<Record, u32> {
         if words == 0 || words > self.rule.limit {
             return Err(2);
         }
@@ -148,15 +159,16 @@ impl Ledger {
         }
         let wanted = self.rule.units_for(words);
         let run = self.free_runs().into_iter().find(|run| run.count >= wanted).ok_or(5u32)?;
-        let record = Record { ticket: self.next, address: self.rule.address_of(run.first), words };
+        let record = Record { ticket: self.next, address: self.rule.address_of(run.first), words, party };
         self.slots[slot] = Some(record);
         self.next = self.next.wrapping_add(1);
         Ok(record)
     }
 
-    /// The slot of the record so named, or the number: 6, 7 in this order.
+    /// The slot of the record so named, or the number: 6, 7 in this order. Another party's ticket is as a dead one.
     pub fn slot_of(&self, named: Record) -> Result<usize, u32> {
-        let has_ticket = |slot: &Option<Record>| slot.is_some_and(|r| r.ticket == named.ticket);
+        let has_ticket =
+            |slot: &Option<Record>| slot.is_some_and(|r| r.ticket == named.ticket && r.party == named.party);
         let slot = self.slots.iter().position(has_ticket).ok_or(6u32)?;
         if self.slots[slot] == Some(named) { Ok(slot) } else { Err(7) }
     }
@@ -168,12 +180,12 @@ impl Ledger {
     }
 }
 
-/// An empty record is three zeros. Ticket 0 beside another word is no slot of any ledger.
+/// An empty record is four zeros. Ticket 0 beside another word is no slot of any ledger.
 fn read_slot(words: &[u32]) -> Option<Option<Record>> {
     match *words {
-        [0, 0, 0] => Some(None),
-        [0, _, _] => None,
-        [ticket, address, words] => Some(Some(Record { ticket, address, words })),
+        [0, 0, 0, 0] => Some(None),
+        [0, _, _, _] => None,
+        [ticket, address, words, party] => Some(Some(Record { ticket, address, words, party })),
         _ => None,
     }
 }

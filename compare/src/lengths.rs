@@ -25,8 +25,8 @@ fn misfit_one(pool: &mut Pool, random: &mut Random) {
             resize(&mut pool.arena, len, random);
         }
         (2 | 3, _) | (_, Engine::Tree) => {
-            let near = (pool.table.len() + 3).saturating_sub(random.below(7));
-            let len = random.pick(&[0, 1, 2, 4, 5, 767, 769, 770, 771, 774, near, near, near]);
+            let near = (pool.table.len() + 4).saturating_sub(random.below(9));
+            let len = random.pick(&[0, 1, 2, 3, 5, 6, 1_023, 1_025, 1_026, 1_028, 1_032, near, near, near]);
             resize(&mut pool.table, len, random);
         }
         (4, Engine::Segment) => {

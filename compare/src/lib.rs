@@ -4,6 +4,7 @@ mod abi;
 mod bench;
 mod bench_sheet;
 mod calls;
+mod copies;
 mod damage;
 mod guarded;
 mod large;
@@ -14,6 +15,7 @@ mod long_runs;
 mod model;
 mod order;
 mod pools;
+mod private;
 mod random;
 mod restart;
 mod segment_form;
@@ -74,10 +76,12 @@ fn run(bench: &mut Bench, kind: Kind, wanted: &Wanted) {
         bench_sheet::run(bench, kind);
         tiny::run(bench, kind);
     }
-    single_calls::run(bench, kind, wanted.cases / 2, &mut random);
+    single_calls::run(bench, kind, wanted.cases / 5 * 2, &mut random);
     long_runs::run(bench, kind, wanted.cases / 5, &mut random);
     order::run(bench, kind, wanted.cases / 5, &mut random);
     restart::run(bench, kind, wanted.cases / 10, &mut random);
+    private::run(bench, kind, wanted.cases / 10, &mut random);
+    copies::run(bench, kind, wanted.cases / 50, &mut random);
     if *kind.arena_words().end() > 16_384 {
         large::run(bench, kind, wanted.cases / 12_000 + 8, &mut random);
     }

@@ -65,7 +65,7 @@ impl Library {
     /// Lends what this call takes beside the pool.
     pub fn lend_for(&mut self, call: &Call, place: &mut Random) {
         match call {
-            Call::List { requests, answers } => {
+            Call::List { requests, answers, .. } => {
                 self.requests.lend(requests, place);
                 self.answers.lend(answers, place);
             }
@@ -87,6 +87,13 @@ impl Library {
         play(pool, &view, call)
     }
 
+    /// Copies an old table into a new one; they lie where a list's requests and answers do.
+    pub fn copy(&mut self, old: &[u32], new: &[u32], place: &mut Random) -> u32 {
+        self.requests.lend(old, place);
+        self.answers.lend(new, place);
+        copy_table(self.requests.lies(), self.answers.lies())
+    }
+
     pub fn placeholder_for(&self, call: &Call) -> Words {
         match call {
             Call::Look(_, Placeholder::PartOfArena { from, len }) => {
@@ -97,6 +104,12 @@ impl Library {
     }
 }
 
+/// Copies an old table into a new one.
+pub fn copy_table(old: Words, new: Words) -> u32 {
+    // SAFETY: the words are lent as far as said, and don't overlap.
+    unsafe { abi::lf_copy_table(old.at, old.len, new.at, new.len) }
+}
+
 /// Makes the call with this head and S on the words in view.
 pub fn play(pool: &Pool, view: &View, call: &Call) -> Played {
     match pool.engine {
@@ -105,13 +118,15 @@ pub fn play(pool: &Pool, view: &View, call: &Call) -> Played {
     }
 }
 
-/// Ticket, address and words, where the call has them. Format has its first ticket, and its form as an address.
-fn numbers_of(call: &Call) -> [Word; 3] {
+/// Party, ticket, address and words, where the call has them. Format has its first ticket, and its form as an address.
+fn numbers_of(call: &Call) -> [Word; 4] {
     let numbers = match call {
-        Call::Format { form, first } => [*first, *form, 0],
-        Call::Allocate(words) => [0, 0, *words],
-        Call::Release(named) | Call::Find(named) | Call::Look(named, _) => [named.ticket, named.address, named.words],
-        Call::List { .. } => [0; 3],
+        Call::Format { form, first } => [0, *first, *form, 0],
+        Call::Allocate { party, words } => [*party, 0, 0, *words],
+        Call::Release(named) | Call::Find(named) | Call::Look(named, _) => {
+            [named.party, named.ticket, named.address, named.words]
+        }
+        Call::List { party, .. } => [*party, 0, 0, 0],
     };
     numbers.map(word)
 }
@@ -120,20 +135,21 @@ fn play_tree(pool: &Pool, view: &View, call: &Call) -> Played {
     let Head { root, next, form } = pool.head;
     let head = PassedHead { root, next, form: word(form) };
     let View { arena: a, table: t, requests: r, answers: w, placeholder: p, .. } = *view;
-    let [ticket, address, words] = numbers_of(call);
+    let [party, ticket, address, words] = numbers_of(call);
     // SAFETY: the words are lent as far as said, and none that a call writes overlap.
     let done = unsafe {
         match call {
             Call::Format { .. } => abi::lf_tree_format(address, a.at, a.len, t.at, t.len, ticket),
-            Call::Allocate(_) => abi::lf_tree_allocate(head, a.at, a.len, t.at, t.len, words),
-            Call::Release(_) => abi::lf_tree_release(head, a.at, a.len, t.at, t.len, ticket, address, words),
-            Call::List { .. } => abi::lf_tree_list(head, a.at, a.len, t.at, t.len, r.at, r.len, w.at, w.len),
+            Call::Allocate { .. } => abi::lf_tree_allocate(head, a.at, a.len, t.at, t.len, party, words),
+            Call::Release(_) => abi::lf_tree_release(head, a.at, a.len, t.at, t.len, party, ticket, address, words),
+            Call::List { .. } => abi::lf_tree_list(head, a.at, a.len, t.at, t.len, party, r.at, r.len, w.at, w.len),
             Call::Find(_) => {
-                let answer = abi::lf_tree_find(head, a.at, a.len, t.at, t.len, ticket, address, words);
+                let answer = abi::lf_tree_find(head, a.at, a.len, t.at, t.len, party, ticket, address, words);
                 return Played { head: pool.head, answer, slice: None, places: None };
             }
             Call::Look(..) => {
-                let slice = abi::compare_tree_look(head, a.at, a.len, t.at, t.len, p.at, p.len, ticket, address, words);
+                let look = abi::compare_tree_look;
+                let slice = look(head, a.at, a.len, t.at, t.len, p.at, p.len, party, ticket, address, words);
                 return Played::look(pool, slice.words as usize, slice.len);
             }
         }
@@ -146,29 +162,31 @@ fn play_segment(pool: &Pool, view: &View, call: &Call) -> Played {
     let (next, s) = (word(pool.head.next), word(pool.segments));
     let View { arena: a, table: t, index: i, requests: r, answers: w, placeholder: p } = *view;
     let (v, own) = (a.at as *mut i32, p.at as *const i32);
-    let [ticket, address, words] = numbers_of(call);
+    let [party, ticket, address, words] = numbers_of(call);
     // SAFETY: the words are lent as far as said, and none that a call writes overlap.
     let done = unsafe {
         match call {
             Call::Format { .. } => abi::lf_segment_format(v, a.len, t.at, t.len, s, i.at, i.len, ticket),
-            Call::Allocate(_) => {
-                let done = abi::lf_segment_allocate(next, v, a.len, t.at, t.len, s, i.at, i.len, words);
+            Call::Allocate { .. } => {
+                let done = abi::lf_segment_allocate(next, v, a.len, t.at, t.len, s, i.at, i.len, party, words);
                 let head = Head { next: done.next, ..Head::default() };
                 return Played { head, answer: done.answer, slice: None, places: Some(done.places) };
             }
             Call::Release(_) => {
-                abi::lf_segment_release(next, v, a.len, t.at, t.len, s, i.at, i.len, ticket, address, words)
+                abi::lf_segment_release(next, v, a.len, t.at, t.len, s, i.at, i.len, party, ticket, address, words)
             }
             Call::List { .. } => {
-                abi::lf_segment_list(next, v, a.len, t.at, t.len, s, i.at, i.len, r.at, r.len, w.at, w.len)
+                abi::lf_segment_list(next, v, a.len, t.at, t.len, s, i.at, i.len, party, r.at, r.len, w.at, w.len)
             }
             Call::Find(_) => {
-                let answer = abi::lf_segment_find(next, v, a.len, t.at, t.len, s, i.at, i.len, ticket, address, words);
+                let answer =
+                    abi::lf_segment_find(next, v, a.len, t.at, t.len, s, i.at, i.len, party, ticket, address, words);
                 return Played { head: pool.head, answer, slice: None, places: None };
             }
             Call::Look(..) => {
                 let look = abi::compare_segment_look;
-                let slice = look(next, v, a.len, t.at, t.len, s, i.at, i.len, own, p.len, ticket, address, words);
+                let slice =
+                    look(next, v, a.len, t.at, t.len, s, i.at, i.len, own, p.len, party, ticket, address, words);
                 return Played::look(pool, slice.words as usize, slice.len);
             }
         }

@@ -44,7 +44,7 @@ fn one(bench: &mut Bench, pool: &mut Pool, course: &mut Course, random: &mut Ran
     let outcome = bench.step(pool, &call);
     match (&call, outcome.answer.number) {
         (Call::Release(named), 0) => course.spent.push(*named),
-        (Call::Allocate(_), 3 | 5) => course.filling = false,
+        (Call::Allocate { .. }, 3 | 5) => course.filling = false,
         (Call::Release(_), 6) => course.filling = true,
         _ => {}
     }
@@ -55,6 +55,7 @@ fn next_call(pool: &Pool, ledger: &Ledger, course: &mut Course, random: &mut Ran
         course.filling = !course.filling;
     }
     let live: Vec<Record> = ledger.live().collect();
+    let party = calls::party(ledger, random);
     match random.below(20) {
         0 => calls::any(pool.kind(), ledger, pool.arena.len(), random),
         1 if !course.spent.is_empty() => Call::Release(random.pick(&course.spent)),
@@ -62,10 +63,10 @@ fn next_call(pool: &Pool, ledger: &Ledger, course: &mut Course, random: &mut Ran
         3 => calls::list(ledger, random),
         4 => calls::look(ledger, pool.arena.len(), random),
         5 => Call::Find(calls::named(ledger, random)),
-        6..9 => Call::Allocate(calls::words(ledger, random)),
+        6..9 => Call::Allocate { party, words: calls::words(ledger, random) },
         9..11 => Call::Release(calls::named(ledger, random)),
-        11..17 if course.filling => Call::Allocate(random.between(1, course.most) as u32),
-        _ if live.is_empty() => Call::Allocate(random.between(1, course.most) as u32),
+        11..17 if course.filling => Call::Allocate { party, words: random.between(1, course.most) as u32 },
+        _ if live.is_empty() => Call::Allocate { party, words: random.between(1, course.most) as u32 },
         _ => Call::Release(random.pick(&live)),
     }
 }

@@ -1,11 +1,12 @@
 //! The calls of document 01 on any memory, in its order of numbers: 8, 1, 9, then 2 to 5 or 6, 7; and
 //! format as request 2 of document 02 has it, with the first ticket number: 8, 6; and the places of
 //! request 5, counted from the ledger before the call; and 11 for a tree pool of no such form, as
-//! request 3 has it: before all else, by the head's form, in format by the one that it is given.
+//! request 3 has it: before all else, by the head's form, in format by the one that it is given; and
+//! 12 for a party that there is not, as request 6 has it: directly after 1, for a list also if it is empty.
 //! Soundness as 01 says it: read the ledger off the table, compute its stored form over the
 //! callers' words, compare.
 
-use crate::ledger::{Ledger, Record, UnitRule};
+use crate::ledger::{Ledger, RECORD_WORDS, Record, UnitRule, is_party};
 use crate::{segment_form, segment_search, tree_form};
 
 #[derive(Clone, Copy, PartialEq, Eq, Debug)]
@@ -53,11 +54,15 @@ pub enum Call {
         form: u32,
         first: u32,
     },
-    Allocate(u32),
+    Allocate {
+        party: u32,
+        words: u32,
+    },
     Release(Record),
     Find(Record),
     Look(Record, Placeholder),
     List {
+        party: u32,
         requests: Vec<u32>,
         answers: Vec<u32>,
     },
@@ -124,7 +129,7 @@ impl Answer {
 
     pub fn of(result: Result<Record, u32>) -> Answer {
         match result {
-            Ok(Record { ticket, address, words }) => Answer { number: 0, ticket, address, words },
+            Ok(Record { ticket, address, words, .. }) => Answer { number: 0, ticket, address, words },
             Err(number) => Answer::refusal(number),
         }
     }
@@ -157,7 +162,7 @@ impl Pool {
     }
 
     fn lengths_suit_for(&self, kind: Kind) -> bool {
-        let table_suits = self.table.len() % 3 == 0 && (3..=768).contains(&self.table.len());
+        let table_suits = self.table.len() % RECORD_WORDS == 0 && (4..=1_024).contains(&self.table.len());
         let units_suit = self.arena.len() % kind.known_rule().unit == 0;
         let segments_suit = (1..=256).contains(&self.segments) && self.segments.is_power_of_two();
         let index_suits =
@@ -174,6 +179,12 @@ impl Pool {
         let ledger = Ledger::read(rule, self.arena.len(), &self.table, self.head.next).ok_or(1u32)?;
         let form = Pool::stored(self.kind(), &ledger, self.segments, &self.arena);
         if form == *self { Ok(ledger) } else { Err(1) }
+    }
+
+    /// The ledger for a call of this party, or 11, 8, 1, 12.
+    fn ledger_for(&self, party: u32) -> Result<Ledger, u32> {
+        let ledger = self.ledger()?;
+        if is_party(party) { Ok(ledger) } else { Err(12) }
     }
 
     fn zero(&mut self, ledger: &Ledger, record: Record) {
@@ -194,8 +205,8 @@ pub fn make(pool: &mut Pool, call: &Call) -> Outcome {
     let mut places = None;
     let answer = match call {
         Call::Format { form, first } => return format(pool, *form, *first),
-        Call::Allocate(words) => {
-            let (answer, looked_at) = allocate(pool, *words);
+        Call::Allocate { party, words } => {
+            let (answer, looked_at) = allocate(pool, *party, *words);
             places = looked_at;
             answer
         }
@@ -206,9 +217,9 @@ pub fn make(pool: &mut Pool, call: &Call) -> Outcome {
             slice = Some(slice_for(found));
             found
         }
-        Call::List { requests, answers: before } => {
+        Call::List { party, requests, answers: before } => {
             answers = before.clone();
-            list(pool, requests, &mut answers)
+            list(pool, *party, requests, &mut answers)
         }
     };
     Outcome { head: pool.head, answer, slice, answers, places }
@@ -226,20 +237,20 @@ fn format(pool: &mut Pool, form: u32, first: u32) -> Outcome {
     if first == 0 {
         return refused(6);
     }
-    let empty = Ledger::empty(rule, pool.arena.len(), pool.table.len() / 3, first);
+    let empty = Ledger::empty(rule, pool.arena.len(), pool.table.len() / RECORD_WORDS, first);
     *pool = Pool::stored(kind, &empty, pool.segments, &pool.arena);
     Outcome { head: pool.head, ..nothing }
 }
 
 /// The answer, and in the segment pool the places looked at.
-fn allocate(pool: &mut Pool, words: u32) -> (Answer, Option<u32>) {
+fn allocate(pool: &mut Pool, party: u32, words: u32) -> (Answer, Option<u32>) {
     let reports = pool.engine == Engine::Segment;
-    let before = match pool.ledger() {
+    let before = match pool.ledger_for(party) {
         Ok(ledger) => ledger,
         Err(number) => return (Answer::refusal(number), reports.then_some(0)),
     };
     let mut after = before.clone();
-    let granted = after.grant(words);
+    let granted = after.grant(party, words);
     if let Ok(record) = granted {
         pool.zero(&after, record);
         pool.take_form_of(&after);
@@ -249,7 +260,7 @@ fn allocate(pool: &mut Pool, words: u32) -> (Answer, Option<u32>) {
 }
 
 fn release(pool: &mut Pool, named: Record) -> Answer {
-    Answer::of(pool.ledger().and_then(|mut ledger| {
+    Answer::of(pool.ledger_for(named.party).and_then(|mut ledger| {
         ledger.release(named)?;
         pool.take_form_of(&ledger);
         Ok(named)
@@ -257,7 +268,7 @@ fn release(pool: &mut Pool, named: Record) -> Answer {
 }
 
 fn find(pool: &Pool, named: Record) -> Answer {
-    Answer::of(pool.ledger().and_then(|ledger| ledger.slot_of(named).map(|_| named)))
+    Answer::of(pool.ledger_for(named.party).and_then(|ledger| ledger.slot_of(named).map(|_| named)))
 }
 
 fn slice_for(found: Answer) -> Slice {
@@ -267,16 +278,16 @@ fn slice_for(found: Answer) -> Slice {
     }
 }
 
-fn list(pool: &mut Pool, requests: &[u32], answers: &mut [u32]) -> Answer {
+fn list(pool: &mut Pool, party: u32, requests: &[u32], answers: &mut [u32]) -> Answer {
     let lengths_suit = requests.len() % 4 == 0 && requests.len() <= 4_096 && answers.len() >= requests.len();
-    let mut ledger = match pool.ledger() {
+    let mut ledger = match pool.ledger_for(party) {
         Err(11) => return Answer::refusal(11),
         _ if !lengths_suit => return Answer::refusal(8),
         Err(number) => return Answer::refusal(number),
         Ok(ledger) => ledger,
     };
     for (request, answer) in requests.chunks_exact(4).zip(answers.chunks_exact_mut(4)) {
-        let Answer { number, ticket, address, words } = listed(pool, &mut ledger, request);
+        let Answer { number, ticket, address, words } = listed(pool, &mut ledger, party, request);
         answer.copy_from_slice(&[number, ticket, address, words]);
     }
     pool.take_form_of(&ledger);
@@ -284,10 +295,18 @@ fn list(pool: &mut Pool, requests: &[u32], answers: &mut [u32]) -> Answer {
 }
 
 /// One listed request, on the ledger; only a grant's zeros are written to the arena at once.
-fn listed(pool: &mut Pool, ledger: &mut Ledger, request: &[u32]) -> Answer {
+fn listed(pool: &mut Pool, ledger: &mut Ledger, party: u32, request: &[u32]) -> Answer {
     Answer::of(match *request {
-        [1, words, 0, 0] => ledger.grant(words).inspect(|&record| pool.zero(ledger, record)),
-        [2, ticket, address, words] => ledger.release(Record { ticket, address, words }),
+        [1, words, 0, 0] => ledger.grant(party, words).inspect(|&record| pool.zero(ledger, record)),
+        [2, ticket, address, words] => ledger.release(Record { ticket, address, words, party }),
         _ => Err(9),
     })
+}
+
+/// Request 6: an old table, of three words to a record, into a new one of so many words. As party 1, three zeros
+/// becoming four. None is 8, and nothing is written.
+pub fn copied_table(old: &[u32], new_len: usize) -> Option<Vec<u32>> {
+    let suits = (3..=768).contains(&old.len()) && old.len() % 3 == 0 && new_len == old.len() / 3 * RECORD_WORDS;
+    let record = |r: &[u32]| if r == [0; 3] { [0; 4] } else { [r[0], r[1], r[2], 1] };
+    suits.then(|| old.chunks_exact(3).flat_map(record).collect())
 }

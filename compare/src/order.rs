@@ -2,7 +2,7 @@
 //! orders with refused calls, finds, looks and replays mixed in; then the same later calls on both.
 
 use crate::bench::{Bench, Part, Stray};
-use crate::ledger::{Ledger, Record};
+use crate::ledger::{Ledger, RECORD_WORDS, Record, is_party};
 use crate::model::{self, Answer, Call, Engine, Kind, Outcome, Placeholder, Pool};
 use crate::random::Random;
 use crate::{calls, damage, lengths, pools};
@@ -91,24 +91,26 @@ fn release_one(bench: &mut Bench, sequence: &mut Sequence) {
     sequence.spent.push(named);
 }
 
-/// A list that carries some of the releases, refused requests between them.
+/// A list that carries some of the releases that one party makes, refused requests between them.
 fn release_some(bench: &mut Bench, sequence: &mut Sequence, random: &mut Random) {
     let (mut requests, mut due) = (Vec::new(), Vec::new());
+    let party = sequence.to_come.last().map_or(1, |record| record.party);
     for _ in 0..random.between(0, 12) {
-        if let (Some(named), true) = (sequence.to_come.last().copied(), random.one_in(2)) {
+        let own = sequence.to_come.last().copied().filter(|record| record.party == party);
+        if let (Some(named), true) = (own, random.one_in(2)) {
             sequence.to_come.pop();
             let _ = sequence.ledger.release(named);
             sequence.spent.push(named);
             requests.extend([2, named.ticket, named.address, named.words]);
             due.push(Some(accepted(named)));
         } else {
-            requests.extend(refused_request(sequence, random));
+            requests.extend(refused_request(party, sequence, random));
             due.push(None);
         }
     }
     let mut answers = vec![0; requests.len() + random.below(6)];
     random.fill(&mut answers);
-    let outcome = bench.step(&mut sequence.pool, &Call::List { requests, answers });
+    let outcome = bench.step(&mut sequence.pool, &Call::List { party, requests, answers });
     let kept = due.iter().zip(outcome.answers.chunks_exact(4)).all(|(due, answer)| match due {
         Some(Answer { number, ticket, address, words }) => answer == [*number, *ticket, *address, *words],
         None => answer[0] != 0 && answer[1..] == [0, 0, 0],
@@ -117,7 +119,7 @@ fn release_some(bench: &mut Bench, sequence: &mut Sequence, random: &mut Random)
 }
 
 /// A request that is refused where it stands; asking for no words always is.
-fn refused_request(sequence: &Sequence, random: &mut Random) -> [u32; 4] {
+fn refused_request(party: u32, sequence: &Sequence, random: &mut Random) -> [u32; 4] {
     let ledger = &sequence.ledger;
     match random.below(6) {
         0 => [random.pick(&[0, 3, u32::MAX]), 1, 0, 0],
@@ -128,37 +130,45 @@ fn refused_request(sequence: &Sequence, random: &mut Random) -> [u32; 4] {
         }
         3 | 4 => {
             let words = calls::words(ledger, random);
-            if ledger.clone().grant(words).is_err() { [1, words, 0, 0] } else { [1, 0, 0, 0] }
+            if ledger.clone().grant(party, words).is_err() { [1, words, 0, 0] } else { [1, 0, 0, 0] }
         }
         _ => {
-            let named = calls::named(ledger, random);
+            let named = calls::named_by(party, ledger, random);
             if ledger.slot_of(named).is_err() { [2, named.ticket, named.address, named.words] } else { [1, 0, 0, 0] }
         }
     }
 }
 
-/// A release whose ticket is not live: one of the set again, or one spent before.
+/// A release whose ticket is not live: one of the set again, or one spent before. Mostly by the ticket's own party.
 fn replay(sequence: &Sequence, random: &mut Random) -> Record {
     let mut named = calls::named(&sequence.ledger, random);
     if !sequence.spent.is_empty() && !random.one_in(4) {
-        named = random.pick(&sequence.spent);
+        named = Record { party: named.party, ..random.pick(&sequence.spent) };
+        if !random.one_in(4) {
+            named = random.pick(&sequence.spent);
+        }
     }
     let live = sequence.ledger.live().any(|record| record.ticket == named.ticket);
     Record { ticket: if live { 0 } else { named.ticket }, ..named }
 }
 
+/// What a replay is answered, whoever makes it.
+pub fn refused_replay(named: Record) -> Answer {
+    Answer::refusal(if is_party(named.party) { 6 } else { 12 })
+}
+
 fn mix_in(bench: &mut Bench, sequence: &mut Sequence, random: &mut Random) {
     match random.below(8) {
         0 => {
-            let call = Call::Release(replay(sequence, random));
-            let outcome = bench.step(&mut sequence.pool, &call);
-            check(bench, &sequence.pool, outcome.answer == Answer::refusal(6), "a replay was not refused");
+            let named = replay(sequence, random);
+            let outcome = bench.step(&mut sequence.pool, &Call::Release(named));
+            check(bench, &sequence.pool, outcome.answer == refused_replay(named), "a replay was not refused");
         }
         1 => {
             let call = Call::Release(replay(sequence, random));
             let stray = stray(&sequence.pool, &sequence.ledger, true, random);
             let outcome = bench.stray(&sequence.pool, &stray, &call);
-            let refused = matches!(outcome.answer.number, 11 | 8 | 1 | 6);
+            let refused = matches!(outcome.answer.number, 11 | 8 | 1 | 12 | 6);
             check(bench, &sequence.pool, refused, "a replay that brings the pool's table was not refused");
         }
         2 => {
@@ -176,7 +186,10 @@ fn mix_in(bench: &mut Bench, sequence: &mut Sequence, random: &mut Random) {
 /// A call on the pool itself that is refused as it stands.
 fn refused_whole(bench: &mut Bench, sequence: &mut Sequence, random: &mut Random) {
     let call = match random.below(5) {
-        0 | 1 => Call::Allocate(calls::words(&sequence.ledger, random)),
+        0 | 1 => {
+            let party = calls::party(&sequence.ledger, random);
+            Call::Allocate { party, words: calls::words(&sequence.ledger, random) }
+        }
         2 => Call::Release(calls::named(&sequence.ledger, random)),
         3 => Call::Format { form: sequence.pool.head.form, first: 0 },
         _ => calls::list(&sequence.ledger, random),
@@ -211,7 +224,8 @@ fn is_refused(pool: &mut Pool, call: &Call) -> bool {
 pub fn stray(pool: &Pool, ledger: &Ledger, own_table: bool, random: &mut Random) -> Stray {
     let mut other = if random.one_in(3) {
         let Pool { arena, table, segments, .. } = pool;
-        let shape = pools::Shape { kind: pool.kind(), words: arena.len(), slots: table.len() / 3, segments: *segments };
+        let (kind, words, slots) = (pool.kind(), arena.len(), table.len() / RECORD_WORDS);
+        let shape = pools::Shape { kind, words, slots, segments: *segments };
         pools::sound(shape, random)
     } else {
         pool.clone()

@@ -1,5 +1,6 @@
 //! Sound pools built straight from random ledgers, whether or not traffic could reach them.
 
+use crate::calls;
 use crate::ledger::{Ledger, Record, Run};
 use crate::model::{Engine, Kind, Pool};
 use crate::random::Random;
@@ -64,15 +65,21 @@ pub fn ledger(shape: Shape, random: &mut Random) -> Ledger {
     let mut ledger = Ledger::empty(shape.kind.known_rule(), shape.words, shape.slots, 1);
     let mut blocks = blocks(&ledger, random);
     let tickets = tickets(&mut ledger, blocks.len(), random);
+    let parties = parties(random);
     let mut slots: Vec<usize> = (0..shape.slots).collect();
     if !random.one_in(4) {
         random.shuffle(&mut slots);
         random.shuffle(&mut blocks);
     }
     for ((slot, ticket), (address, words)) in slots.into_iter().zip(tickets).zip(blocks) {
-        ledger.slots[slot] = Some(Record { ticket, address, words });
+        ledger.slots[slot] = Some(Record { ticket, address, words, party: random.pick(&parties) });
     }
     ledger
+}
+
+/// Whose records there are: one party's alone, or those of some, each as often as it stands here.
+fn parties(random: &mut Random) -> Vec<u32> {
+    (0..random.pick(&[1, 2, 3, 8])).map(|_| calls::good_party(random)).collect()
 }
 
 /// Addresses and words of blocks that lie apart, by address.
@@ -154,7 +161,8 @@ pub fn of_every_form(kind: Kind, random: &mut Random) -> Pool {
     let (groups, words) = (random.between(1, 12), 8);
     let mut ledger = Ledger::empty(kind.known_rule(), groups * words, random.between(groups, 12), 0);
     for (slot, at) in (0..groups).enumerate() {
-        let record = Record { ticket: slot as u32 + 1, address: (at * words) as u32, words: words as u32 };
+        let (ticket, party) = (slot as u32 + 1, calls::good_party(random));
+        let record = Record { ticket, address: (at * words) as u32, words: words as u32, party };
         ledger.slots[slot] = Some(record);
     }
     ledger.next = random.pick(&[0, groups as u32 + 1, u32::MAX]);

@@ -78,10 +78,12 @@ fn one(bench: &mut Bench, pool: &mut Pool, yesterday: &Yesterday, random: &mut R
             bench.step(pool, &Call::Release(random.pick(&live)));
         }
         11 => {
-            bench.step(pool, &Call::Allocate(calls::words(&ledger, random)));
+            let party = calls::party(&ledger, random);
+            bench.step(pool, &Call::Allocate { party, words: calls::words(&ledger, random) });
         }
         _ => {
-            bench.step(pool, &Call::Allocate(random.between(1, 8) as u32));
+            let party = calls::good_party(random);
+            bench.step(pool, &Call::Allocate { party, words: random.between(1, 8) as u32 });
         }
     }
 }
@@ -104,7 +106,12 @@ fn replay(bench: &mut Bench, pool: &mut Pool, ledger: &Ledger, yesterday: &Yeste
         _ => Call::Release(named),
     };
     let outcome = bench.step(pool, &call);
-    check(bench, pool, outcome.answer == Answer::refusal(6), "a call from before the restart was not refused");
+    check(
+        bench,
+        pool,
+        outcome.answer == order::refused_replay(named),
+        "a call from before the restart was not refused",
+    );
     let fits = ledger.live().any(|record| Record { ticket: named.ticket, ..record } == named);
     bench.tally.situation("restart: replay with today's address and words", fits);
 }
@@ -112,7 +119,8 @@ fn replay(bench: &mut Bench, pool: &mut Pool, ledger: &Ledger, yesterday: &Yeste
 /// Today's requests, with yesterday's releases before, between and behind them.
 fn listed_replays(bench: &mut Bench, pool: &mut Pool, ledger: &Ledger, yesterday: &Yesterday, random: &mut Random) {
     let (mut requests, mut old) = (Vec::new(), Vec::new());
-    for request in calls::requests(ledger, random.between(1, 12), random).chunks_exact(4) {
+    let party = calls::good_party(random);
+    for request in calls::requests(party, ledger, random.between(1, 12), random).chunks_exact(4) {
         if random.one_in(2) {
             let named = earlier(ledger, yesterday, random);
             old.push(requests.len());
@@ -121,7 +129,7 @@ fn listed_replays(bench: &mut Bench, pool: &mut Pool, ledger: &Ledger, yesterday
         requests.extend(request);
     }
     let answers = vec![random.word(); requests.len()];
-    let outcome = bench.step(pool, &Call::List { requests, answers });
+    let outcome = bench.step(pool, &Call::List { party, requests, answers });
     let refused = old.iter().all(|&at| outcome.answers[at..at + 4] == [6, 0, 0, 0]);
     check(bench, pool, refused, "a listed release from before the restart was not refused");
     bench.tally.situation("restart: listed replay", !old.is_empty());
@@ -132,7 +140,7 @@ fn stray_replay(bench: &mut Bench, pool: &mut Pool, ledger: &Ledger, yesterday: 
     let stray = order::stray(pool, ledger, true, random);
     let call = Call::Release(earlier(ledger, yesterday, random));
     let outcome = bench.stray(pool, &stray, &call);
-    let refused = matches!(outcome.answer.number, 11 | 8 | 1 | 6);
+    let refused = matches!(outcome.answer.number, 11 | 8 | 1 | 12 | 6);
     check(bench, pool, refused, "a release from before the restart was not refused with other memory");
     bench.tally.situation("restart: replay with other memory", true);
 }
@@ -164,7 +172,7 @@ fn other_arena(bench: &mut Bench, pool: &mut Pool, ledger: &Ledger, random: &mut
         let length_differs = other.arena.len() != pool.arena.len();
         *pool = other;
         bench.lend(pool);
-        let accepted = bench.step(pool, &Call::Allocate(1)).answer.number == 0;
+        let accepted = bench.step(pool, &Call::Allocate { party: 1, words: 1 }).answer.number == 0;
         let situation = "restart: accepted call on another arena";
         bench.tally.situation(situation, length_differs && accepted);
     }

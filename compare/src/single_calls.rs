@@ -5,7 +5,7 @@ use crate::ledger::Ledger;
 use crate::model::{Call, Engine, Kind, Pool};
 use crate::random::Random;
 use crate::tree_form::FORMS;
-use crate::{calls, damage, lengths, pools};
+use crate::{calls, copies, damage, lengths, pools};
 
 const CALLS_TO_A_POOL: u64 = 6;
 
@@ -16,6 +16,9 @@ pub fn run(bench: &mut Bench, kind: Kind, cases: u64, random: &mut Random) {
         let ledger = pool.ledger().expect("a stored form is sound");
         for _ in 0..CALLS_TO_A_POOL {
             one(bench, &pool, &ledger, random);
+        }
+        if random.one_in(20) {
+            old_table(bench, &pool, &ledger, random);
         }
         if kind.engine == Engine::Tree && random.one_in(20) {
             other_form(bench, kind, random);
@@ -42,6 +45,25 @@ fn one(bench: &mut Bench, pool: &Pool, ledger: &Ledger, random: &mut Random) {
     }
     if !kind.is_empty() {
         bench.tally.situation(kind, outcome.answer.number == 1);
+    }
+}
+
+/// A pool that still has its old table, of three words to a record; half the time with all of it free, and of so many
+/// records that the length suits.
+fn old_table(bench: &mut Bench, pool: &Pool, ledger: &Ledger, random: &mut Random) {
+    let mut ledger = ledger.clone();
+    if random.one_in(2) {
+        let words = pool.arena.len();
+        ledger = Ledger::empty(ledger.rule, words, 4 * random.between(1, 12), ledger.next);
+    }
+    let mut old = Pool::stored(pool.kind(), &ledger, pool.segments, &pool.arena);
+    old.table = copies::old_table(&ledger);
+    let call = calls::any(pool.kind(), &ledger, old.arena.len(), random);
+    let outcome = bench.once(&old, &call);
+    if !matches!(call, Call::Format { .. }) {
+        bench.tally.situation("old table: 8", outcome.answer.number == 8);
+        bench.tally.situation("old table: 1", outcome.answer.number == 1);
+        bench.tally.situation("old table: accepted", outcome.answer.number == 0);
     }
 }
 

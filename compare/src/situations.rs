@@ -1,6 +1,6 @@
 //! Which of the situations that every run must reach a case was in.
 
-use crate::ledger::{Ledger, Record, Run};
+use crate::ledger::{Ledger, Record, Run, is_party};
 use crate::model::{Call, Engine, Kind, Outcome, Placeholder, Pool};
 use crate::segment_form::blocks_of;
 use crate::tally::Tally;
@@ -15,22 +15,72 @@ pub fn note(tally: &mut Tally, before: &Pool, call: &Call, outcome: &Outcome) {
     if let Call::Format { first, .. } = call {
         return note_format(tally, *first, outcome.answer.number);
     }
+    let no_party = party_of(call).is_some_and(|party| !is_party(party));
+    tally.situation("no such party on a damaged pool", no_party && outcome.answer.number == 1);
     if matches!(outcome.answer.number, 11 | 8 | 1) {
         return;
     }
+    note_party(tally, call);
     let rule = before.kind().known_rule();
     let Some(ledger) = Ledger::read(rule, before.arena.len(), &before.table, before.head.next) else {
         return;
     };
     let free = ledger.free_runs();
     note_pool(tally, before, &ledger, &free);
+    note_others(tally, &ledger, call);
     match call {
-        Call::Allocate(_) if outcome.answer.number == 0 => {
+        Call::Allocate { .. } if outcome.answer.number == 0 => {
             note_grant(tally, &ledger, &free, outcome);
             note_search(tally, before, &ledger, outcome);
         }
         Call::Release(named) if outcome.answer.number == 0 => note_release(tally, &ledger, &free, *named),
         Call::Release(named) | Call::Find(named) if outcome.answer.number == 6 => note_unknown(tally, &ledger, *named),
+        _ => {}
+    }
+}
+
+fn party_of(call: &Call) -> Option<u32> {
+    match call {
+        Call::Format { .. } => None,
+        Call::Allocate { party, .. } | Call::List { party, .. } => Some(*party),
+        Call::Release(named) | Call::Find(named) | Call::Look(named, _) => Some(named.party),
+    }
+}
+
+/// Whose call it is, on a sound pool.
+fn note_party(tally: &mut Tally, call: &Call) {
+    let Some(party) = party_of(call) else { return };
+    tally.situation("party 0", party == 0);
+    tally.situation("party 1", party == 1);
+    tally.situation("party 255", party == 255);
+    tally.situation("party 256", party == 256);
+    tally.situation("party 4,294,967,295", party == u32::MAX);
+    if is_party(party) {
+        return;
+    }
+    tally.situation("no such party: look", matches!(call, Call::Look(..)));
+    if let Call::List { requests, .. } = call {
+        tally.situation("no such party: empty list", requests.is_empty());
+        let unknown = |request: &[u32]| !matches!(request, [1, _, 0, 0] | [2, ..]);
+        tally.situation("no such party: request of unknown kind", requests.chunks_exact(4).any(unknown));
+    }
+}
+
+/// What a party names that is another's.
+fn note_others(tally: &mut Tally, ledger: &Ledger, call: &Call) {
+    let others = |named: Record| ledger.live().find(|r| r.ticket == named.ticket && r.party != named.party);
+    match call {
+        Call::Release(named) | Call::Find(named) | Call::Look(named, _) if is_party(named.party) => {
+            let Some(other) = others(*named) else { return };
+            let rightly = Record { party: other.party, ..*named } == other;
+            tally.situation("another's ticket rightly named", rightly);
+            tally.situation("another's ticket wrongly named", !rightly);
+        }
+        Call::List { party, requests, .. } if is_party(*party) => {
+            let named = |r: &[u32]| Record { ticket: r[1], address: r[2], words: r[3], party: *party };
+            let another = |r: &[u32]| r[0] == 2 && others(named(r)).is_some();
+            tally.situation("listed: another's ticket", requests.chunks_exact(4).any(another));
+        }
         _ => {}
     }
 }
@@ -57,7 +107,7 @@ fn note_format(tally: &mut Tally, first: u32, number: u32) {
 }
 
 fn note_list(tally: &mut Tally, call: &Call) {
-    let Call::List { requests, answers } = call else { return };
+    let Call::List { requests, answers, .. } = call else { return };
     let (len, room) = (requests.len(), answers.len());
     tally.situation("list of 0 requests", len == 0);
     tally.situation("list of 1,024 requests", len == 4 * 1_024);
@@ -79,6 +129,10 @@ fn note_pool(tally: &mut Tally, pool: &Pool, ledger: &Ledger, free: &[Run]) {
     tally.situation("1 record", slots == 1);
     tally.situation("256 records held", held == 256);
     tally.situation("257 free runs", free.len() == 257);
+    let mut parties: Vec<u32> = ledger.live().map(|record| record.party).collect();
+    parties.sort_unstable();
+    parties.dedup();
+    tally.situation("records of three parties", parties.len() > 2);
     tally.situation("no free unit at all", free.is_empty());
     tally.situation("equal free runs", free.windows(2).any(|pair| pair[0].count == pair[1].count));
     if pool.engine == Engine::Segment {

@@ -4,23 +4,24 @@
 use crate::model::{Call, Engine, Kind, Outcome, SEGMENT};
 use std::collections::BTreeMap;
 
-pub const NUMBERS: [u32; 11] = [0, 11, 8, 1, 9, 2, 3, 4, 5, 6, 7];
+pub const NUMBERS: [u32; 12] = [0, 11, 8, 1, 12, 9, 2, 3, 4, 5, 6, 7];
 
 /// Each row of the table and the numbers that can occur in it, 11 in the tree pool alone.
-pub const ROWS: [(&str, &[u32]); 9] = [
+pub const ROWS: [(&str, &[u32]); 10] = [
     ("format", &[0, 11, 8, 6]),
-    ("allocate", &[0, 11, 8, 1, 2, 3, 4, 5]),
-    ("release", &[0, 11, 8, 1, 6, 7]),
-    ("find", &[0, 11, 8, 1, 6, 7]),
-    ("look", &[0, 11, 8, 1, 6, 7]),
-    ("list", &[0, 11, 8, 1]),
+    ("allocate", &[0, 11, 8, 1, 12, 2, 3, 4, 5]),
+    ("release", &[0, 11, 8, 1, 12, 6, 7]),
+    ("find", &[0, 11, 8, 1, 12, 6, 7]),
+    ("look", &[0, 11, 8, 1, 12, 6, 7]),
+    ("list", &[0, 11, 8, 1, 12]),
     ("listed allocate", &[0, 9, 2, 3, 4, 5]),
     ("listed release", &[0, 6, 7]),
     ("listed unknown", &[9]),
+    ("copy", &[0, 8]),
 ];
 
 /// Situations each engine must have been in, the tree pool in each of its forms.
-pub const SITUATIONS: [&str; 40] = [
+pub const SITUATIONS: &[&str] = &[
     "grant of a whole run",
     "grant from a longer run",
     "grant of the last ticket",
@@ -61,6 +62,32 @@ pub const SITUATIONS: [&str; 40] = [
     "restart: replay with other memory",
     "restart: format refused",
     "restart: accepted call on another arena",
+    "party 0",
+    "party 1",
+    "party 255",
+    "party 256",
+    "party 4,294,967,295",
+    "damage seen: party",
+    "records of three parties",
+    "another's ticket rightly named",
+    "another's ticket wrongly named",
+    "listed: another's ticket",
+    "no such party: empty list",
+    "no such party: request of unknown kind",
+    "no such party: look",
+    "no such party on a damaged pool",
+    "old table: 8",
+    "old table: 1",
+    "old table: accepted",
+    "copy: full table",
+    "copy: empty table",
+    "copy: ticket 0 with words",
+    "copy: lengths of none",
+    "copy: as many words",
+    "two pools: released",
+    "two pools: looked at",
+    "two pools: another's ticket in one",
+    "two pools: both damaged",
 ];
 
 /// And the segment pool alone.
@@ -131,7 +158,7 @@ fn own_situations(kind: Kind) -> Vec<&'static str> {
 fn row(call: &Call) -> &'static str {
     match call {
         Call::Format { .. } => "format",
-        Call::Allocate(_) => "allocate",
+        Call::Allocate { .. } => "allocate",
         Call::Release(_) => "release",
         Call::Find(_) => "find",
         Call::Look(..) => "look",
@@ -161,6 +188,12 @@ impl Tally {
                 self.number(listed_row(request[0]), answer[0]);
             }
         }
+    }
+
+    /// A copy of an old table.
+    pub fn copy(&mut self, section: &'static str, number: u32) {
+        self.plain_case(section);
+        self.number("copy", number);
     }
 
     /// A case whose call is not among the model's.
@@ -242,7 +275,7 @@ impl Tally {
 
     fn report_situations(&self, kind: Kind) -> bool {
         let count = |situation: &'static str| self.situations.get(&(name(kind), situation)).copied().unwrap_or(0);
-        let all = SITUATIONS.into_iter().chain(own_situations(kind));
+        let all = SITUATIONS.iter().copied().chain(own_situations(kind));
         let all: Vec<(&str, u64)> = all.map(|situation| (situation, count(situation))).collect();
         let told: Vec<String> = all.iter().map(|(situation, count)| format!("{situation} {count}")).collect();
         println!("{} situations: {}", name(kind), told.join("; "));

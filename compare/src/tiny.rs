@@ -1,7 +1,7 @@
 //! Every ledger of some very small pools with every small call, and every one-word change to them.
 
 use crate::bench::Bench;
-use crate::ledger::{Ledger, Record};
+use crate::ledger::{Ledger, RECORD_WORDS, Record};
 use crate::model::{Call, Engine, Kind, Placeholder, Pool};
 
 /// Words, slots, S.
@@ -10,7 +10,8 @@ const TREE_2: [(usize, usize, u32); 3] = [(4, 1, 0), (8, 2, 0), (12, 1, 0)];
 const TREE_3: [(usize, usize, u32); 3] = [(8, 1, 0), (8, 2, 0), (16, 1, 0)];
 const SEGMENT: [(usize, usize, u32); 6] = [(2, 1, 1), (2, 1, 4), (3, 1, 2), (4, 2, 2), (5, 2, 4), (5, 2, 1)];
 const FORMS: [u32; 7] = [0, 1, 2, 3, 4, 5, u32::MAX];
-const CHANGES: [u32; 9] = [0, 1, 2, 3, 65_536, 131_073, u32::MAX, u32::MAX - 1, 1 << 31];
+const PARTIES: [u32; 6] = [0, 1, 2, 255, 256, u32::MAX];
+const CHANGES: [u32; 11] = [0, 1, 2, 3, 255, 256, 65_536, 131_073, u32::MAX, u32::MAX - 1, 1 << 31];
 
 pub fn run(bench: &mut Bench, kind: Kind) {
     bench.section = "tiny pools";
@@ -28,7 +29,7 @@ pub fn run(bench: &mut Bench, kind: Kind) {
 }
 
 fn pools_of(bench: &mut Bench, kind: Kind, words: usize, slots: usize, segments: u32, next: u32) {
-    let choices: Vec<[u32; 3]> = records(words);
+    let choices = records(words);
     let count = choices.len().pow(slots as u32);
     for chosen in 0..count {
         let picked = |slot: usize| choices[chosen / choices.len().pow(slot as u32) % choices.len()];
@@ -42,10 +43,11 @@ fn pools_of(bench: &mut Bench, kind: Kind, words: usize, slots: usize, segments:
     }
 }
 
-/// An empty slot and every record with ticket 1 or 2 that might lie in so many words.
-fn records(words: usize) -> Vec<[u32; 3]> {
-    let in_arena = |asked: u32| (0..words as u32).flat_map(move |address| [[1, address, asked], [2, address, asked]]);
-    std::iter::once([0; 3]).chain((1..=words as u32).flat_map(in_arena)).collect()
+/// An empty slot and every record with ticket 1 or 2 that might lie in so many words. The second is another party's.
+fn records(words: usize) -> Vec<[u32; 4]> {
+    let both = |address, asked| [[1, address, asked, 1], [2, address, asked, 255]];
+    let in_arena = |asked: u32| (0..words as u32).flat_map(move |address| both(address, asked));
+    std::iter::once([0; 4]).chain((1..=words as u32).flat_map(in_arena)).collect()
 }
 
 fn every_call(bench: &mut Bench, pool: &Pool) {
@@ -57,15 +59,29 @@ fn every_call(bench: &mut Bench, pool: &Pool) {
         bench.once(pool, &Call::Format { form, first: 1 });
     }
     for words in 0..=most {
-        bench.once(pool, &Call::Allocate(words));
-        for named in (0..4 * most).map(|at| Record { ticket: at / most, address: at % most, words }) {
-            bench.once(pool, &Call::Release(named));
-            bench.once(pool, &Call::Find(named));
-            bench.once(pool, &Call::Look(named, Placeholder::Own(vec![3, 4])));
-            let requests = vec![2, named.ticket, named.address, words, 1, words, 0, 0];
-            bench.once(pool, &Call::List { requests, answers: vec![9; 9] });
+        for party in PARTIES {
+            bench.once(pool, &Call::Allocate { party, words });
+        }
+        for (at, party) in (0..4 * most).flat_map(|at| [1, 255].map(|party| (at, party))) {
+            every_naming(bench, pool, Record { ticket: at / most, address: at % most, words, party });
         }
     }
+    for (slot, party) in (0..pool.table.len() / RECORD_WORDS).flat_map(|slot| PARTIES.map(|party| (slot, party))) {
+        let stored = &pool.table[RECORD_WORDS * slot..];
+        every_naming(bench, pool, Record { ticket: stored[0], address: stored[1], words: stored[2], party });
+    }
+    for party in PARTIES {
+        bench.once(pool, &Call::List { party, requests: vec![], answers: vec![9; 5] });
+    }
+}
+
+fn every_naming(bench: &mut Bench, pool: &Pool, named: Record) {
+    let Record { ticket, address, words, party } = named;
+    bench.once(pool, &Call::Release(named));
+    bench.once(pool, &Call::Find(named));
+    bench.once(pool, &Call::Look(named, Placeholder::Own(vec![3, 4])));
+    let requests = vec![2, ticket, address, words, 1, words, 0, 0];
+    bench.once(pool, &Call::List { party, requests, answers: vec![9; 9] });
 }
 
 fn every_change(bench: &mut Bench, pool: &Pool) {
@@ -73,9 +89,10 @@ fn every_change(bench: &mut Bench, pool: &Pool) {
     for (place, value) in (0..places).flat_map(|place| CHANGES.map(|value| (place, value))) {
         let mut struck = pool.clone();
         *word_of(&mut struck, place) = value;
-        bench.once(&struck, &Call::Find(Record { ticket: 1, address: pool.table[1], words: pool.table[2] }));
-        bench.once(&struck, &Call::Allocate(1));
-        bench.once(&struck, &Call::Release(Record { ticket: 1, address: pool.table[1], words: pool.table[2] }));
+        let named = Record { ticket: 1, address: pool.table[1], words: pool.table[2], party: 1 };
+        bench.once(&struck, &Call::Find(named));
+        bench.once(&struck, &Call::Allocate { party: 1, words: 1 });
+        bench.once(&struck, &Call::Release(named));
     }
 }
 

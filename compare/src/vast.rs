@@ -3,14 +3,14 @@
 
 use crate::guarded::{Words, map};
 use crate::ledger::{Ledger, Record};
-use crate::library::{Played, View, play};
+use crate::library::{Played, View, copy_table, play};
 use crate::model::{Answer, Call, Engine, Head, Kind, Placeholder, Pool};
 use crate::tally::Tally;
 
 const VAST: usize = 1 << 32;
 const SHOWN: usize = 4_096;
-const LIVE: Record = Record { ticket: 1, address: 8, words: 3 };
-const UNKNOWN: Record = Record { ticket: 7, address: 8, words: 3 };
+const LIVE: Record = Record { ticket: 1, address: 8, words: 3, party: 2 };
+const UNKNOWN: Record = Record { ticket: 7, address: 8, words: 3, party: 2 };
 const BUFFERS: [&str; 6] = ["arena", "table", "index", "requests", "answers", "placeholder"];
 
 pub fn run(tally: &mut Tally, kinds: &[Kind]) {
@@ -24,6 +24,22 @@ pub fn run(tally: &mut Tally, kinds: &[Kind]) {
             tally.kind = kind;
             one_vast(tally, kind, which, shown);
         }
+    }
+    copy_vast(tally, vast as *mut u32);
+}
+
+/// An old or a new table of vast length.
+fn copy_vast(tally: &mut Tally, vast: *mut u32) {
+    let (mut few, before) = ([6; 4], [7, 8, 9, 10]);
+    for (old_len, new_len) in [(VAST + 3, 4), (3, VAST + 4)] {
+        // SAFETY: the mapping is longer, and nothing else uses it.
+        let shown = unsafe { std::slice::from_raw_parts_mut(vast, before.len()) };
+        shown.copy_from_slice(&before);
+        let at = [vast, few.as_mut_ptr()];
+        let [old, new] = if old_len > new_len { at } else { [at[1], at[0]] };
+        let number = copy_table(Words { at: old, len: old_len }, Words { at: new, len: new_len });
+        let unchanged = *shown == before && few == [6; 4];
+        check(tally, format!("copy of {old_len} words into {new_len}: {number}"), number == 8 && unchanged);
     }
 }
 
@@ -59,14 +75,22 @@ fn one_vast(tally: &mut Tally, kind: Kind, which: usize, shown: &mut [u32]) {
 
 /// The calls that take this buffer.
 fn calls(kind: Kind, which: usize) -> Vec<Call> {
-    let list = Call::List { requests: vec![], answers: vec![] };
+    let list = Call::List { party: 2, requests: vec![], answers: vec![] };
     let look = Call::Look(UNKNOWN, Placeholder::Own(vec![]));
     match BUFFERS[which] {
         "requests" | "answers" => vec![list],
         "placeholder" => vec![look],
         _ => {
             let [format, format_none] = [1, 0].map(|first| Call::Format { form: kind.form, first });
-            vec![format, format_none, Call::Allocate(2), Call::Release(LIVE), Call::Find(LIVE), look, list]
+            vec![
+                format,
+                format_none,
+                Call::Allocate { party: 2, words: 2 },
+                Call::Release(LIVE),
+                Call::Find(LIVE),
+                look,
+                list,
+            ]
         }
     }
 }
@@ -76,7 +100,7 @@ fn due(pool: &Pool, view: &View, call: &Call, vast: &str) -> Played {
     let refused = Played { head: pool.head, answer: Answer::refusal(8), slice: None, places: None };
     match call {
         Call::Format { .. } => Played { head: Head::default(), ..refused },
-        Call::Allocate(_) => Played { places: (pool.engine == Engine::Segment).then_some(0), ..refused },
+        Call::Allocate { .. } => Played { places: (pool.engine == Engine::Segment).then_some(0), ..refused },
         Call::Look(..) => {
             let slice = Some((view.placeholder.at as usize, view.placeholder.len));
             Played { answer: Answer::default(), slice, ..refused }

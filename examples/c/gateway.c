@@ -1,6 +1,7 @@
 /* A gateway between dryers and their radio, on each of the pools: commands are put into runs of words, and the radio
  * releases them in any order. One release comes in twice, the second time when a new command lies at its address; and
- * once more after a power loss, when the pool was formatted again. Then as large a pool as there can be. */
+ * once more after a power loss, when the pool was formatted again. A heating firm's controller shares the pool with the
+ * laundry. Then as large a pool as there can be, and a table from before there were two firms. */
 #include "lingfurrow.h"
 
 #include <inttypes.h>
@@ -12,17 +13,22 @@
 #define MOST_PLACES (1u + 2u + ARENA_WORDS / SEGMENTS) /* 2 is the logarithm of SEGMENTS */
 #define BURST 4u
 
+/* The parties: each firm's calls pass its own. */
+#define LAUNDRY 1u
+#define HEATING 2u
+
 /* What the loop below needs of a pool. The answer of allocate, ticket, address and words, is what the radio gets with
  * the command and names in its release. */
 typedef struct {
     const char *name;
     lf_answer (*format)(uint32_t first);
     uint32_t (*next_ticket)(void);
-    lf_answer (*allocate)(uint32_t words);
-    lf_answer (*release)(lf_answer named);
-    lf_answer (*list)(const uint32_t *requests, size_t requests_len, uint32_t *answers, size_t answers_len);
+    lf_answer (*allocate)(uint32_t party, uint32_t words);
+    lf_answer (*release)(uint32_t party, lf_answer named);
+    lf_answer (*list)(uint32_t party, const uint32_t *requests, size_t requests_len, uint32_t *answers,
+                      size_t answers_len);
     void (*write)(lf_answer run, uint32_t dryer);
-    void (*show)(lf_answer run);
+    void (*show)(uint32_t party, lf_answer run);
 } pool;
 
 /* ---- on the tree pool, in each of its forms: the head that a call hands back replaces the old one */
@@ -74,22 +80,23 @@ static uint32_t tree_next_ticket(void)
     return tree->head.next;
 }
 
-static lf_answer tree_allocate(uint32_t words)
+static lf_answer tree_allocate(uint32_t party, uint32_t words)
 {
     return tree_keep(
-        lf_tree_allocate(tree->head, tree->arena, ARENA_WORDS, tree->table, LF_TABLE_WORDS(RECORDS), words));
+        lf_tree_allocate(tree->head, tree->arena, ARENA_WORDS, tree->table, LF_TABLE_WORDS(RECORDS), party, words));
 }
 
-static lf_answer tree_release(lf_answer named)
+static lf_answer tree_release(uint32_t party, lf_answer named)
 {
     return tree_keep(lf_tree_release(tree->head, tree->arena, ARENA_WORDS, tree->table, LF_TABLE_WORDS(RECORDS),
-                                     named.ticket, named.address, named.words));
+                                     party, named.ticket, named.address, named.words));
 }
 
-static lf_answer tree_list(const uint32_t *requests, size_t requests_len, uint32_t *answers, size_t answers_len)
+static lf_answer tree_list(uint32_t party, const uint32_t *requests, size_t requests_len, uint32_t *answers,
+                           size_t answers_len)
 {
     return tree_keep(lf_tree_list(tree->head, tree->arena, ARENA_WORDS, tree->table, LF_TABLE_WORDS(RECORDS),
-                                  requests, requests_len, answers, answers_len));
+                                  party, requests, requests_len, answers, answers_len));
 }
 
 /* A run that was granted is ours to write. */
@@ -100,12 +107,12 @@ static void tree_write(lf_answer run, uint32_t dryer)
     }
 }
 
-/* Prints the run's words, or a 0 if it is not held. */
-static void tree_show(lf_answer run)
+/* Prints the run's words, or a 0 if the party does not hold it. */
+static void tree_show(uint32_t party, lf_answer run)
 {
     static const uint32_t nothing[1] = { 0 };
     lf_tree_slice slice = lf_tree_look(tree->head, tree->arena, ARENA_WORDS, tree->table, LF_TABLE_WORDS(RECORDS),
-                                       nothing, 1, run.ticket, run.address, run.words);
+                                       nothing, 1, party, run.ticket, run.address, run.words);
     for (size_t i = 0; i < slice.len; i++) {
         printf(" %" PRIu32, slice.words[i]);
     }
@@ -137,32 +144,33 @@ static uint32_t segment_next_ticket(void)
 }
 
 /* With the places that the search for room looked at. */
-static lf_segment_allocation segment_allocate_counted(uint32_t words)
+static lf_segment_allocation segment_allocate_counted(uint32_t party, uint32_t words)
 {
     lf_segment_allocation done = lf_segment_allocate(segment_next, segment_arena, ARENA_WORDS, segment_table,
                                                      LF_TABLE_WORDS(RECORDS), SEGMENTS, segment_index,
-                                                     LF_INDEX_WORDS(SEGMENTS), words);
+                                                     LF_INDEX_WORDS(SEGMENTS), party, words);
     segment_next = done.next;
     return done;
 }
 
-static lf_answer segment_allocate(uint32_t words)
+static lf_answer segment_allocate(uint32_t party, uint32_t words)
 {
-    return segment_allocate_counted(words).answer;
+    return segment_allocate_counted(party, words).answer;
 }
 
-static lf_answer segment_release(lf_answer named)
+static lf_answer segment_release(uint32_t party, lf_answer named)
 {
     return segment_keep(lf_segment_release(segment_next, segment_arena, ARENA_WORDS, segment_table,
                                            LF_TABLE_WORDS(RECORDS), SEGMENTS, segment_index, LF_INDEX_WORDS(SEGMENTS),
-                                           named.ticket, named.address, named.words));
+                                           party, named.ticket, named.address, named.words));
 }
 
-static lf_answer segment_list(const uint32_t *requests, size_t requests_len, uint32_t *answers, size_t answers_len)
+static lf_answer segment_list(uint32_t party, const uint32_t *requests, size_t requests_len, uint32_t *answers,
+                              size_t answers_len)
 {
     return segment_keep(lf_segment_list(segment_next, segment_arena, ARENA_WORDS, segment_table,
                                         LF_TABLE_WORDS(RECORDS), SEGMENTS, segment_index, LF_INDEX_WORDS(SEGMENTS),
-                                        requests, requests_len, answers, answers_len));
+                                        party, requests, requests_len, answers, answers_len));
 }
 
 static void segment_write(lf_answer run, uint32_t dryer)
@@ -172,12 +180,13 @@ static void segment_write(lf_answer run, uint32_t dryer)
     }
 }
 
-static void segment_show(lf_answer run)
+static void segment_show(uint32_t party, lf_answer run)
 {
     static const int32_t nothing[1] = { 0 };
     lf_segment_slice slice = lf_segment_look(segment_next, segment_arena, ARENA_WORDS, segment_table,
                                              LF_TABLE_WORDS(RECORDS), SEGMENTS, segment_index,
-                                             LF_INDEX_WORDS(SEGMENTS), nothing, 1, run.ticket, run.address, run.words);
+                                             LF_INDEX_WORDS(SEGMENTS), nothing, 1, party, run.ticket, run.address,
+                                             run.words);
     for (size_t i = 0; i < slice.len; i++) {
         printf(" %" PRId32, slice.words[i]);
     }
@@ -229,6 +238,7 @@ static const char *meaning(uint32_t number)
     case LF_BAD_LENGTHS: return "bad lengths";
     case LF_BAD_REQUEST: return "bad request";
     case LF_BAD_FORM: return "no such form";
+    case LF_BAD_PARTY: return "no such party";
     default: return "unknown number";
     }
 }
@@ -243,16 +253,16 @@ static void print_answer(lf_answer answer)
     }
 }
 
-static void print_look(const pool *on, lf_answer run)
+static void print_look(const pool *on, uint32_t party, lf_answer run)
 {
     printf("    look at ticket %" PRIu32 ":", run.ticket);
-    on->show(run);
+    on->show(party, run);
     printf("\n");
 }
 
 static lf_answer command(const pool *on, uint32_t dryer, uint32_t words)
 {
-    lf_answer run = on->allocate(words);
+    lf_answer run = on->allocate(LAUNDRY, words);
     printf("  command for dryer %" PRIu32 ", words %" PRIu32 ": ", dryer, words);
     print_answer(run);
     on->write(run, dryer); /* a refused run has no words */
@@ -262,13 +272,13 @@ static lf_answer command(const pool *on, uint32_t dryer, uint32_t words)
 /* A release as the radio names it. Refused, it leaves the command that was stored last as it is. */
 static void radio_release(const pool *on, lf_answer named, lf_answer last)
 {
-    lf_answer answer = on->release(named);
+    lf_answer answer = on->release(LAUNDRY, named);
     printf("  release of ticket %" PRIu32 " at %" PRIu32 ", words %" PRIu32 ": ", named.ticket, named.address,
            named.words);
     print_answer(answer);
     if (answer.number != LF_OK) {
-        print_look(on, named);
-        print_look(on, last);
+        print_look(on, LAUNDRY, named);
+        print_look(on, LAUNDRY, last);
     }
 }
 
@@ -282,7 +292,7 @@ static void burst(const pool *on, lf_answer first, lf_answer last)
         LF_REQUEST_RELEASE, first.ticket, first.address, first.words,
     };
     uint32_t answers[LF_LIST_WORDS(BURST)];
-    lf_answer whole = on->list(requests, LF_LIST_WORDS(BURST), answers, LF_LIST_WORDS(BURST));
+    lf_answer whole = on->list(LAUNDRY, requests, LF_LIST_WORDS(BURST), answers, LF_LIST_WORDS(BURST));
     if (whole.number != LF_OK) {
         print_answer(whole);
         return;
@@ -331,6 +341,24 @@ static lf_answer restart(const pool *on, uint32_t stored, lf_answer earlier)
     return formatted;
 }
 
+/* The heating firm takes a run of its own. The laundry is told of its ticket what it would be told of a dead one,
+ * though it names the run rightly; and number 256 is no firm's. */
+static void two_firms(const pool *on)
+{
+    lf_answer heat = on->allocate(HEATING, 2);
+    printf("  order of the heating firm, words 2: ");
+    print_answer(heat);
+    on->write(heat, 21);
+    printf("  the laundry's release of it: ");
+    print_answer(on->release(LAUNDRY, heat));
+    print_look(on, LAUNDRY, heat);
+    print_look(on, HEATING, heat);
+    printf("  a release of it by 256: ");
+    print_answer(on->release(256, heat));
+    printf("  the heating firm's release of it: ");
+    print_answer(on->release(HEATING, heat));
+}
+
 static lf_answer run_on(const pool *on)
 {
     lf_answer formatted = on->format(1);
@@ -339,7 +367,11 @@ static lf_answer run_on(const pool *on)
     }
     printf("%s, words %u, records %u\n", on->name, ARENA_WORDS, RECORDS);
     lf_answer earlier = serve(on);
-    return restart(on, on->next_ticket(), earlier);
+    lf_answer restarted = restart(on, on->next_ticket(), earlier);
+    if (restarted.number == LF_OK) {
+        two_firms(on);
+    }
+    return restarted;
 }
 
 /* The segment pool says how far each search for room went. */
@@ -347,7 +379,7 @@ static void count_places(void)
 {
     for (uint32_t words = 2; words < 4; words++) {
         printf("  search for room, words %" PRIu32 ": places %" PRIu32 ", at most %u\n", words,
-               segment_allocate_counted(words).places, MOST_PLACES);
+               segment_allocate_counted(LAUNDRY, words).places, MOST_PLACES);
     }
 }
 
@@ -364,9 +396,26 @@ static void large_pool(void)
     }
     for (uint32_t words = 400000; words < 400003; words++) {
         now = lf_tree_allocate(now.head, arena, LF_FORM_2_ARENA_WORDS_MAX, table, LF_TABLE_WORDS(LF_RECORDS_MAX),
-                               words);
+                               LAUNDRY, words);
         printf("  words %" PRIu32 ": ", words);
         print_answer(now.answer);
+    }
+}
+
+/* A pool of an earlier firmware, its table of three words to a record: ticket 1 at 0 and ticket 2 at 6, both of the
+ * laundry. With the table copied, the pool goes on. */
+static void old_table(void)
+{
+    uint32_t arena[ARENA_WORDS] = { 0 };
+    const uint32_t old[LF_OLD_TABLE_WORDS(RECORDS)] = { 1, 0, 5, 2, 6, 4 };
+    uint32_t table[LF_TABLE_WORDS(RECORDS)];
+    lf_tree_head head = { 6, 3, 1 }; /* one free block, of seven cells from cell 5 on */
+    arena[10] = 7;
+    uint32_t number = lf_copy_table(old, LF_OLD_TABLE_WORDS(RECORDS), table, LF_TABLE_WORDS(RECORDS));
+    printf("table of %u old records: %s\n", RECORDS, meaning(number));
+    for (uint32_t party = LAUNDRY; party <= HEATING; party++) {
+        printf("  find of ticket 2 by party %" PRIu32 ": ", party);
+        print_answer(lf_tree_find(head, arena, ARENA_WORDS, table, LF_TABLE_WORDS(RECORDS), party, 2, 6, 4));
     }
 }
 
@@ -381,5 +430,6 @@ int main(void)
     }
     count_places();
     large_pool();
+    old_table();
     return 0;
 }

@@ -1,7 +1,7 @@
 //! The gateway of examples/c/gateway.c, on the safe calls: it writes the same.
 mod lingfurrow;
 
-use lingfurrow::{Answer, Pool, Refusal, Request, Run, SegmentPool, TreePool};
+use lingfurrow::{copy_table, Answer, Pool, Refusal, Request, Run, SegmentPool, TreeHead, TreePool};
 use std::fmt::Display;
 
 const RECORDS: usize = 4;
@@ -10,6 +10,10 @@ const SEGMENTS: usize = 4;
 const LARGE_WORDS: usize = 1_048_576;
 const LARGE_RECORDS: usize = 256;
 const MOST_PLACES: usize = 1 + SEGMENTS.ilog2() as usize + ARENA_WORDS / SEGMENTS;
+
+/// The parties: each firm's calls pass its own.
+const LAUNDRY: u32 = 1;
+const HEATING: u32 = 2;
 
 /// What comes in: a command of some words for a dryer, or the radio's release of the command that came as the n-th.
 enum Event {
@@ -36,12 +40,12 @@ fn told(result: Result<Run, Refusal>) -> String {
     }
 }
 
-fn print_look<P: Pool>(pool: &P, run: Run)
+fn print_look<P: Pool>(pool: &P, party: u32, run: Run)
 where
     P::Word: Display + From<u16>,
 {
     print!("    look at ticket {}:", run.ticket);
-    for word in pool.look(run, &[P::Word::from(0)]) {
+    for word in pool.look(party, run, &[P::Word::from(0)]) {
         print!(" {word}");
     }
     println!();
@@ -51,12 +55,20 @@ fn command<P: Pool>(pool: &mut P, dryer: u16, words: u32) -> Result<Run, Refusal
 where
     P::Word: From<u16>,
 {
-    let granted = pool.allocate(words);
+    let granted = pool.allocate(LAUNDRY, words);
     println!("  command for dryer {dryer}, words {words}: {}", told(granted));
-    for (i, word) in (0..).zip(pool.words_of(granted?)?) {
+    write(pool, LAUNDRY, granted?, dryer)?;
+    granted
+}
+
+fn write<P: Pool>(pool: &mut P, party: u32, run: Run, dryer: u16) -> Result<(), Refusal>
+where
+    P::Word: From<u16>,
+{
+    for (i, word) in (0..).zip(pool.words_of(party, run)?) {
         *word = P::Word::from(100 * dryer + i);
     }
-    granted
+    Ok(())
 }
 
 /// A release as the radio names it. Refused, it leaves the command that was stored last as it is.
@@ -64,12 +76,12 @@ fn radio_release<P: Pool>(pool: &mut P, named: Run, last: Run)
 where
     P::Word: Display + From<u16>,
 {
-    let result = pool.release(named);
+    let result = pool.release(LAUNDRY, named);
     let Run { ticket, address, words } = named;
     println!("  release of ticket {ticket} at {address}, words {words}: {}", told(result));
     if result.is_err() {
-        print_look(pool, named);
-        print_look(pool, last);
+        print_look(pool, LAUNDRY, named);
+        print_look(pool, LAUNDRY, last);
     }
 }
 
@@ -77,7 +89,7 @@ where
 fn burst<P: Pool>(pool: &mut P, first: Run, last: Run) -> Result<(), Refusal> {
     let requests = [Request::allocate(3), Request::release(last), Request::allocate(8), Request::release(first)];
     let mut answers = [Answer::default(); 4];
-    pool.list(&requests, &mut answers)?;
+    pool.list(LAUNDRY, &requests, &mut answers)?;
     println!("  list of {} requests", requests.len());
     for (Request([kind, x, y, z]), answer) in requests.iter().zip(answers) {
         println!("    {kind} {x} {y} {z}: {}", told(answer.result()));
@@ -115,13 +127,31 @@ where
     println!("  restart, first ticket {first}");
     let run = command(pool, 4, earlier.words)?;
     radio_release(pool, earlier, run);
+    two_firms(pool)
+}
+
+/// The heating firm takes a run of its own. The laundry is told of its ticket what it would be told of a dead one,
+/// though it names the run rightly; and number 256 is no firm's.
+fn two_firms<P: Pool>(pool: &mut P) -> Result<(), Refusal>
+where
+    P::Word: Display + From<u16>,
+{
+    let granted = pool.allocate(HEATING, 2);
+    println!("  order of the heating firm, words 2: {}", told(granted));
+    let heat = granted?;
+    write(pool, HEATING, heat, 21)?;
+    println!("  the laundry's release of it: {}", told(pool.release(LAUNDRY, heat)));
+    print_look(pool, LAUNDRY, heat);
+    print_look(pool, HEATING, heat);
+    println!("  a release of it by 256: {}", told(pool.release(256, heat)));
+    println!("  the heating firm's release of it: {}", told(pool.release(HEATING, heat)));
     Ok(())
 }
 
 /// The segment pool says how far each search for room went.
 fn count_places(pool: &mut SegmentPool) {
     for words in 2..4 {
-        let (_, places) = pool.allocate_counted(words);
+        let (_, places) = pool.allocate_counted(LAUNDRY, words);
         println!("  search for room, words {words}: places {places}, at most {MOST_PLACES}");
     }
 }
@@ -129,7 +159,7 @@ fn count_places(pool: &mut SegmentPool) {
 /// The tree pool in one of its forms.
 fn tree_pool(form: u32) -> Result<(), Refusal> {
     let mut arena = [0; ARENA_WORDS];
-    let mut table = [0; 3 * RECORDS];
+    let mut table = [0; 4 * RECORDS];
     let mut pool = TreePool::format(form, &mut arena, &mut table, 1)?;
     println!("tree pool, form {form}, words {ARENA_WORDS}, records {RECORDS}");
     let earlier = serve(&mut pool)?;
@@ -139,7 +169,7 @@ fn tree_pool(form: u32) -> Result<(), Refusal> {
 
 fn segment_pool() -> Result<(), Refusal> {
     let mut arena = [0; ARENA_WORDS];
-    let mut table = [0; 3 * RECORDS];
+    let mut table = [0; 4 * RECORDS];
     let mut index = [0; 3 * SEGMENTS];
     let mut pool = SegmentPool::format(&mut arena, &mut table, SEGMENTS as u32, &mut index, 1)?;
     println!("segment pool, words {ARENA_WORDS}, records {RECORDS}");
@@ -154,7 +184,7 @@ fn segment_pool() -> Result<(), Refusal> {
 /// A laundry with four hundred dryers: form 2 has room for it, form 1 has not.
 fn large_pool() {
     let mut arena = vec![0; LARGE_WORDS];
-    let mut table = vec![0; 3 * LARGE_RECORDS];
+    let mut table = vec![0; 4 * LARGE_RECORDS];
     for form in 0..3 {
         print!("form {form}, words {LARGE_WORDS}, records {LARGE_RECORDS}: ");
         match TreePool::format(form, &mut arena, &mut table, 1) {
@@ -162,11 +192,29 @@ fn large_pool() {
             Ok(mut pool) => {
                 println!("done");
                 for words in 400_000..400_003 {
-                    println!("  words {words}: {}", told(pool.allocate(words)));
+                    println!("  words {words}: {}", told(pool.allocate(LAUNDRY, words)));
                 }
             }
         }
     }
+}
+
+/// A pool of an earlier firmware, its table of three words to a record: ticket 1 at 0 and ticket 2 at 6, both of the
+/// laundry. With the table copied, the pool goes on.
+fn old_table() -> Result<(), Refusal> {
+    let mut arena = [0; ARENA_WORDS];
+    let old = [1, 0, 5, 2, 6, 4, 0, 0, 0, 0, 0, 0];
+    let mut table = [0; 4 * RECORDS];
+    let head = TreeHead { root: 6, next: 3, form: 1 }; // one free block, of seven cells from cell 5 on
+    arena[10] = 7;
+    copy_table(&old, &mut table)?;
+    println!("table of {RECORDS} old records: done");
+    let pool = TreePool::resume(head, &mut arena, &mut table);
+    for party in LAUNDRY..=HEATING {
+        let named = Run { ticket: 2, address: 6, words: 4 };
+        println!("  find of ticket 2 by party {party}: {}", told(pool.find(party, named)));
+    }
+    Ok(())
 }
 
 fn main() -> Result<(), Refusal> {
@@ -175,5 +223,5 @@ fn main() -> Result<(), Refusal> {
     tree_pool(3)?;
     segment_pool()?;
     large_pool();
-    Ok(())
+    old_table()
 }

@@ -24,7 +24,7 @@ impl Run {
     }
 }
 
-/// The number of a refused call, 1 to 9 or 11. The pool is as it was.
+/// The number of a refused call, 1 to 9, 11 or 12. The pool is as it was.
 #[derive(Clone, Copy, Debug, PartialEq, Eq)]
 pub struct Refusal(pub u32);
 
@@ -41,6 +41,7 @@ impl fmt::Display for Refusal {
             8 => "bad lengths",
             9 => "bad request",
             11 => "no such form",
+            12 => "no such party",
             _ => "unknown number",
         })
     }
@@ -80,27 +81,28 @@ impl Answer {
     }
 }
 
-/// The calls that both pools have. Format is each pool's own.
+/// The calls that both pools have, each made by a party, 1 to 255. To a party the others' tickets are as good as dead.
+/// Format is each pool's own.
 pub trait Pool {
     type Word;
 
     /// Takes a run of `words` words, which read zero, at the lowest address where there is room.
-    fn allocate(&mut self, words: u32) -> Result<Run, Refusal>;
+    fn allocate(&mut self, party: u32, words: u32) -> Result<Run, Refusal>;
 
     /// Gives a run back.
-    fn release(&mut self, run: Run) -> Result<Run, Refusal>;
+    fn release(&mut self, party: u32, run: Run) -> Result<Run, Refusal>;
 
-    /// Tells whether this run is held.
-    fn find(&self, run: Run) -> Result<Run, Refusal>;
+    /// Tells whether the party holds this run.
+    fn find(&self, party: u32, run: Run) -> Result<Run, Refusal>;
 
     /// Serves requests one after another, with one check of the pool. `answers` is at least as long as `requests`.
-    fn list(&mut self, requests: &[Request], answers: &mut [Answer]) -> Result<(), Refusal>;
+    fn list(&mut self, party: u32, requests: &[Request], answers: &mut [Answer]) -> Result<(), Refusal>;
 
     /// The words of the run, or the placeholder where `find` refuses.
-    fn look<'s>(&'s self, run: Run, placeholder: &'s [Self::Word]) -> &'s [Self::Word];
+    fn look<'s>(&'s self, party: u32, run: Run, placeholder: &'s [Self::Word]) -> &'s [Self::Word];
 
     /// The words of the run, to write.
-    fn words_of(&mut self, run: Run) -> Result<&mut [Self::Word], Refusal>;
+    fn words_of(&mut self, party: u32, run: Run) -> Result<&mut [Self::Word], Refusal>;
 }
 
 /// `lf_tree_head`
@@ -136,29 +138,42 @@ extern "C" {
     fn lf_tree_format(form: u32, arena: *mut u32, arena_len: usize, table: *mut u32, table_len: usize,
         first: u32) -> TreeOutcome;
     fn lf_tree_allocate(head: TreeHead, arena: *mut u32, arena_len: usize, table: *mut u32, table_len: usize,
-        words: u32) -> TreeOutcome;
+        party: u32, words: u32) -> TreeOutcome;
     fn lf_tree_release(head: TreeHead, arena: *mut u32, arena_len: usize, table: *mut u32, table_len: usize,
-        ticket: u32, address: u32, words: u32) -> TreeOutcome;
+        party: u32, ticket: u32, address: u32, words: u32) -> TreeOutcome;
     fn lf_tree_find(head: TreeHead, arena: *const u32, arena_len: usize, table: *const u32, table_len: usize,
-        ticket: u32, address: u32, words: u32) -> Answer;
+        party: u32, ticket: u32, address: u32, words: u32) -> Answer;
     fn lf_tree_list(head: TreeHead, arena: *mut u32, arena_len: usize, table: *mut u32, table_len: usize,
-        requests: *const u32, requests_len: usize, answers: *mut u32, answers_len: usize) -> TreeOutcome;
+        party: u32, requests: *const u32, requests_len: usize, answers: *mut u32, answers_len: usize) -> TreeOutcome;
 
     fn lf_segment_format(arena: *mut i32, arena_len: usize, table: *mut u32, table_len: usize, segments: u32,
         index: *mut u32, index_len: usize, first: u32) -> SegmentOutcome;
     fn lf_segment_allocate(next: u32, arena: *mut i32, arena_len: usize, table: *mut u32, table_len: usize,
-        segments: u32, index: *mut u32, index_len: usize, words: u32) -> SegmentAllocation;
+        segments: u32, index: *mut u32, index_len: usize, party: u32, words: u32) -> SegmentAllocation;
     fn lf_segment_release(next: u32, arena: *mut i32, arena_len: usize, table: *mut u32, table_len: usize,
-        segments: u32, index: *mut u32, index_len: usize, ticket: u32, address: u32, words: u32) -> SegmentOutcome;
+        segments: u32, index: *mut u32, index_len: usize, party: u32, ticket: u32, address: u32,
+        words: u32) -> SegmentOutcome;
     fn lf_segment_find(next: u32, arena: *const i32, arena_len: usize, table: *const u32, table_len: usize,
-        segments: u32, index: *const u32, index_len: usize, ticket: u32, address: u32, words: u32) -> Answer;
+        segments: u32, index: *const u32, index_len: usize, party: u32, ticket: u32, address: u32,
+        words: u32) -> Answer;
     fn lf_segment_list(next: u32, arena: *mut i32, arena_len: usize, table: *mut u32, table_len: usize,
-        segments: u32, index: *mut u32, index_len: usize, requests: *const u32, requests_len: usize,
+        segments: u32, index: *mut u32, index_len: usize, party: u32, requests: *const u32, requests_len: usize,
         answers: *mut u32, answers_len: usize) -> SegmentOutcome;
+
+    fn lf_copy_table(old: *const u32, old_len: usize, new_table: *mut u32, new_len: usize) -> u32;
 }
 
 // Every unsafe block below passes the pointers and lengths of slices that are borrowed for the call, `&mut` where the
 // call writes: all that the header asks.
+
+/// Copies a table from before there were parties, three words to a record, into one of as many records of four: they
+/// become party 1's.
+pub fn copy_table(old: &[u32], new: &mut [u32]) -> Result<(), Refusal> {
+    match unsafe { lf_copy_table(old.as_ptr(), old.len(), new.as_mut_ptr(), new.len()) } {
+        0 => Ok(()),
+        number => Err(Refusal(number)),
+    }
+}
 
 // ---- the tree pool
 
@@ -171,7 +186,7 @@ pub struct TreePool<'a> {
 
 impl<'a> TreePool<'a> {
     /// A pool of this form in which all is free and the next ticket is `first`: after a restart, one above every
-    /// earlier ticket. `table` has three words for each run that can be held at a time.
+    /// earlier ticket. `table` has four words for each run that can be held at a time.
     pub fn format(form: u32, arena: &'a mut [u32], table: &'a mut [u32], first: u32) -> Result<Self, Refusal> {
         let outcome =
             unsafe { lf_tree_format(form, arena.as_mut_ptr(), arena.len(), table.as_mut_ptr(), table.len(), first) };
@@ -199,48 +214,48 @@ impl<'a> TreePool<'a> {
 impl Pool for TreePool<'_> {
     type Word = u32;
 
-    fn allocate(&mut self, words: u32) -> Result<Run, Refusal> {
+    fn allocate(&mut self, party: u32, words: u32) -> Result<Run, Refusal> {
         let outcome = unsafe {
             lf_tree_allocate(self.head, self.arena.as_mut_ptr(), self.arena.len(), self.table.as_mut_ptr(),
-                self.table.len(), words)
+                self.table.len(), party, words)
         };
         self.keep(outcome)
     }
 
-    fn release(&mut self, run: Run) -> Result<Run, Refusal> {
+    fn release(&mut self, party: u32, run: Run) -> Result<Run, Refusal> {
         let outcome = unsafe {
             lf_tree_release(self.head, self.arena.as_mut_ptr(), self.arena.len(), self.table.as_mut_ptr(),
-                self.table.len(), run.ticket, run.address, run.words)
+                self.table.len(), party, run.ticket, run.address, run.words)
         };
         self.keep(outcome)
     }
 
-    fn find(&self, run: Run) -> Result<Run, Refusal> {
+    fn find(&self, party: u32, run: Run) -> Result<Run, Refusal> {
         let answer = unsafe {
             lf_tree_find(self.head, self.arena.as_ptr(), self.arena.len(), self.table.as_ptr(), self.table.len(),
-                run.ticket, run.address, run.words)
+                party, run.ticket, run.address, run.words)
         };
         answer.result()
     }
 
-    fn list(&mut self, requests: &[Request], answers: &mut [Answer]) -> Result<(), Refusal> {
+    fn list(&mut self, party: u32, requests: &[Request], answers: &mut [Answer]) -> Result<(), Refusal> {
         let outcome = unsafe {
             lf_tree_list(self.head, self.arena.as_mut_ptr(), self.arena.len(), self.table.as_mut_ptr(),
-                self.table.len(), requests.as_ptr().cast(), 4 * requests.len(), answers.as_mut_ptr().cast(),
+                self.table.len(), party, requests.as_ptr().cast(), 4 * requests.len(), answers.as_mut_ptr().cast(),
                 4 * answers.len())
         };
         self.keep(outcome).map(|_| ())
     }
 
-    fn look<'s>(&'s self, run: Run, placeholder: &'s [u32]) -> &'s [u32] {
-        match self.find(run) {
+    fn look<'s>(&'s self, party: u32, run: Run, placeholder: &'s [u32]) -> &'s [u32] {
+        match self.find(party, run) {
             Ok(_) => &self.arena[run.range()],
             Err(_) => placeholder,
         }
     }
 
-    fn words_of(&mut self, run: Run) -> Result<&mut [u32], Refusal> {
-        self.find(run)?;
+    fn words_of(&mut self, party: u32, run: Run) -> Result<&mut [u32], Refusal> {
+        self.find(party, run)?;
         Ok(&mut self.arena[run.range()])
     }
 }
@@ -285,10 +300,10 @@ impl<'a> SegmentPool<'a> {
     }
 
     /// `allocate`, with the places that its search looked at; the header says what they are and how many at most.
-    pub fn allocate_counted(&mut self, words: u32) -> (Result<Run, Refusal>, u32) {
+    pub fn allocate_counted(&mut self, party: u32, words: u32) -> (Result<Run, Refusal>, u32) {
         let (a, t, x) = (self.arena.as_mut_ptr(), self.table.as_mut_ptr(), self.index.as_mut_ptr());
         let (a_len, t_len, x_len) = (self.arena.len(), self.table.len(), self.index.len());
-        let done = unsafe { lf_segment_allocate(self.next, a, a_len, t, t_len, self.segments, x, x_len, words) };
+        let done = unsafe { lf_segment_allocate(self.next, a, a_len, t, t_len, self.segments, x, x_len, party, words) };
         self.next = done.next;
         (done.answer.result(), done.places)
     }
@@ -303,45 +318,45 @@ impl<'a> SegmentPool<'a> {
 impl Pool for SegmentPool<'_> {
     type Word = i32;
 
-    fn allocate(&mut self, words: u32) -> Result<Run, Refusal> {
-        self.allocate_counted(words).0
+    fn allocate(&mut self, party: u32, words: u32) -> Result<Run, Refusal> {
+        self.allocate_counted(party, words).0
     }
 
-    fn release(&mut self, run: Run) -> Result<Run, Refusal> {
+    fn release(&mut self, party: u32, run: Run) -> Result<Run, Refusal> {
         let outcome = unsafe {
             lf_segment_release(self.next, self.arena.as_mut_ptr(), self.arena.len(), self.table.as_mut_ptr(),
-                self.table.len(), self.segments, self.index.as_mut_ptr(), self.index.len(), run.ticket, run.address,
-                run.words)
+                self.table.len(), self.segments, self.index.as_mut_ptr(), self.index.len(), party, run.ticket,
+                run.address, run.words)
         };
         self.keep(outcome)
     }
 
-    fn find(&self, run: Run) -> Result<Run, Refusal> {
+    fn find(&self, party: u32, run: Run) -> Result<Run, Refusal> {
         let answer = unsafe {
             lf_segment_find(self.next, self.arena.as_ptr(), self.arena.len(), self.table.as_ptr(), self.table.len(),
-                self.segments, self.index.as_ptr(), self.index.len(), run.ticket, run.address, run.words)
+                self.segments, self.index.as_ptr(), self.index.len(), party, run.ticket, run.address, run.words)
         };
         answer.result()
     }
 
-    fn list(&mut self, requests: &[Request], answers: &mut [Answer]) -> Result<(), Refusal> {
+    fn list(&mut self, party: u32, requests: &[Request], answers: &mut [Answer]) -> Result<(), Refusal> {
         let outcome = unsafe {
             lf_segment_list(self.next, self.arena.as_mut_ptr(), self.arena.len(), self.table.as_mut_ptr(),
-                self.table.len(), self.segments, self.index.as_mut_ptr(), self.index.len(),
+                self.table.len(), self.segments, self.index.as_mut_ptr(), self.index.len(), party,
                 requests.as_ptr().cast(), 4 * requests.len(), answers.as_mut_ptr().cast(), 4 * answers.len())
         };
         self.keep(outcome).map(|_| ())
     }
 
-    fn look<'s>(&'s self, run: Run, placeholder: &'s [i32]) -> &'s [i32] {
-        match self.find(run) {
+    fn look<'s>(&'s self, party: u32, run: Run, placeholder: &'s [i32]) -> &'s [i32] {
+        match self.find(party, run) {
             Ok(_) => &self.arena[run.range()],
             Err(_) => placeholder,
         }
     }
 
-    fn words_of(&mut self, run: Run) -> Result<&mut [i32], Refusal> {
-        self.find(run)?;
+    fn words_of(&mut self, party: u32, run: Run) -> Result<&mut [i32], Refusal> {
+        self.find(party, run)?;
         Ok(&mut self.arena[run.range()])
     }
 }

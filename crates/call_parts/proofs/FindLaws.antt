@@ -4,23 +4,24 @@ use native.Mathlib.Nat.{lt-mul-div-succ}
 use native.Mathlib.Omega.{arith}
 use mathlib.Core.Path.{_≡_, refl, sym, ap, _∙_}
 use mathlib.Core.Logic.{_≢_}
-use mathlib.Core.Bool.{Bool, true, false, cond, _&&_}
+use mathlib.Core.Bool.{Bool, true, false, cond}
 use Rattle.words.specs.Lists.{Words}
 use lib.Dec.{eqb}
 use Rattle.words.proofs.Tests.{eqb-ne}
 use Rattle.ledger.specs.declared.Row.{Row}
 use Rattle.ledger.specs.declared.Rule.{Rule}
-use Rattle.ledger.specs.Records.{recordAt, recordsOf, sameBlock, recordOf}
-use Rattle.calls.specs.Pool.{Pool, ledger, wordCount, Engine, Laws, ruleOf, lengths, stored, sound}
-use Rattle.calls.specs.Step.{Call, find, look, success, refusal, accepted, give, query, Outcome}
-use Rattle.calls.specs.Step.{arenaPart, placeholder, named, numberOf, answerDone, answerTo, behind, gate}
-use Rattle.calls.specs.Step.{refusedBy, actsDone, perform, step}
+use Rattle.ledger.specs.Records.{isParty, recordAt, recordsOf, sameBlock, recordOf}
+use Rattle.calls.specs.Pool.{Pool, ledger, wordCount, Engine, Laws, ruleOf, sound}
+use Rattle.calls.specs.Step.{find, look, success, refusal, accepted, give, query, Outcome}
+use Rattle.calls.specs.Step.{arenaPart, placeholder, named, numberOf, answerDone, answerTo}
+use Rattle.calls.specs.Step.{actsDone, perform, step}
 use Rattle.calls.proofs.StoreLaws.{sound-valid}
 use Rattle.ledger.specs.Units.{span, first, past, addressAt}
 use Rattle.ledger.proofs.UnitLaws.{valid-record}
 use mathlib.Core.Option.{some}
 use Rattle.calls.proofs.ActLaws.{named-zero, act-done, act-refused, answer-number}
 use Rattle.calls.proofs.GateLaws.{Way, stops, runs, way, sound-gate, step-sound}
+use Rattle.calls.proofs.Demand1.{looks-at}
 use Rattle.record_table.specs.declared.Found.{Found}
 use Rattle.record_table.specs.declared.Found.the-variants.{At, Nothing}
 use Rattle.record_table.specs.Slots.{ticketSlot}
@@ -36,13 +37,14 @@ pub named-refused : (t : Words) (r : Row) (n : ℕ) → namedIn t r ≡ Refused 
 unfolding namedIn
 named-refused t r n e = go (ticketSlot (r .ticket) (recordsOf t)) e
   where
-    seven : (i : ℕ) (b : Bool) → cond b (Slot i) (Refused 7) ≡ Refused n → n ≢ 0
-    seven i true e z = let y : _≡_ {A = ℕ} 0 1 = cc in absurd (omega arith)
-    seven i false e z = let y : _≡_ {A = ℕ} 7 n = cc in omega arith
+    seven : (i : ℕ) (a b : Bool) → cond a (cond b (Slot i) (Refused 7)) (Refused 6) ≡ Refused n → n ≢ 0
+    seven i true true e z = let y : _≡_ {A = ℕ} 0 1 = cc in absurd (omega arith)
+    seven i true false e z = let y : _≡_ {A = ℕ} 7 n = cc in omega arith
+    seven i false b e z = let y : _≡_ {A = ℕ} 6 n = cc in omega arith
 
     go : (f : Found) → namedAt t r f ≡ Refused n → n ≢ 0
     go Nothing e z = let y : _≡_ {A = ℕ} 6 n = cc in omega arith
-    go (At i) e z = seven i (sameBlock (recordAt t i) r) e z
+    go (At i) e z = seven i (eqb (recordAt t i .party) (r .party)) (sameBlock (recordAt t i) r) e z
 
 module _ (p : Pool) (r : Row) where
   pub slot-number : (i : ℕ) → namedIn (p .table) r ≡ Slot i → named (ledger p) r ≡ 0
@@ -51,10 +53,10 @@ module _ (p : Pool) (r : Row) where
   pub refused-number : (n : ℕ) → namedIn (p .table) r ≡ Refused n → named (ledger p) r ≡ n
   refused-number n e = sym (named-number (p .table) r) ∙ ap numberIn e
 
-module _ (E : Engine) (p : Pool) (r : Row) (ok : sound E p ≡ true) where
+module _ (E : Engine) (p : Pool) (r : Row) (ok : sound E p ≡ true) (party : isParty (r .party) ≡ true) where
   find-answer : step E (find r) p .answer ≡ answerTo E p (query r)
   unfolding actsDone
-  find-answer = ap (λ (o : Outcome). o .answer) (step-sound E (find r) p refl refl ok)
+  find-answer = ap (λ (o : Outcome). o .answer) (step-sound E (find r) p refl refl ok party)
 
   pub find-slot : (i : ℕ) → namedIn (p .table) r ≡ Slot i → step E (find r) p .answer ≡ success r
   unfolding numberOf answerDone
@@ -86,20 +88,12 @@ span-holds ρ pos n =
 pub look-shows : (E : Engine) (p : Pool) (r : Row) (hold : Words)
     → step E (look r hold) p .shown
     ≡ cond (accepted (step E (find r) p .answer)) (arenaPart (r .address) (r .words)) placeholder
-unfolding step gate behind perform actsDone
-look-shows E p r hold = go (E .known (p .shape)) (lengths E p && true) (stored E p)
+look-shows E p r hold = go (accepted (step E (find r) p .answer)) refl
   where
-    out : Bool → Bool → Bool → Call Words → Outcome
-    out k a b c =
-        let n : ℕ = cond k (cond a (cond b 0 1) 8) 11 in
-        cond (eqb n 0) (perform E c p) (refusedBy E c p n)
-
-    go : (k a b : Bool) → out k a b (look r hold) .shown
-        ≡ cond (accepted (out k a b (find r) .answer)) (arenaPart (r .address) (r .words)) placeholder
-    go true true true = refl
-    go true true false = refl
-    go true false b = refl
-    go false a b = refl
+    go : (b : Bool) → accepted (step E (find r) p .answer) ≡ b
+        → step E (look r hold) p .shown ≡ cond b (arenaPart (r .address) (r .words)) placeholder
+    go true e = looks-at E p r hold .2 e
+    go false e = looks-at E p r hold .3 e
 
 module _ (E : Engine) (laws : Laws E) (p : Pool) (r : Row) where
   found-record : step E (find r) p .answer .number ≡ 0 → (sound E p ≡ true) × (recordOf (r .ticket) (ledger p) ≡ some r)
@@ -110,7 +104,7 @@ module _ (E : Engine) (laws : Laws E) (p : Pool) (r : Row) where
           → (sound E p ≡ true) × (recordOf (r .ticket) (ledger p) ≡ some r)
       go o (stops n g y e) z = absurd (y (sym (ap (λ (k : Outcome). k .answer .number) e) ∙ z))
       go o (runs g e) z = (
-        sound-gate E (find r) p refl g,
+        sound-gate E (find r) p refl g .0,
         named-zero (ledger p) r (sym (answer-number E p (query r)) ∙ ap (λ (k : Outcome). k .answer .number) (sym e)
             ∙ z),
       )

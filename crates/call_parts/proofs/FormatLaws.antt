@@ -21,12 +21,12 @@ use Rattle.call_parts.specs.Results.{result, resultOf}
 blank-table : (k : ℕ) → replicate (recordWords * k) 0 ≡ tableOf (replicate k emptyRow)
 blank-table zero = refl
 blank-table (suc k) =
-    let e : recordWords * suc k ≡ suc (suc (suc (recordWords * k))) = omega arith in
-    rw e (ap (λ (l : Words). 0 ∷ 0 ∷ 0 ∷ l) (blank-table k))
+    let e : recordWords * suc k ≡ suc (suc (suc (suc (recordWords * k)))) = omega arith in
+    rw e (ap (λ (l : Words). 0 ∷ 0 ∷ 0 ∷ 0 ∷ l) (blank-table k))
 
 -- the table of no records is all zeros
-pub zero-table : (t : Words) → length t % 3 ≡ 0 → replicate (length t) 0 ≡ tableOf (replicate (slots t) emptyRow)
-zero-table t threes =
+pub zero-table : (t : Words) → length t % recordWords ≡ 0 → replicate (length t) 0 ≡ tableOf (replicate (slots t) emptyRow)
+zero-table t whole =
     let e : length t ≡ recordWords * slots t = omega arith in
     ap (λ (n : ℕ). replicate n 0) e ∙ blank-table (slots t)
 

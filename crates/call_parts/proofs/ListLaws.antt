@@ -3,20 +3,23 @@ use Prim.Native.Nat.{ℕ, suc, _+_, _*_, _<_}
 use native.Mathlib.Numerals.{add-one, add-two, add-three}
 use native.Mathlib.Omega.{arith}
 use mathlib.Core.Path.{_≡_, refl, sym, ap, ap₂, _∙_}
+use mathlib.Core.Bool.{true}
 use mathlib.Core.List.{List, [], _∷_, _++_, append-assoc, append-nil}
-use lib.ListN.{length, take, drop, length-set, take-append-drop, drop-of-length-le, length-take, length-append}
+use lib.ListN.{length, getD, take, drop, length-set, take-append-drop, drop-of-length-le, length-take, length-append}
 use lib.Seq.{drop-cons, drop-drop, sets, sets-eq, take-at, drop-at}
 use Rattle.words.specs.Lists.{Words}
+use Rattle.ledger.specs.Records.{isParty}
 use Rattle.calls.specs.declared.Answer.{Answer}
 use Rattle.calls.specs.Pool.{Pool, Engine}
-use Rattle.calls.specs.Step.{Act, requests, answerWords, answersOf, answerTo, poolAfter, countedOf, poolAfterAll}
+use Rattle.calls.specs.Step.{Act, requests, answerWords, answersOf, answerTo, poolAfter, countedOf, poolAfterAll, partied}
+use Rattle.calls.proofs.CallLaws.{request-partied}
 use Rattle.call_parts.specs.Parts.{requestAt, withAnswer}
 
 -- ---- the words of a request and of an answer
 
-requests-from : (rs : Words) (i : ℕ) → 4 * i + 3 < length rs
-    → requests (drop (4 * i) rs) ≡ requestAt rs i ∷ requests (drop (4 * (i + 1)) rs)
-requests-from rs i h =
+requests-from : (c : ℕ) (rs : Words) (i : ℕ) → 4 * i + 3 < length rs
+    → requests c (drop (4 * i) rs) ≡ requestAt c rs i ∷ requests c (drop (4 * (i + 1)) rs)
+requests-from c rs i h =
     let e : 4 * (i + 1) ≡ suc (suc (suc (suc (4 * i)))) = omega arith in
     rw (
       e,
@@ -28,6 +31,10 @@ requests-from rs i h =
       drop-cons rs (suc (suc (4 * i))) 0 (omega arith),
       drop-cons rs (suc (suc (suc (4 * i)))) 0 (omega arith),
     )
+
+pub listed-partied : (c : ℕ) (rs : Words) (i : ℕ) → isParty c ≡ true → partied (requestAt c rs i) ≡ true
+listed-partied c rs i h =
+    request-partied c (getD rs (4 * i) 0) (getD rs (4 * i + 1) 0) (getD rs (4 * i + 2) 0) (getD rs (4 * i + 3) 0) h
 
 abbrev fourWords : Answer → Words
 fourWords x = x .number ∷ x .ticket ∷ x .address ∷ x .words ∷ []
@@ -59,27 +66,27 @@ module _ (b : Words) (i : ℕ) (x : Answer) (h : 4 * i + 3 < length b) where
 
 -- ---- the loop
 
--- After the first i requests of rs, from the pool p and the buffer bs, the pool is q and the buffer b: what the rest
+-- After the first i requests of rs, party c's list, from the pool p and the buffer bs, the pool is q and the buffer b: what the rest
 -- does makes what the whole list does.
-pub record Running (E : Engine) (p : Pool) (rs bs : Words) (i : ℕ) (q : Pool) (b : Words) : Type 0 where
-  pub pool : poolAfterAll E q (requests (drop (4 * i) rs)) ≡ poolAfterAll E p (requests rs)
-  pub answers : take (4 * i) b ++ answerWords (answersOf (countedOf E q (requests (drop (4 * i) rs))))
-      ≡ answerWords (answersOf (countedOf E p (requests rs)))
+pub record Running (E : Engine) (p : Pool) (c : ℕ) (rs bs : Words) (i : ℕ) (q : Pool) (b : Words) : Type 0 where
+  pub pool : poolAfterAll E q (requests c (drop (4 * i) rs)) ≡ poolAfterAll E p (requests c rs)
+  pub answers : take (4 * i) b ++ answerWords (answersOf (countedOf E q (requests c (drop (4 * i) rs))))
+      ≡ answerWords (answersOf (countedOf E p (requests c rs)))
   pub beyond : drop (4 * i) b ≡ drop (4 * i) bs
   pub size : length b ≡ length bs
 
-module _ (E : Engine) (p : Pool) (rs bs : Words) where
-  pub list-start : Running E p rs bs 0 p bs
+module _ (E : Engine) (p : Pool) (c : ℕ) (rs bs : Words) where
+  pub list-start : Running E p c rs bs 0 p bs
   list-start = record { pool = refl; answers = refl; beyond = refl; size = refl }
 
   pub list-next : (i : ℕ) (q q′ : Pool) (b b′ : Words) → 4 * i + 3 < length rs → 4 * i + 3 < length b
-      → q′ ≡ poolAfter E q (requestAt rs i) → b′ ≡ withAnswer b i (answerTo E q (requestAt rs i))
-      → Running E p rs bs i q b → Running E p rs bs (i + 1) q′ b′
+      → q′ ≡ poolAfter E q (requestAt c rs i) → b′ ≡ withAnswer b i (answerTo E q (requestAt c rs i))
+      → Running E p c rs bs i q b → Running E p c rs bs (i + 1) q′ b′
   list-next i q q′ b b′ h k e d v =
-      let a = requestAt rs i in
+      let a = requestAt c rs i in
       let x = answerTo E q a in
-      let from = requests-from rs i h in
-      let later = requests (drop (4 * (i + 1)) rs) in
+      let from = requests-from c rs i h in
+      let later = requests c (drop (4 * (i + 1)) rs) in
       let seam : 4 * i + 4 ≡ 4 * (i + 1) = omega arith in
       record {
         pool = ap (λ (z : Pool). poolAfterAll E z later) e ∙ ap (poolAfterAll E q) (sym from) ∙ v .pool;
@@ -101,12 +108,12 @@ module _ (E : Engine) (p : Pool) (rs bs : Words) where
       further y i =
           let e : 4 * (i + 1) ≡ 4 * i + 4 = omega arith in ap (λ (n : ℕ). drop n y) e ∙ sym (drop-drop 4 (4 * i) y)
 
-  pub list-end : (i : ℕ) (q : Pool) (b : Words) → length rs ≡ 4 * i → Running E p rs bs i q b
-      → (q ≡ poolAfterAll E p (requests rs))
-      × (b ≡ answerWords (answersOf (countedOf E p (requests rs))) ++ drop (length rs) bs)
+  pub list-end : (i : ℕ) (q : Pool) (b : Words) → length rs ≡ 4 * i → Running E p c rs bs i q b
+      → (q ≡ poolAfterAll E p (requests c rs))
+      × (b ≡ answerWords (answersOf (countedOf E p (requests c rs))) ++ drop (length rs) bs)
   list-end i q b h v =
       let gone : drop (4 * i) rs ≡ [] = drop-of-length-le rs {i = 4 * i} (omega arith) in
-      let none : requests (drop (4 * i) rs) ≡ [] = ap requests gone in (
+      let none : requests c (drop (4 * i) rs) ≡ [] = ap (requests c) gone in (
         ap (poolAfterAll E q) (sym none) ∙ v .pool,
         sym (take-append-drop (4 * i) b)
             ∙ ap₂ (λ (x y : Words). x ++ y)

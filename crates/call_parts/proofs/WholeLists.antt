@@ -1,6 +1,6 @@
 -- A list call as a whole, over any engine: what a list that suits has, a list that does not, and the shape that no act
 -- changes. Assumes nothing.
-use Prim.Native.Nat.{_%_, _≤_}
+use Prim.Native.Nat.{ℕ, _%_, _≤_}
 use native.Mathlib.Omega.{arith}
 use mathlib.Core.Path.{_≡_, refl, sym, _∙_}
 use mathlib.Core.Bool.{true, false, _&&_, false≢true}
@@ -31,18 +31,18 @@ module _ (E : Engine) where
   pub same-shape : (p : Pool) (a : Act) → poolAfter E p a .shape ≡ p .shape
   unfolding store grant
   same-shape =
-      act-by E (λ (p : Pool) (a : Act) (q : Pool). q .shape ≡ p .shape) (λ p a. refl) (λ p n k h. refl)
+      act-by E (λ (p : Pool) (a : Act) (q : Pool). q .shape ≡ p .shape) (λ p a. refl) (λ p c n k h. refl)
       (λ p x r h. refl)
 
-  pub unsuited-list : (p : Pool) (rs bs : Words) → E .known (p .shape) ≡ true → listSuits rs bs ≡ false
-      → step E (list rs bs) p ≡ refusedBy E (list rs bs) p 8
-  unsuited-list p rs bs k e =
-      step-stops E (list rs bs) p 8
-      (gate-number E (list rs bs) p .eight .1
+  pub unsuited-list : (p : Pool) (c : ℕ) (rs bs : Words) → E .known (p .shape) ≡ true → listSuits rs bs ≡ false
+      → step E (list c rs bs) p ≡ refusedBy E (list c rs bs) p 8
+  unsuited-list p c rs bs k e =
+      step-stops E (list c rs bs) p 8
+      (gate-number E (list c rs bs) p .eight .1
       (k, false-of (lengths E p && listSuits rs bs) (λ h. false≢true (sym e ∙ and-r (lengths E p) (listSuits rs bs) h))))
       (λ z. omega arith)
 
-  pub unknown-list : (p : Pool) (rs bs : Words) → E .known (p .shape) ≡ false
-      → step E (list rs bs) p ≡ refusedBy E (list rs bs) p 11
-  unknown-list p rs bs k =
-      step-stops E (list rs bs) p 11 (gate-number E (list rs bs) p .eleven .1 k) (λ z. omega arith)
+  pub unknown-list : (p : Pool) (c : ℕ) (rs bs : Words) → E .known (p .shape) ≡ false
+      → step E (list c rs bs) p ≡ refusedBy E (list c rs bs) p 11
+  unknown-list p c rs bs k =
+      step-stops E (list c rs bs) p 11 (gate-number E (list c rs bs) p .eleven .1 k) (λ z. omega arith)

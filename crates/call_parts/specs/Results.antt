@@ -33,11 +33,11 @@ module _ (E : Engine) where
   abbrev pub acted : Act → Pool → Result
   acted a p = result (answerTo E p a) (poolAfter E p a) []
 
-  -- of a list's requests on a sound pool: the pool, and the answer buffer
-  abbrev pub ran : Words → Words → Pool → Pool × Words
-  ran rs bs p = (
-    poolAfterAll E p (requests rs),
-    answerWords (answersOf (countedOf E p (requests rs))) ++ drop (length rs) bs,
+  -- of the requests of party c's list on a sound pool: the pool, and the answer buffer
+  abbrev pub ran : ℕ → Words → Words → Pool → Pool × Words
+  ran c rs bs p = (
+    poolAfterAll E p (requests c rs),
+    answerWords (answersOf (countedOf E p (requests c rs))) ++ drop (length rs) bs,
   )
 
 -- ---- slices, over what a word is to the code

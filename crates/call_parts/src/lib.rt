@@ -8,13 +8,14 @@ ghost use lib.ListN.{length, getD, set};
 ghost use Rattle.ledger.specs.Records.{recordsOf};
 ghost use Rattle.calls.specs.Pool.{nextAfter};
 ghost use Rattle.calls.specs.Step.{success, refusal, listSuits};
-ghost use Rattle.call_parts.specs.Parts.{formatNumber, namedIn, actOf, requestAt, withAnswer};
+ghost use Rattle.call_parts.specs.Parts.{formatNumber, withParty, namedIn, actOf, requestAt, withAnswer};
 
 // An empty slot of the table; and what a call that makes or names no record succeeds with.
 pub const EMPTY_ROW: Row = Row {
     ticket: 0,
     address: 0,
     words: 0,
+    party: 0,
 };
 
 // A refusal: ticket, address and words are 0.
@@ -68,7 +69,21 @@ pub fn format_number(known: bool, right: bool, first: u32) -> u32
     0
 }
 
-// The slot of the record that a call names, or the number of the refusal: 6 or 7.
+// The number that stops a call of this party, where the pool's own number is given: 12 comes after 11, 8 and 1; 0 lets
+// it pass.
+pub fn with_party(number: u32, party: u32) -> u32
+    ensures { λ r. ⌜ r ≡ withParty number party ⌝ }
+{
+    if number != 0 {
+        return number;
+    }
+    if !record_table::is_party(party) {
+        return 12;
+    }
+    0
+}
+
+// The slot of the record that a call names, or the number of the refusal: 6, for another party's record too, or 7.
 pub enum Named {
     Slot(usize),
     Refused(u32),
@@ -81,6 +96,9 @@ pub fn named_slot(table: &[u32], named: Row) -> Named
         Found::Nothing => Named::Refused(6),
         Found::At(i) => {
             let r = record_table::read_row(table, i);
+            if r.party != named.party {
+                return Named::Refused(6);
+            }
             if (r.address == named.address) & (r.words == named.words) {
                 return Named::Slot(i);
             }
@@ -89,30 +107,31 @@ pub fn named_slot(table: &[u32], named: Row) -> Named
     }
 }
 
-// A request of a list.
+// A request of a list: party and words of an allocation, or the record that a release names.
 pub enum Request {
-    Ask(u32),
+    Ask(u32, u32),
     Give(Row),
     Bad,
 }
 
-// Request i, four words from word 4i on.
-pub fn request_at(requests: &[u32], i: usize) -> Request
+// Request i of a party's list, four words from word 4i on.
+pub fn request_at(requests: &[u32], party: u32, i: usize) -> Request
     requires { ⌜ 4 * i + 3 < length (now requests) ⌝ }
-    ensures { λ r. ⌜ actOf r ≡ requestAt (now (requests .entry)) i ⌝ }
+    ensures { λ r. ⌜ actOf r ≡ requestAt party (now (requests .entry)) i ⌝ }
 {
     let kind = requests[4 * i];
     let x = requests[4 * i + 1];
     let y = requests[4 * i + 2];
     let z = requests[4 * i + 3];
     if (kind == 1) & (y == 0) & (z == 0) {
-        return Request::Ask(x);
+        return Request::Ask(party, x);
     }
     if kind == 2 {
         return Request::Give(Row {
             ticket: x,
             address: y,
             words: z,
+            party,
         });
     }
     Request::Bad

@@ -10,7 +10,7 @@ use mathlib.Core.Option.{Option, none, some}
 use lib.Dec.{eqb, ltb}
 use Rattle.words.proofs.Tests.{and-l, and-r, eqb-eq, eqb-same, eqb-ne, absurd-some}
 use Rattle.ledger.specs.declared.Row.{Row}
-use Rattle.ledger.specs.Records.{Ledger, recordOf, sameBlock, full, Plan, vacate}
+use Rattle.ledger.specs.Records.{Ledger, isParty, recordOf, sameBlock, full, Plan, vacate}
 use Rattle.ledger.proofs.RecordLaws.{record-ticket}
 use Rattle.calls.specs.declared.Answer.{Answer}
 use Rattle.calls.specs.Pool.{Pool, ledger, Engine}
@@ -24,31 +24,35 @@ pub named-none : (L : Ledger) (r : Row) → recordOf (r .ticket) L ≡ none → 
 unfolding named
 named-none L r e = rw (e, named)
 
-pub named-some : (L : Ledger) (r s : Row) → recordOf (r .ticket) L ≡ some s → named L r ≡ cond (sameBlock s r) 0 7
+pub named-some : (L : Ledger) (r s : Row) → recordOf (r .ticket) L ≡ some s
+    → named L r ≡ cond (eqb (s .party) (r .party)) (cond (sameBlock s r) 0 7) 6
 unfolding named
 named-some L r s e = rw (e, named)
 
-same-block : (s r : Row) → s .ticket ≡ r .ticket → sameBlock s r ≡ true → s ≡ r
-same-block s r t h =
+same-block : (s r : Row) → s .ticket ≡ r .ticket → s .party ≡ r .party → sameBlock s r ≡ true → s ≡ r
+same-block s r t c h =
     let a = eqb-eq (s .address) (r .address) (and-l (eqb (s .address) (r .address)) (eqb (s .words) (r .words)) h) in
     let w = eqb-eq (s .words) (r .words) (and-r (eqb (s .address) (r .address)) (eqb (s .words) (r .words)) h) in
-    λ i. record { ticket = t i; address = a i; words = w i }
+    λ i. record { ticket = t i; address = a i; words = w i; party = c i }
 
 -- it is 0 exactly if the ticket's record is the one named
 pub named-right : (L : Ledger) (r : Row) → recordOf (r .ticket) L ≡ some r → named L r ≡ 0
-named-right L r e = named-some L r r e ∙ rw (eqb-same (r .address), eqb-same (r .words))
+named-right L r e = named-some L r r e ∙ rw (eqb-same (r .party), eqb-same (r .address), eqb-same (r .words))
 
 pub named-zero : (L : Ledger) (r : Row) → named L r ≡ 0 → recordOf (r .ticket) L ≡ some r
 named-zero L r z = go (recordOf (r .ticket) L) refl
   where
-    last : (s : Row) → recordOf (r .ticket) L ≡ some s → (b : Bool) → sameBlock s r ≡ b → _≡_ {A = ℕ} (cond b 0 7) 0
+    last : (s : Row) → recordOf (r .ticket) L ≡ some s → (c : Bool) → eqb (s .party) (r .party) ≡ c
+        → (b : Bool) → sameBlock s r ≡ b → _≡_ {A = ℕ} (cond c (cond b 0 7) 6) 0
         → recordOf (r .ticket) L ≡ some r
-    last s e true q h = e ∙ ap some (same-block s r (record-ticket (r .ticket) L s e .1) q)
-    last s e false q h = absurd (omega arith)
+    last s e true y true q h =
+        e ∙ ap some (same-block s r (record-ticket (r .ticket) L s e .1) (eqb-eq (s .party) (r .party) y) q)
+    last s e true y false q h = absurd (omega arith)
+    last s e false y b q h = absurd (omega arith)
 
     go : (o : Option Row) → recordOf (r .ticket) L ≡ o → recordOf (r .ticket) L ≡ some r
     go none e = let six = named-none L r e in absurd (omega arith)
-    go (some s) e = last s e (sameBlock s r) refl (sym (named-some L r s e) ∙ z)
+    go (some s) e = last s e (eqb (s .party) (r .party)) refl (sameBlock s r) refl (sym (named-some L r s e) ∙ z)
 
 -- ---- one act
 
@@ -57,7 +61,8 @@ abbrev pub planned : Plan → Row → Act
 planned vacate r = give r
 
 -- what a request that gets the number 0 says: every test of its rows fails
-pub record Asked (E : Engine) (p : Pool) (n k : ℕ) : Type 0 where
+pub record Asked (E : Engine) (p : Pool) (c n k : ℕ) : Type 0 where
+  pub party : isParty c ≡ true
   pub size : (eqb n 0 || ltb (E .limit (p .shape)) n) ≡ false
   pub slot : full (ledger p) ≡ false
   pub ticket : eqb (p .head .next) 0 ≡ false
@@ -73,50 +78,54 @@ module _ (E : Engine) (p : Pool) where
   unfolding answerTo poolAfter
   act-refused a z = (rw (eqb-ne (numberOf E p a) 0 z), rw (eqb-ne (numberOf E p a) 0 z))
 
-  -- the number of a request, test by test: 2, 3, 4, 5 or 0
-  module _ (n : ℕ) where
-    pub number-two : (eqb n 0 || ltb (E .limit (p .shape)) n) ≡ true → numberOf E p (ask n) ≡ 2
+  -- the number of a party's request, test by test: 2, 3, 4, 5 or 0
+  module _ (c n : ℕ) (party : isParty c ≡ true) where
+    pub number-two : (eqb n 0 || ltb (E .limit (p .shape)) n) ≡ true → numberOf E p (ask c n) ≡ 2
     unfolding numberOf
-    number-two size = rw size
+    number-two size = rw (party, size)
 
     module _ (size : (eqb n 0 || ltb (E .limit (p .shape)) n) ≡ false) where
-      pub number-three : full (ledger p) ≡ true → numberOf E p (ask n) ≡ 3
+      pub number-three : full (ledger p) ≡ true → numberOf E p (ask c n) ≡ 3
       unfolding numberOf
-      number-three slot = rw (size, slot)
+      number-three slot = rw (party, size, slot)
 
       module _ (slot : full (ledger p) ≡ false) where
-        pub number-four : eqb (p .head .next) 0 ≡ true → numberOf E p (ask n) ≡ 4
+        pub number-four : eqb (p .head .next) 0 ≡ true → numberOf E p (ask c n) ≡ 4
         unfolding numberOf
-        number-four ticket = rw (size, slot, ticket)
+        number-four ticket = rw (party, size, slot, ticket)
 
-        pub number-five : eqb (p .head .next) 0 ≡ false → fitOf E p n ≡ none → numberOf E p (ask n) ≡ 5
+        pub number-five : eqb (p .head .next) 0 ≡ false → fitOf E p n ≡ none → numberOf E p (ask c n) ≡ 5
         unfolding numberOf
-        number-five ticket fit = rw (size, slot, ticket, fit, numberOf)
+        number-five ticket fit = rw (party, size, slot, ticket, fit, numberOf)
 
-  pub zero-ask : (n k : ℕ) → Asked E p n k → numberOf E p (ask n) ≡ 0
+  pub zero-ask : (c n k : ℕ) → Asked E p c n k → numberOf E p (ask c n) ≡ 0
   unfolding numberOf
-  zero-ask n k a = rw (a .size, a .slot, a .ticket, a .fit)
+  zero-ask c n k a = rw (a .party, a .size, a .slot, a .ticket, a .fit)
 
-  pub ask-zero : (n : ℕ) → numberOf E p (ask n) ≡ 0 → (k : ℕ) × Asked E p n k
+  pub ask-zero : (c n : ℕ) → numberOf E p (ask c n) ≡ 0 → (k : ℕ) × Asked E p c n k
   unfolding numberOf
-  ask-zero n z =
-      go (eqb n 0 || ltb (E .limit (p .shape)) n) refl (full (ledger p)) refl (eqb (p .head .next) 0) refl
-      (fitOf E p n) refl z
+  ask-zero c n z =
+      go (isParty c) refl (eqb n 0 || ltb (E .limit (p .shape)) n) refl (full (ledger p)) refl
+      (eqb (p .head .next) 0) refl (fitOf E p n) refl z
     where
-      go : (a : Bool) → (eqb n 0 || ltb (E .limit (p .shape)) n) ≡ a → (b : Bool) → full (ledger p) ≡ b
-          → (c : Bool) → eqb (p .head .next) 0 ≡ c → (o : Option ℕ) → fitOf E p n ≡ o
-          → _≡_ {A = ℕ} (cond a 2 (cond b 3 (cond c 4 (elim o [ none ↦ 5 | some k ↦ 0 ])))) 0 → (k : ℕ) × Asked E p n k
-      go true s b t c u o f h = absurd (omega arith)
-      go false s true t c u o f h = absurd (omega arith)
-      go false s false t true u o f h = absurd (omega arith)
-      go false s false t false u none f h = absurd (omega arith)
-      go false s false t false u (some k) f h = (k, record { size = s; slot = t; ticket = u; fit = f })
+      go : (x : Bool) → isParty c ≡ x → (a : Bool) → (eqb n 0 || ltb (E .limit (p .shape)) n) ≡ a
+          → (b : Bool) → full (ledger p) ≡ b → (d : Bool) → eqb (p .head .next) 0 ≡ d
+          → (o : Option ℕ) → fitOf E p n ≡ o
+          → _≡_ {A = ℕ} (cond x (cond a 2 (cond b 3 (cond d 4 (elim o [ none ↦ 5 | some k ↦ 0 ])))) 12) 0
+          → (k : ℕ) × Asked E p c n k
+      go false y a s b t d u o f h = absurd (omega arith)
+      go true y true s b t d u o f h = absurd (omega arith)
+      go true y false s true t d u o f h = absurd (omega arith)
+      go true y false s false t true u o f h = absurd (omega arith)
+      go true y false s false t false u none f h = absurd (omega arith)
+      go true y false s false t false u (some k) f h =
+          (k, record { party = y; size = s; slot = t; ticket = u; fit = f })
 
-  pub ask-done : (n k : ℕ) → Asked E p n k
-      → (answerTo E p (ask n) ≡ success (newRow E p n k)) × (poolAfter E p (ask n) ≡ grant E p n k)
+  pub ask-done : (c n k : ℕ) → Asked E p c n k
+      → (answerTo E p (ask c n) ≡ success (newRow E p c n k)) × (poolAfter E p (ask c n) ≡ grant E p c n k)
   unfolding answerDone poolDone
-  ask-done n k a =
-      let (x, y) = act-done (ask n) (zero-ask n k a) in
+  ask-done c n k a =
+      let (x, y) = act-done (ask c n) (zero-ask c n k a) in
       (x ∙ rw (a .fit, answerDone), y ∙ rw (a .fit, poolDone))
 
   -- a plan carried out on the record r
@@ -131,7 +140,7 @@ module _ (E : Engine) (p : Pool) where
   answer-number a = go a (ℕ-discrete (numberOf E p a) 0)
     where
       done : (a : Act) → numberOf E p a ≡ 0 → answerTo E p a .number ≡ 0
-      done (ask n) z = let (k, h) = ask-zero n z in ap (λ (x : Answer). x .number) (ask-done n k h .0)
+      done (ask c n) z = let (k, h) = ask-zero c n z in ap (λ (x : Answer). x .number) (ask-done c n k h .0)
       done (give r) z = ap (λ (x : Answer). x .number) (act-done (give r) z .0)
       done (query r) z = ap (λ (x : Answer). x .number) (act-done (query r) z .0)
       done bad z = absurd (omega arith)
@@ -146,7 +155,7 @@ module _ (E : Engine) (p : Pool) where
 -- what holds of a pool that stays, of a grant and of a plan carried out holds of every act
 pub act-by : (E : Engine) (P : Pool → Act → Pool → Type 0)
     → ((p : Pool) (a : Act) → P p a p)
-    → ((p : Pool) (n k : ℕ) → Asked E p n k → P p (ask n) (grant E p n k))
+    → ((p : Pool) (c n k : ℕ) → Asked E p c n k → P p (ask c n) (grant E p c n k))
     → ((p : Pool) (q : Plan) (r : Row) → recordOf (r .ticket) (ledger p) ≡ some r
     → P p (planned q r) (carry E p (r .ticket) q))
     → (p : Pool) (a : Act) → P p a (poolAfter E p a)
@@ -155,9 +164,9 @@ act-by E P stays grants carries p a = go a (ℕ-discrete (numberOf E p a) 0)
   where
     go : (a : Act) → Dec (numberOf E p a ≡ 0) → P p a (poolAfter E p a)
     go a (no z) = subst (P p a) (sym (act-refused E p a z .1)) (stays p a)
-    go (ask n) (yes z) =
-        let (k, h) = ask-zero E p n z in
-        subst (P p (ask n)) (sym (ask-done E p n k h .1)) (grants p n k h)
+    go (ask c n) (yes z) =
+        let (k, h) = ask-zero E p c n z in
+        subst (P p (ask c n)) (sym (ask-done E p c n k h .1)) (grants p c n k h)
     go (give r) (yes z) =
         let e = named-zero (ledger p) r z in
         subst (P p (give r)) (sym (plan-done E p vacate r e .1)) (carries p vacate r e)
@@ -183,6 +192,6 @@ kind-plans a q r e = go a (ap backTo e)
   where
     go : (a : Act) → backTo (kindOf a) ≡ some (planned q r) → a ≡ planned q r
     go (give s) x = cc
-    go (ask n) x = absurd (absurd-some x)
+    go (ask c n) x = absurd (absurd-some x)
     go (query s) x = absurd (absurd-some x)
     go bad x = absurd (absurd-some x)

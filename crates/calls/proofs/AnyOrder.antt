@@ -24,7 +24,7 @@ use Rattle.calls.proofs.StoreLaws.{settled, settled-none}
 use Rattle.calls.proofs.GateLaws.{step-sound}
 use Rattle.calls.proofs.LentLaws.{whole-brings, whole-table, outcome-is}
 use Rattle.calls.proofs.ProgressLaws.{plan-other, plan-removed, Inv, given}
-use Rattle.calls.proofs.WholeCalls.{all-own, due-after, due-act, whole-sound}
+use Rattle.calls.proofs.WholeCalls.{all-own, due-after, due-act, some-party, whole-sound}
 use Rattle.calls.proofs.Demand3.{settled-fits, start-inv, Moved, event}
 
 -- an outcome with the pool p
@@ -104,7 +104,7 @@ module _ (E : Engine) (laws : Laws E) (p : Pool) (ok : sound E p ≡ true) (ms :
         ap (λ (o : Outcome). o .counted) (
         outcome-is E q here
         ∙ ap (λ (z : Pool). step E (release r) z) (whole-brings q here (is-whole (s .done) q e (release r)))
-        ∙ step-sound E (release r) q refl refl (whole-sound E laws p ok ms s q e v))
+        ∙ step-sound E (release r) q refl refl (whole-sound E laws p ok ms s q e v) (some-party E laws p ok r right))
 
     stand : standAll (ledger p) (brings q here) s (outcome E q here .counted) ≡ true
     unfolding stands

@@ -2,20 +2,19 @@
 use Prim.Native.Nat.{ℕ}
 use mathlib.Core.Path.{_≡_, refl, sym, ap, _∙_}
 use mathlib.Core.Logic.{_≢_}
-use mathlib.Core.Bool.{Bool, true, false, cond, true≢false, false≢true}
-use mathlib.Core.List.{List}
+use mathlib.Core.Bool.{Bool, true, false, cond, _&&_, true≢false, false≢true}
+use mathlib.Core.List.{List, [], _∷_}
 use lib.Dec.{eqb}
-use Rattle.words.specs.Lists.{Words}
-use Rattle.words.proofs.Tests.{eqb-false}
+use Rattle.words.specs.Lists.{Words, all}
+use Rattle.words.proofs.Tests.{and-i, eqb-false}
 use Rattle.ledger.specs.declared.Row.{Row}
-use Rattle.ledger.specs.Records.{Plan, vacate}
-use Rattle.calls.specs.Pool.{Pool, ledger, Engine, sound}
-use Rattle.calls.specs.Step.{Call, format, single, look, list, refusal, accepted, Act, ask, give, query, bad}
+use Rattle.ledger.specs.Records.{row, isParty, Plan, vacate}
+use Rattle.calls.specs.Pool.{Pool, ledger, Engine}
+use Rattle.calls.specs.Step.{Call, format, copy, single, look, list, refusal, accepted, Act, ask, give, query, bad}
 use Rattle.calls.specs.Step.{Kind, plans, reads, others, kindOf, Counted, named, numberOf, poolDone, answerTo}
 use Rattle.calls.specs.Step.{poolAfter, countedOf, poolAfterAll, actsOf, buffersOf, fills, ownAnswer}
-use Rattle.calls.specs.Step.{buffersAfter, asOne, countedWhole, gate, refusedBy}
+use Rattle.calls.specs.Step.{buffersAfter, request, requests, partyOf, partyGiven, rightParty, partied, refusedBy}
 use Rattle.calls.proofs.ActLaws.{planned, act-refused, act-accepted, kind-plans}
-use Rattle.calls.proofs.GateLaws.{gate-sound}
 
 module _ (E : Engine) where
   -- a refused act leaves the pool as it was
@@ -37,7 +36,7 @@ module _ (E : Engine) where
       same false = refl
 
       go : (a : Act) → isReading (kindOf a) ≡ true → poolAfter E q a ≡ q
-      go (ask n) k = absurd (false≢true k)
+      go (ask c n) k = absurd (false≢true k)
       go (give r) k = absurd (false≢true k)
       go (query r) k = same (eqb (numberOf E q (query r)) 0)
       go bad k = absurd (false≢true k)
@@ -54,31 +53,60 @@ module _ (E : Engine) where
 -- a call that the gate refuses leaves the pool, unless it fills memory anew
 pub refused-pool : (E : Engine) (c : Call Words) (q : Pool) (n : ℕ) → fills c ≡ false → refusedBy E c q n .pool ≡ q
 refused-pool E (format first) q n f = absurd (true≢false f)
+refused-pool E (copy old) q n f = absurd (true≢false f)
 refused-pool E (single a) q n f = refl
 refused-pool E (look r hold) q n f = refl
-refused-pool E (list rs bs) q n f = refl
+refused-pool E (list c rs bs) q n f = refl
 
 -- a call that is refused by its own answer left the pool, if it did its acts
 pub own-refused : (E : Engine) (c : Call Words) (q : Pool) → fills c ≡ false
     → accepted (ownAnswer c (countedOf E q (actsOf c))) ≡ false
     → poolAfterAll E q (actsOf c) ≡ q
 own-refused E (format first) q h f = absurd (true≢false h)
+own-refused E (copy old) q h f = absurd (true≢false h)
 own-refused E (single a) q h f = act-kept E q a f
 own-refused E (look r hold) q h f = act-kept E q (query r) f
-own-refused E (list rs bs) q h f = absurd (true≢false f)
+own-refused E (list c rs bs) q h f = absurd (true≢false f)
 
 -- where the call did its acts unaccepted, there was no buffer to write
 pub own-buffers : (c : Call Words) (cs : List Counted) → accepted (ownAnswer c cs) ≡ false
     → buffersAfter c cs ≡ buffersOf c
 own-buffers (format first) cs f = refl
+own-buffers (copy old) cs f = refl
 own-buffers (single a) cs f = refl
 own-buffers (look r hold) cs f = refl
-own-buffers (list rs bs) cs f = absurd (true≢false f)
+own-buffers (list c rs bs) cs f = absurd (true≢false f)
 
--- where the gate of a sound pool stops a call, it is a list call or one that fills memory, and counts as one call
-pub stopped-whole : (E : Engine) (c : Call Words) (q : Pool) → sound E q ≡ true → gate E c q ≢ 0 → (n : ℕ)
-    → countedWhole c n ≡ asOne (refusal n)
-stopped-whole E (format first) q ok g n = refl
-stopped-whole E (single a) q ok g n = absurd (g (gate-sound E (single a) q refl refl ok))
-stopped-whole E (look r hold) q ok g n = absurd (g (gate-sound E (look r hold) q refl refl ok))
-stopped-whole E (list rs bs) q ok g n = refl
+-- ---- the party of an act
+
+-- of one that carries out a plan: the party that names the record
+pub plan-party : (a : Act) (x : Plan) (r : Row) → kindOf a ≡ plans x r → rightParty (partyOf a) ≡ isParty (r .party)
+plan-party a x r k = ap (λ (z : Act). rightParty (partyOf z)) (kind-plans a x r k) ∙ by x
+  where
+    by : (x : Plan) → rightParty (partyOf (planned x r)) ≡ isParty (r .party)
+    by vacate = refl
+
+-- a party's list asks for that party
+pub request-partied : (c k x y z : ℕ) → isParty c ≡ true → partied (request c k x y z) ≡ true
+request-partied c k x y z h = go (eqb k 1 && eqb y 0 && eqb z 0) (eqb k 2)
+  where
+    go : (a b : Bool) → partied (cond a (ask c x) (cond b (give (row x y z c)) bad)) ≡ true
+    go true b = h
+    go false true = h
+    go false false = refl
+
+-- all acts of a call that gives a party have it
+pub acts-partied : (c : Call Words) → rightParty (partyGiven c) ≡ true → all partied (actsOf c) ≡ true
+acts-partied (format first) h = refl
+acts-partied (copy old) h = refl
+acts-partied (single a) h = and-i (partied a) true h refl
+acts-partied (look r hold) h = and-i (isParty (r .party)) true h refl
+acts-partied (list c rs bs) h = go rs
+  where
+    go : (rs : Words) → all partied (requests c rs) ≡ true
+    go [] = refl
+    go (k ∷ []) = refl
+    go (k ∷ x ∷ []) = refl
+    go (k ∷ x ∷ y ∷ []) = refl
+    go (k ∷ x ∷ y ∷ z ∷ more) =
+        and-i (partied (request c k x y z)) (all partied (requests c more)) (request-partied c k x y z h) (go more)

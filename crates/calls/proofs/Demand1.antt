@@ -1,31 +1,38 @@
 -- Demand 1, proved over any engine that keeps the laws. Assumes nothing.
-use Prim.Native.Nat.{ℕ, zero, _%_, _≤_}
+use Prim.Native.Nat.{ℕ, zero, _*_, _/_, _%_, _≤_, _<_}
 use native.Mathlib.Omega.{arith}
 use mathlib.Core.Path.{_≡_, refl, sym, ap, _∙_, subst}
-use mathlib.Core.Logic.{_≢_, _↔_, inl}
-use mathlib.Core.Bool.{Bool, true, false, cond, not, _&&_, _||_, true≢false, false≢true}
+use mathlib.Core.Logic.{_≢_, _↔_, _⊎_, inl, inr}
+use mathlib.Core.Bool.{Bool, true, false, cond, not, _&&_, _||_, true≢false, false≢true, and-false}
 use mathlib.Core.Option.{Option, none, some}
-use lib.Dec.{eqb, ltb}
+use lib.Dec.{eqb, leb, ltb}
 use lib.ListN.{length}
 use Rattle.words.specs.Flags.{Says}
 use Rattle.words.specs.Lists.{Words}
-use Rattle.words.proofs.Tests.{and-l, and-r, and-i, eqb-eq, eqb-ne, eqb-false, false-of, le-of, of-le, absurd-some}
+use Rattle.words.proofs.Tests.{and-l, and-r, and-i, eqb-eq, eqb-ne, eqb-same, eqb-false, false-of, le-of, of-le, not-le}
+use Rattle.words.proofs.Tests.{of-gt, absurd-some}
+use Rattle.words.proofs.ListLaws.{length-listFrom}
 use Rattle.ledger.specs.declared.Row.{Row}
-use Rattle.ledger.specs.Records.{recordOf, sameBlock, full}
+use Rattle.ledger.specs.Records.{isParty, recordWords, tableOf, recordOf, sameBlock, full}
+use Rattle.ledger.proofs.RecordLaws.{length-tableOf, records-table}
 use Rattle.calls.specs.declared.Answer.{Answer}
-use Rattle.calls.specs.Pool.{Pool, ledger, wordCount, Engine, Laws, StoredForm, ruleOf, lengths, stored, sound}
-use Rattle.calls.specs.Step.{Call, format, single, find, look, list, refusal, accepted, arenaPart, placeholder}
-use Rattle.calls.specs.Step.{Act, ask, give, query, bad, Outcome, listSuits, named, fitOf, numberOf, answerTo}
-use Rattle.calls.specs.Step.{poolAfter, buffersOf, suits, fills, shownBy, gate, refusedHead, refusedBy, actsDone}
-use Rattle.calls.specs.Step.{behind, perform, step}
+use Rattle.calls.specs.Pool.{Pool, withTable, ledger, wordCount, Engine, Laws, StoredForm, ruleOf, lengths, stored}
+use Rattle.calls.specs.Pool.{sound}
+use Rattle.calls.specs.Step.{Call, format, copy, single, find, look, list, zeroAnswer, refusal, accepted, arenaPart}
+use Rattle.calls.specs.Step.{placeholder, Act, ask, give, query, bad, Outcome, listSuits, oldWords, widenedAt}
+use Rattle.calls.specs.Step.{copied, copySuits, named, fitOf, numberOf, answerTo, poolAfter, buffersOf, suits}
+use Rattle.calls.specs.Step.{fills, partyGiven, rightParty, partied, shownBy, knownForm, rightLengths, behind, gate}
+use Rattle.calls.specs.Step.{refusedHead, refusedBy, copyDone, actsDone, perform, step}
 use Rattle.calls.specs.Demand1.{BadSize, NoRecord, NoTicket, NoRoom, Unknown, Same, AskNumbers, NameNumbers}
-use Rattle.calls.specs.Demand1.{ActNumbers, FormatNumbers, Refused, Performed, RequestForms, Demand1}
+use Rattle.calls.specs.Demand1.{ActNumbers, BadParty, FormatNumbers, Copies, Refused, Performed, RequestForms}
+use Rattle.calls.specs.Demand1.{Demand1}
 use Rattle.calls.proofs.StoreLaws.{sound-valid, sound-form}
-use Rattle.calls.proofs.RowLaws.{size-test, record-test, ticket-test, room-test, unknown-test, record-same}
-use Rattle.calls.proofs.RowLaws.{same-record}
+use Rattle.calls.proofs.RowLaws.{size-test, record-test, ticket-test, room-test, unknown-none, unknown-other}
+use Rattle.calls.proofs.RowLaws.{known-own, record-same, same-record}
 use Rattle.calls.proofs.ActLaws.{named-none, named-some, named-right, named-zero, act-refused, answer-number}
 use Rattle.calls.proofs.ActLaws.{counted-append}
-use Rattle.calls.proofs.GateLaws.{Way, stops, runs, way, both, neither, GateNumber, gate-number, step-sound}
+use Rattle.calls.proofs.GateLaws.{Way, stops, runs, way, both, neither, GateNumber, gate-number, lengths-lent}
+use Rattle.calls.proofs.GateLaws.{sound-gate, step-sound}
 use Rattle.calls.proofs.CallLaws.{reads-kept}
 
 -- a test that fails, and what it says
@@ -96,50 +103,76 @@ ask-rows E p n false false false (some k) s r t f =
 name-rows : (E : Engine) → Laws E → (p : Pool) → sound E p ≡ true → (r : Row) → NameNumbers p r (named (ledger p) r)
 name-rows E laws p ok r = go (recordOf (r .ticket) (ledger p)) refl
   where
-    known : (s : Row) → recordOf (r .ticket) (ledger p) ≡ some s → Unknown p r → ⊥
-    known s e u = absurd-some (sym (unknown-test p r .1 u) ∙ e)
-
     held : r .ticket ≢ 0 → Same p r → named (ledger p) r ≡ 0
     held z h =
         named-right (ledger p) r
         (same-record (ruleOf E p) (wordCount p) (p .head .next) p (sound-valid E laws p ok) r z h)
 
-    same : (s : Row) → recordOf (r .ticket) (ledger p) ≡ some s → (b : Bool) → named (ledger p) r ≡ cond b 0 7
-        → NameNumbers p r (cond b 0 7)
-    same s e true x =
+    same : (Unknown p r → ⊥) → (b : Bool) → named (ledger p) r ≡ cond b 0 7 → NameNumbers p r (cond b 0 7)
+    same known true x =
         let right = record-same p r (named-zero (ledger p) r x) in
         record {
-          six = neither (λ h. omega arith) (known s e);
+          six = neither (λ h. omega arith) known;
           seven = neither (λ h. omega arith) (λ h. h .1 right);
-          zero = both refl (known s e, right);
+          zero = both refl (known, right);
         }
-    same s e false x =
-        let other : Same p r → ⊥ = λ h. let z = held (λ q. known s e (inl q)) h in omega arith in
+    same known false x =
+        let other : Same p r → ⊥ = λ h. let z = held (λ q. known (inl q)) h in omega arith in
         record {
-          six = neither (λ h. omega arith) (known s e);
-          seven = both refl (known s e, other);
+          six = neither (λ h. omega arith) known;
+          seven = both refl (known, other);
           zero = neither (λ h. omega arith) (λ h. other (h .1));
         }
 
+    six : Unknown p r → NameNumbers p r 6
+    six unknown = record {
+      six = both refl unknown;
+      seven = neither (λ h. omega arith) (λ h. h .0 unknown);
+      zero = neither (λ h. omega arith) (λ h. h .0 unknown);
+    }
+
+    -- the record of the ticket, by whether it is the party's
+    own : (s : Row) → recordOf (r .ticket) (ledger p) ≡ some s → (c : Bool) → eqb (s .party) (r .party) ≡ c
+        → named (ledger p) r ≡ cond c (cond (sameBlock s r) 0 7) 6
+        → NameNumbers p r (cond c (cond (sameBlock s r) 0 7) 6)
+    own s e true c x = same (known-own p r s e (eqb-eq (s .party) (r .party) c)) (sameBlock s r) x
+    own s e false c x =
+        six (unknown-other (ruleOf E p) (wordCount p) (p .head .next) p (sound-valid E laws p ok) r s e
+        (eqb-false (s .party) (r .party) c))
+
     go : (o : Option Row) → recordOf (r .ticket) (ledger p) ≡ o → NameNumbers p r (named (ledger p) r)
-    go none e =
-        let unknown = unknown-test p r .0 e in
-        rw (named-none (ledger p) r e)
-        (record {
-          six = both refl unknown;
-          seven = neither (λ h. omega arith) (λ h. h .0 unknown);
-          zero = neither (λ h. omega arith) (λ h. h .0 unknown);
-        })
-    go (some s) e = let x = named-some (ledger p) r s e in rw x (same s e (sameBlock s r) x)
+    go none e = rw (named-none (ledger p) r e) (six (unknown-none p r e))
+    go (some s) e = let x = named-some (ledger p) r s e in rw x (own s e (eqb (s .party) (r .party)) refl x)
 
 pub act-numbers : (E : Engine) → Laws E → (p : Pool) (a : Act) → sound E p ≡ true → ActNumbers E p a (numberOf E p a)
 unfolding numberOf
-act-numbers E laws p (ask n) ok =
-    ask-rows E p n (eqb n 0 || ltb (E .limit (p .shape)) n) (full (ledger p)) (eqb (p .head .next) 0) (fitOf E p n)
-    (size-test E p n) (record-test p) (ticket-test p) (room-test E p n)
+act-numbers E laws p (ask c n) ok = (
+  (λ h. rw h),
+  (λ h. rw h (ask-rows E p n (eqb n 0 || ltb (E .limit (p .shape)) n) (full (ledger p)) (eqb (p .head .next) 0)
+      (fitOf E p n) (size-test E p n) (record-test p) (ticket-test p) (room-test E p n))),
+)
 act-numbers E laws p (give r) ok = name-rows E laws p ok r
 act-numbers E laws p (query r) ok = name-rows E laws p ok r
 act-numbers E laws p bad ok = refl
+
+-- ---- 12
+
+party-test : (o : Option ℕ) → (rightParty o ≡ false) ↔ ((x : ℕ) × (o ≡ some x) × ((x ≡ 0) ⊎ (255 < x)))
+unfolding isParty
+party-test none = neither true≢false (λ h. absurd-some (h .1))
+party-test (some c) = (
+  (λ h. (c, refl, go (leb 1 c) (leb c 255) refl refl h)),
+  (λ h. let same : h .0 ≡ c = let e = h .1 in cc in ap isParty (sym same) ∙ none-is (h .0) (h .2)),
+)
+  where
+    go : (a b : Bool) → leb 1 c ≡ a → leb c 255 ≡ b → (a && b) ≡ false → (c ≡ 0) ⊎ (255 < c)
+    go true true x y h = absurd (true≢false h)
+    go true false x y h = inr (not-le c 255 y)
+    go false b x y h = inl (let l = not-le 1 c x in omega arith)
+
+    none-is : (x : ℕ) → (x ≡ 0) ⊎ (255 < x) → isParty x ≡ false
+    none-is x (inl z) = rw z
+    none-is x (inr l) = rw (of-gt x 255 l, and-false (leb 1 x))
 
 -- ---- a refused call
 
@@ -190,10 +223,11 @@ module _ (E : Engine) where
   refused-run : (c : Call Words) (p : Pool) → accepted (perform E c p .answer) ≡ false → Refused E c p (perform E c p)
   unfolding perform actsDone
   refused-run (format first) p h = absurd (true≢false h)
+  refused-run (copy old) p h = absurd (true≢false h)
   refused-run (single a) p h = refused-one (single a) p a (perform E (single a) p) refl refl refl refl refl h
   refused-run (look r hold) p h =
       refused-one (look r hold) p (query r) (perform E (look r hold) p) refl refl refl refl refl h
-  refused-run (list rs bs) p h = absurd (true≢false h)
+  refused-run (list c rs bs) p h = absurd (true≢false h)
 
   pub refused-step : (c : Call Words) (p : Pool) → accepted (step E c p .answer) ≡ false → Refused E c p (step E c p)
   refused-step c p h = by (step E c p) (way E c p) h
@@ -203,15 +237,15 @@ module _ (E : Engine) where
       by o (runs g e) h =
           subst (Refused E c p) (sym e) (refused-run c p (ap (λ (q : Outcome). accepted (q .answer)) (sym e) ∙ h))
 
-  -- ---- 8 and 1
+  -- ---- 11, 8, 1 and 12
 
-  -- the numbers that an act can get: neither 8 nor 1
+  -- the numbers that an act of a party can get: none of these
   ofAct : ℕ → Bool
-  ofAct x = not (eqb x 1) && not (eqb x 8) && not (eqb x 11)
+  ofAct x = not (eqb x 1) && not (eqb x 8) && not (eqb x 11) && not (eqb x 12)
 
-  act-number : (p : Pool) (a : Act) → ofAct (numberOf E p a) ≡ true
+  act-number : (p : Pool) (a : Act) → partied a ≡ true → ofAct (numberOf E p a) ≡ true
   unfolding numberOf named ofAct
-  act-number p a = go a
+  act-number p a h = go a h
     where
       asked : (a b c : Bool) (o : Option ℕ)
           → ofAct (cond a 2 (cond b 3 (cond c 4 (elim o [ none ↦ 5 | some k ↦ 0 ])))) ≡ true
@@ -221,74 +255,88 @@ module _ (E : Engine) where
       asked false false false none = refl
       asked false false false (some k) = refl
 
-      name : (r : Row) (o : Option Row) → ofAct (elim o [ none ↦ 6 | some s ↦ cond (sameBlock s r) 0 7 ]) ≡ true
+      name : (r : Row) (o : Option Row)
+          → ofAct (elim o [ none ↦ 6 | some s ↦ cond (eqb (s .party) (r .party)) (cond (sameBlock s r) 0 7) 6 ]) ≡ true
       name r none = refl
-      name r (some s) = last (sameBlock s r)
+      name r (some s) = last (eqb (s .party) (r .party)) (sameBlock s r)
         where
-          last : (b : Bool) → ofAct (cond b 0 7) ≡ true
-          last true = refl
-          last false = refl
+          last : (c b : Bool) → ofAct (cond c (cond b 0 7) 6) ≡ true
+          last true true = refl
+          last true false = refl
+          last false b = refl
 
-      go : (a : Act) → ofAct (numberOf E p a) ≡ true
-      go (ask n) =
-          asked (eqb n 0 || ltb (E .limit (p .shape)) n) (full (ledger p)) (eqb (p .head .next) 0) (fitOf E p n)
-      go (give r) = name r (recordOf (r .ticket) (ledger p))
-      go (query r) = name r (recordOf (r .ticket) (ledger p))
-      go bad = refl
+      go : (a : Act) → partied a ≡ true → ofAct (numberOf E p a) ≡ true
+      go (ask c n) h =
+          rw h
+          (asked (eqb n 0 || ltb (E .limit (p .shape)) n) (full (ledger p)) (eqb (p .head .next) 0) (fitOf E p n))
+      go (give r) h = name r (recordOf (r .ticket) (ledger p))
+      go (query r) h = name r (recordOf (r .ticket) (ledger p))
+      go bad h = refl
 
-  run-number : (c : Call Words) (p : Pool)
-      → (perform E c p .answer .number ≢ 1) × (perform E c p .answer .number ≢ 8) × (perform E c p .answer .number ≢ 11)
+  -- nor does a call that the gate lets pass
+  run-number : (c : Call Words) (p : Pool) → gate E c p ≡ 0 → ofAct (perform E c p .answer .number) ≡ true
   unfolding perform actsDone ofAct
-  run-number c p = (
-    (λ e. false≢true (ap ofAct (sym e) ∙ go c)),
-    (λ e. false≢true (ap ofAct (sym e) ∙ go c)),
-    (λ e. false≢true (ap ofAct (sym e) ∙ go c)),
-  )
+  run-number c p g = go c g
     where
-      acted : (a : Act) → ofAct (answerTo E p a .number) ≡ true
-      acted a = ap ofAct (answer-number E p a) ∙ act-number p a
+      acted : (a : Act) → partied a ≡ true → ofAct (answerTo E p a .number) ≡ true
+      acted a h = ap ofAct (answer-number E p a) ∙ act-number p a h
 
-      go : (c : Call Words) → ofAct (perform E c p .answer .number) ≡ true
-      go (format first) = refl
-      go (single a) = acted a
-      go (look r hold) = acted (query r)
-      go (list rs bs) = refl
+      go : (c : Call Words) → gate E c p ≡ 0 → ofAct (perform E c p .answer .number) ≡ true
+      go (format first) g = refl
+      go (copy old) g = refl
+      go (single a) g = acted a (sound-gate E (single a) p refl g .2)
+      go (look r hold) g = acted (query r) (sound-gate E (look r hold) p refl g .2)
+      go (list c rs bs) g = refl
 
-  -- 11, 8 and 1 come from the gate alone
-  gate-gives : (c : Call Words) (p : Pool) (n : ℕ) → n ≢ 0 → perform E c p .answer .number ≢ n
+  -- they come from the gate alone
+  gate-gives : (c : Call Words) (p : Pool) (n : ℕ) → n ≢ 0 → ofAct n ≡ false
       → (step E c p .answer .number ≡ n) ↔ (gate E c p ≡ n)
   gate-gives c p n z other = by (step E c p) (way E c p)
     where
       by : (o : Outcome) → Way E c p o → (o .answer .number ≡ n) ↔ (gate E c p ≡ n)
       by o (stops k g y e) = (λ h. g ∙ sym (ap numberIn e) ∙ h, λ h. ap numberIn e ∙ sym g ∙ h)
-      by o (runs g e) = neither (λ h. other (ap numberIn (sym e) ∙ h)) (λ h. z (sym h ∙ g))
+      by o (runs g e) =
+          neither
+          (λ h. false≢true (sym other ∙ ap ofAct (sym h ∙ ap numberIn e) ∙ run-number c p g))
+          (λ h. z (sym h ∙ g))
 
   then-iff : {P Q R : Type 0} → P ↔ Q → Q ↔ R → P ↔ R
   then-iff f g = (λ h. g .0 (f .0 h), λ h. f .1 (g .1 h))
 
-  eleven-step : (c : Call Words) (p : Pool) → (step E c p .answer .number ≡ 11) ↔ (E .known (p .shape) ≡ false)
-  eleven-step c p =
-      then-iff (gate-gives c p 11 (λ z. omega arith) (run-number c p .2)) (gate-number E c p .eleven)
+  eleven-step : (c : Call Words) (p : Pool) → (step E c p .answer .number ≡ 11) ↔ (knownForm E c p ≡ false)
+  unfolding ofAct
+  eleven-step c p = then-iff (gate-gives c p 11 (λ z. omega arith) refl) (gate-number E c p .eleven)
 
   eight-step : (c : Call Words) (p : Pool) → (step E c p .answer .number ≡ 8)
-      ↔ ((E .known (p .shape) ≡ true) × ((lengths E p && suits c) ≡ false))
-  eight-step c p =
-      then-iff (gate-gives c p 8 (λ z. omega arith) (run-number c p .1)) (gate-number E c p .eight)
+      ↔ ((knownForm E c p ≡ true) × (rightLengths E c p ≡ false))
+  unfolding ofAct
+  eight-step c p = then-iff (gate-gives c p 8 (λ z. omega arith) refl) (gate-number E c p .eight)
 
-  -- a format's number is the gate's
-  pub format-number : (p : Pool) (first : ℕ) → step E (format first) p .answer .number ≡ gate E (format first) p
+  -- the number of a format or a copy is the gate's
+  filling-number : (c : Call Words) (p : Pool) → fills c ≡ true → step E c p .answer .number ≡ gate E c p
   unfolding perform
-  format-number p first = by (step E (format first) p) (way E (format first) p)
+  filling-number c p f = by (step E c p) (way E c p)
     where
-      by : (o : Outcome) → Way E (format first) p o → o .answer .number ≡ gate E (format first) p
+      done : (c : Call Words) → fills c ≡ true → perform E c p .answer .number ≡ 0
+      done (format first) f = refl
+      done (copy old) f = refl
+      done (single a) f = absurd (false≢true f)
+      done (look r hold) f = absurd (false≢true f)
+      done (list c rs bs) f = absurd (false≢true f)
+
+      by : (o : Outcome) → Way E c p o → o .answer .number ≡ gate E c p
       by o (stops n g z e) = ap numberIn e ∙ sym g
-      by o (runs g e) = ap numberIn e ∙ sym g
+      by o (runs g e) = ap numberIn e ∙ done c f ∙ sym g
+
+  pub format-number : (p : Pool) (first : ℕ) → step E (format first) p .answer .number ≡ gate E (format first) p
+  format-number p first = filling-number (format first) p refl
 
   format-numbers : (p : Pool) (first : ℕ)
       → FormatNumbers (lengths E p) first (step E (format first) p .answer .number)
   format-numbers p first = rw (format-number p first) (record { six = six; zero = zero })
     where
-      g : GateNumber (E .known (p .shape)) (lengths E p && true) true (eqb first 0) (stored E p) (gate E (format first) p)
+      g : GateNumber (E .known (p .shape)) (lengths E p && true) true (eqb first 0) (stored E p) true
+          (gate E (format first) p)
       g = gate-number E (format first) p
 
       right : (lengths E p && true) ≡ true → lengths E p ≡ true
@@ -307,23 +355,71 @@ module _ (E : Engine) where
             (and-i (lengths E p) true (h .0) refl, λ f. absurd (true≢false f), λ _. eqb-ne first 0 (h .1))),
       )
 
+  -- a copy goes by its two tables
+  pub copy-done : (p : Pool) (old : Words) → copySuits old (p .table) ≡ true → step E (copy old) p ≡ copyDone E old p
+  unfolding step perform
+  copy-done p old h =
+      rw (gate-number E (copy old) p .zero .1 (h, λ f. absurd (true≢false f), λ _. refl))
+
+  copied-long : (p : Pool) (old : Words) → copySuits old (p .table) ≡ true
+      → length (tableOf (copied old)) ≡ length (p .table)
+  unfolding copied
+  copied-long p old h =
+      let k = length old / oldWords in
+      let long = eqb-eq (length (p .table)) (recordWords * k) (search and-r) in
+      length-tableOf (copied old) ∙ ap (λ n. recordWords * n) (length-listFrom (widenedAt old) 0 k) ∙ sym long
+
+  pub copies-at : (p : Pool) (old : Words) → Copies E old p (step E (copy old) p)
+  copies-at p old =
+      let g = gate-number E (copy old) p in
+      let same = filling-number (copy old) p refl in
+      record {
+        eight = (λ h. g .eight .0 (sym same ∙ h) .1, λ h. same ∙ g .eight .1 (refl, h));
+        zero = (λ h. g .zero .0 (sym same ∙ h) .0, λ h. same ∙ g .zero .1 (h, λ f. absurd (true≢false f), λ _. refl));
+        done = λ h. subst (λ (o : Outcome). (o .answer ≡ zeroAnswer) × (ledger (o .pool) ≡ copied old)
+            × (length (o .pool .table) ≡ length (p .table)) × (o .pool ≡ withTable (o .pool .table) p))
+            (sym (copy-done p old h)) (refl, records-table (copied old), copied-long p old h, refl);
+      }
+
   acts-performed : (c : Call Words) (p : Pool) → Performed E c p (actsDone E c p)
   unfolding actsDone
   acts-performed c p = record { counted = refl; pool = refl; answer = refl; shown = refl; buffers = refl }
 
   module _ (laws : Laws E) where
     one-step : (c : Call Words) (p : Pool) → (step E c p .answer .number ≡ 1)
-        ↔ ((fills c ≡ false) × ((lengths E p && suits c) ≡ true) × (StoredForm E p → ⊥))
-    unfolding sound
+        ↔ ((fills c ≡ false) × (rightLengths E c p ≡ true) × (StoredForm E p → ⊥))
+    unfolding ofAct sound
     one-step c p =
-        then-iff (gate-gives c p 1 (λ z. omega arith) (run-number c p .0))
+        then-iff (gate-gives c p 1 (λ z. omega arith) refl)
         (then-iff (gate-number E c p .one) (
           (λ h. (h .0, h .1, λ s. true≢false (sym (and-r (lengths E p) (stored E p) (sound-form E laws p .1 s)) ∙ h .2))),
+          (λ h. (h .0, h .1, false-of (stored E p) (λ y. h .2 (form c p (h .0) (h .1) y)))),
+        ))
+      where
+        form : (c : Call Words) (p : Pool) → fills c ≡ false → rightLengths E c p ≡ true → stored E p ≡ true
+            → StoredForm E p
+        form c p f a y =
+            sound-form E laws p .0
+            (and-i (lengths E p) (stored E p) (and-l (lengths E p) (suits c p) (sym (lengths-lent E c p f) ∙ a)) y)
+
+    twelve-step : (c : Call Words) (p : Pool) → (step E c p .answer .number ≡ 12)
+        ↔ ((fills c ≡ false) × (rightLengths E c p ≡ true) × StoredForm E p × BadParty c)
+    unfolding ofAct sound
+    twelve-step c p =
+        then-iff (gate-gives c p 12 (λ z. omega arith) refl)
+        (then-iff (gate-number E c p .twelve) (
           (λ h. (
             h .0,
             h .1,
-            false-of (stored E p) (λ y. h .2 (sound-form E laws p .0
-                (and-i (lengths E p) (stored E p) (and-l (lengths E p) (suits c) (h .1)) y))),
+            sound-form E laws p .0 (and-i (lengths E p) (stored E p)
+                (and-l (lengths E p) (suits c p) (sym (lengths-lent E c p (h .0)) ∙ h .1)) (h .2)),
+            party-test (partyGiven c) .0 (h .3),
+          )),
+          (λ h. (
+            h .0,
+            h .1,
+            and-r (lengths E p) (stored E p) (sound-form E laws p .1 (h .2)),
+            party-test (partyGiven c) .1 (h .3),
           )),
         ))
 
@@ -336,24 +432,25 @@ Looked p r f o =
     × (accepted (f .answer) ≡ true → o .shown ≡ arenaPart (r .address) (r .words))
     × (accepted (f .answer) ≡ false → o .shown ≡ placeholder)
 
-looks-at : (E : Engine) (p : Pool) (r : Row) (hold : Words) → Looked p r (step E (find r) p) (step E (look r hold) p)
+pub looks-at : (E : Engine) (p : Pool) (r : Row) (hold : Words) → Looked p r (step E (find r) p) (step E (look r hold) p)
 unfolding step gate behind perform actsDone
-looks-at E p r hold = go (E .known (p .shape)) (lengths E p && true) (stored E p)
+looks-at E p r hold = go (E .known (p .shape)) (lengths E p && true) (stored E p) (isParty (r .party))
   where
-    -- refused by 11, 8 or 1, both show the placeholder
+    -- refused by 11, 8, 1 or 12, both show the placeholder
     stopped : (n : ℕ) → eqb n 0 ≡ false → Looked p r (refusedBy E (find r) p n) (refusedBy E (look r hold) p n)
     stopped n z = (refl, refl, λ h. absurd (false≢true (sym z ∙ h)), λ h. rw h)
 
-    by : Call Words → Bool → Bool → Bool → Outcome
-    by c k a b =
-        let n : ℕ = cond k (cond a (cond b 0 1) 8) 11 in
+    by : Call Words → Bool → Bool → Bool → Bool → Outcome
+    by c k a b d =
+        let n : ℕ = cond k (cond a (cond b (cond d 0 12) 1) 8) 11 in
         cond (eqb n 0) (perform E c p) (refusedBy E c p n)
 
-    go : (k a b : Bool) → Looked p r (by (find r) k a b) (by (look r hold) k a b)
-    go false a b = stopped 11 refl
-    go true true true = (refl, reads-kept E p (query r) refl, λ h. rw h, λ h. rw h)
-    go true true false = stopped 1 refl
-    go true false b = stopped 8 refl
+    go : (k a b d : Bool) → Looked p r (by (find r) k a b d) (by (look r hold) k a b d)
+    go false a b d = stopped 11 refl
+    go true true true true = (refl, reads-kept E p (query r) refl, λ h. rw h, λ h. rw h)
+    go true true true false = stopped 12 refl
+    go true true false d = stopped 1 refl
+    go true false b d = stopped 8 refl
 
 finds-at : (E : Engine) (p : Pool) (r : Row) → step E (find r) p .pool ≡ p
 unfolding perform actsDone
@@ -369,9 +466,9 @@ finds-at E p r = by (step E (find r) p) (way E (find r) p)
 request-forms : RequestForms
 request-forms =
     record {
-      asks = λ n. refl;
-      gives = λ t a w. refl;
-      others = λ k x y z spare give. rw (tests k y z spare, eqb-ne k 2 give);
+      asks = λ c n. refl;
+      gives = λ c t a w. refl;
+      others = λ c k x y z spare give. rw (tests k y z spare, eqb-ne k 2 give);
     }
   where
     tests : (k y z : ℕ) → ((k ≡ 1) × (y ≡ 0) × (z ≡ 0) → ⊥) → (eqb k 1 && eqb y 0 && eqb z 0) ≡ false
@@ -391,6 +488,22 @@ list-lengths rs bs = (
   (λ h. rw (h .0, of-le (length rs) 4096 (h .1), of-le (length rs) (length bs) (h .2))),
 )
 
+copy-lengths : (old new : Words)
+    → Says (copySuits old new)
+    ((length old % 3 ≡ 0) × (3 ≤ length old) × (length old ≤ 768) × (length new ≡ 4 * (length old / 3)))
+copy-lengths old new =
+    let k = length old / 3 in (
+      (λ h.
+          let few = le-of 1 k (search (and-l, and-r)) in
+          let many = le-of k 256 (search (and-l, and-r)) in
+          let whole = eqb-eq (length old % 3) 0 (search (and-l, and-r)) in
+          (whole, omega arith, omega arith, eqb-eq (length new) (4 * k) (search (and-l, and-r)))),
+      (λ h.
+          let few : 1 ≤ k = omega arith in
+          let many : k ≤ 256 = omega arith in
+          rw (h .0, of-le 1 k few, of-le k 256 many, h .3, eqb-same (4 * k))),
+    )
+
 pub demand1 : (E : Engine) → Laws E → Demand1 E
 demand1 E laws =
     record {
@@ -399,12 +512,15 @@ demand1 E laws =
       eleven = eleven-step E;
       eight = eight-step E;
       one = one-step E laws;
+      twelve = twelve-step E laws;
+      copies = copies-at E;
       formats = format-numbers E;
-      performed = λ c p f s ok. subst (Performed E c p) (sym (step-sound E c p f s ok)) (acts-performed E c p);
+      performed = λ c p f s ok h. subst (Performed E c p) (sym (step-sound E c p f s ok h)) (acts-performed E c p);
       numbers = λ p a ok. subst (ActNumbers E p a) (sym (answer-number E p a)) (act-numbers E laws p a ok);
       inTurn = λ p xs ys. counted-append E xs ys p;
       finds = finds-at E;
       looks = looks-at E;
       requestForms = request-forms;
       listLengths = list-lengths;
+      copyLengths = copy-lengths;
     }

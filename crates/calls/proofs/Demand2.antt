@@ -11,7 +11,7 @@ use lib.ListN.{getD}
 use Rattle.words.specs.Lists.{Words}
 use Rattle.words.proofs.Tests.{eqb-ne, false-of}
 use Rattle.ledger.specs.declared.Row.{Row}
-use Rattle.ledger.specs.Records.{Ledger, recordOf, full, Plan, vacate, Member, member, planFor, settle}
+use Rattle.ledger.specs.Records.{Ledger, isParty, recordOf, full, Plan, vacate, Member, member, planFor, settle}
 use Rattle.ledger.specs.Units.{free}
 use Rattle.ledger.specs.Runs.{freeRuns}
 use Rattle.ledger.proofs.RecordLaws.{record-kept}
@@ -44,29 +44,30 @@ Held p r = recordOf (r .ticket) (ledger p) ≡ some r
 module _ (E : Engine) (laws : Laws E) where
   -- ---- a grant
 
-  grants-at : (p : Pool) → sound E p ≡ true → (n k : ℕ) → Asked E p n k → Granted E p n k
-  grants-at p ok n k asked =
+  grants-at : (p : Pool) → sound E p ≡ true → (c n k : ℕ) → Asked E p c n k → Granted E p c n k
+  grants-at p ok c n k asked =
       let ρ = ruleOf E p in
-      let L = entered E p n k in
+      let L = entered E p c n k in
       let next = nextAfter (p .head .next) in
-      let below = over p (zeroed E p n k) in
-      let (x, y) = ask-done E p n k asked in
-      let done = y ∙ grant-store E p n k in
+      let below = over p (zeroed E p c n k) in
+      let (x, y) = ask-done E p c n k asked in
+      let done = y ∙ grant-store E p c n k in
       let holds = ap (λ (q : Pool). ledger q) done ∙ ledger-store E L next below in
       record {
         answer = x;
         holds = holds;
         next = ap (λ (q : Pool). q .head .next) done ∙ next-store E L next below;
         units = λ u.
-            ap (λ (M : Ledger). free ρ M u) holds ∙ free-enter ρ (newRow E p n k) (ledger p) (asked .slot) u;
-        zeros = λ i a b. ap (λ (q : Pool). getD (q .arena) i 0) y ∙ grant-zeros E laws p ok n k asked i a b;
+            ap (λ (M : Ledger). free ρ M u) holds ∙ free-enter ρ (newRow E p c n k) (ledger p) (asked .slot) u;
+        zeros = λ i a b. ap (λ (q : Pool). getD (q .arena) i 0) y ∙ grant-zeros E laws p ok c n k asked i a b;
       }
 
   -- every test of the rows fails
-  asked-of : (p : Pool) (n k : ℕ) → (BadSize E p n → ⊥) → (NoRecord p → ⊥) → (NoTicket p → ⊥)
-      → LowestFit E p n k → Asked E p n k
-  asked-of p n k size slot ticket fit =
+  asked-of : (p : Pool) (c n k : ℕ) → isParty c ≡ true → (BadSize E p n → ⊥) → (NoRecord p → ⊥) → (NoTicket p → ⊥)
+      → LowestFit E p n k → Asked E p c n k
+  asked-of p c n k party size slot ticket fit =
       record {
+        party = party;
         size = false-of (eqb n 0 || ltb (E .limit (p .shape)) n) (λ h. size (size-test E p n .0 h));
         slot = false-of (full (ledger p)) (λ h. slot (record-test p .0 h));
         ticket = false-of (eqb (p .head .next) 0) (λ h. ticket (ticket-test p .0 h));
@@ -80,11 +81,12 @@ module _ (E : Engine) (laws : Laws E) where
       go none e = absurd (h (room-test E p n .0 e))
       go (some k) e = (k, fit-found E p n k e)
 
-  no-room : (p : Pool) → sound E p ≡ true → (n : ℕ) → (BadSize E p n → ⊥) → (NoRecord p → ⊥) → (NoTicket p → ⊥)
-      → NoRoom E p n → answerTo E p (ask n) ≡ refusal 5
-  no-room p ok n size slot ticket room =
-      let five = act-numbers E laws p (ask n) ok .five .1 (size, slot, ticket, room) in
-      act-refused E p (ask n) (λ z. omega arith) .0 ∙ ap refusal five
+  no-room : (p : Pool) → sound E p ≡ true → (c n : ℕ) → isParty c ≡ true
+      → (BadSize E p n → ⊥) → (NoRecord p → ⊥) → (NoTicket p → ⊥)
+      → NoRoom E p n → answerTo E p (ask c n) ≡ refusal 5
+  no-room p ok c n party size slot ticket room =
+      let five = act-numbers E laws p (ask c n) ok .1 party .five .1 (size, slot, ticket, room) in
+      act-refused E p (ask c n) (λ z. omega arith) .0 ∙ ap refusal five
 
   -- ---- a release
 
@@ -122,7 +124,7 @@ module _ (E : Engine) (laws : Laws E) where
   act-sound =
       act-by E (λ p a q. sound E p ≡ true → sound E q ≡ true)
       (λ p a ok. ok)
-      (λ p n k asked ok. grant-sound E laws p ok n k asked)
+      (λ p c n k asked ok. grant-sound E laws p ok c n k asked)
       (λ p x r e ok. settled-sound E laws p ok (member (r .ticket) x ∷ []))
 
   acts-sound : (acts : List Act) (p : Pool) → sound E p ≡ true → Throughout E p acts
@@ -131,7 +133,7 @@ module _ (E : Engine) (laws : Laws E) where
 
   pub act-shape : (p : Pool) (a : Act) → poolAfter E p a .shape ≡ p .shape
   unfolding grant store
-  act-shape = act-by E (λ p a q. q .shape ≡ p .shape) (λ p a. refl) (λ p n k asked. refl)
+  act-shape = act-by E (λ p a q. q .shape ≡ p .shape) (λ p a. refl) (λ p c n k asked. refl)
       (λ p x r e. refl)
 
   format-sound : (p : Pool) (first : ℕ) → accepted (step E (format first) p .answer) ≡ true
@@ -150,13 +152,13 @@ module _ (E : Engine) (laws : Laws E) where
   untouched-then p q s r e u v =
       record { holds = v .holds; words = λ i a b. v .words i (rw e a) (rw e b) ∙ u .words i a b }
 
-  grant-spares : (p : Pool) → sound E p ≡ true → (n k : ℕ) → Asked E p n k
-      → (r : Row) → Held p r → Untouched E p (grant E p n k) r
-  grant-spares p ok n k asked r e =
-      subst (λ (q : Pool). Untouched E p q r) (sym (grant-store E p n k))
-      (block-kept E laws p ok (zeroed E p n k) (length-zeroed E p n k) (entered E p n k) (nextAfter (p .head .next))
-      (grant-valid E laws p ok n k asked) r e (grant-holds E laws p ok n k asked r e)
-      (zeroed-keeps E laws p ok n k asked))
+  grant-spares : (p : Pool) → sound E p ≡ true → (c n k : ℕ) → Asked E p c n k
+      → (r : Row) → Held p r → Untouched E p (grant E p c n k) r
+  grant-spares p ok c n k asked r e =
+      subst (λ (q : Pool). Untouched E p q r) (sym (grant-store E p c n k))
+      (block-kept E laws p ok (zeroed E p c n k) (length-zeroed E p c n k) (entered E p c n k) (nextAfter (p .head .next))
+      (grant-valid E laws p ok c n k asked) r e (grant-holds E laws p ok c n k asked r e)
+      (zeroed-keeps E laws p ok c n k asked))
 
   plan-spares : (p : Pool) → sound E p ≡ true → (t : ℕ) (x : Plan) (r : Row) → Held p r
       → t ≢ r .ticket → Untouched E p (carry E p t x) r
@@ -172,7 +174,7 @@ module _ (E : Engine) (laws : Laws E) where
   act-spares p a ok r e =
       act-by E (λ p a q. sound E p ≡ true → Held p r → (Names r a → ⊥) → Untouched E p q r)
       (λ p a ok e names. untouched-same p r e)
-      (λ p n k asked ok e names. grant-spares p ok n k asked r e)
+      (λ p c n k asked ok e names. grant-spares p ok c n k asked r e)
       (λ p x s f ok e names. plan-spares p ok (s .ticket) x r e (λ t. names (named-so x s (one-record p s f e t))))
       p a ok e
     where
@@ -221,15 +223,16 @@ module _ (E : Engine) (laws : Laws E) where
   count-kept : (p : Pool) (a : Act) → wordCount (poolAfter E p a) ≡ wordCount p
   count-kept =
       act-by E (λ p a q. wordCount q ≡ wordCount p) (λ p a. refl)
-      (λ p n k asked. ap (λ (q : Pool). wordCount q) (grant-store E p n k)
-      ∙ words-store E (entered E p n k) (nextAfter (p .head .next)) (over p (zeroed E p n k)) ∙ length-zeroed E p n k)
+      (λ p c n k asked. ap (λ (q : Pool). wordCount q) (grant-store E p c n k)
+      ∙ words-store E (entered E p c n k) (nextAfter (p .head .next)) (over p (zeroed E p c n k)) ∙ length-zeroed E p c n k)
       (λ p x r e. words-store E (settle (member (r .ticket) x ∷ []) (ledger p)) (p .head .next) p)
 
 pub demand2 : (E : Engine) → Laws E → Demand2 E
 unfolding freeRuns
 demand2 E laws =
     record {
-      grants = λ p ok n size slot ticket k fit. grants-at E laws p ok n k (asked-of E laws p n k size slot ticket fit);
+      grants = λ p ok c n party size slot ticket k fit.
+          grants-at E laws p ok c n k (asked-of E laws p c n k party size slot ticket fit);
       fit = fit-some E laws;
       refuses = no-room E laws;
       releases = releases-at E laws;

@@ -11,7 +11,7 @@ use Rattle.ledger.specs.declared.Row.{Row}
 use Rattle.ledger.specs.Records.{Ledger, Plan, Member, planFor, settle, recordsOf, tableOf}
 use Rattle.ledger.proofs.RecordLaws.{settle-same, length-table-settle}
 use Rattle.calls.specs.Pool.{Pool, ledger, wordCount, Engine, Laws, store, lengths, sound}
-use Rattle.calls.specs.Step.{Call, format, single, look, list, zeroAnswer, accepted, Outcome, named, answersOf}
+use Rattle.calls.specs.Step.{Call, format, copy, single, look, list, zeroAnswer, accepted, Outcome, named, answersOf}
 use Rattle.calls.specs.Step.{answerWords, actsDone, step}
 use Rattle.calls.specs.Lent.{Buffer, see, Event, mapCall, brought, isWhole, headReturns, outcome, after}
 use Rattle.calls.specs.Lent.{laterEnd, laterOutcomes}
@@ -19,9 +19,9 @@ use Rattle.calls.specs.Demand3.{Brings, Progress, isReplay, standAll, Ri
 use Rattle.calls.specs.Demand3.{RightList, follows, Answered, endOf, atStart, Sequence, Demand3}
 use Rattle.calls.proofs.StoreLaws.{ledger-store, shape-store, words-store, store-keeps, settled-sound}
 use Rattle.calls.proofs.StoreLaws.{settled-none, sound-lengths, settled}
-use Rattle.calls.proofs.GateLaws.{step-sound}
+use Rattle.calls.proofs.GateLaws.{step-sound, fills-head}
 use Rattle.calls.proofs.LentLaws.{whole-brings, whole-table, own-table, quiet-after, Fits, whole-after}
-use Rattle.calls.proofs.LentLaws.{outcome-is, returned-head, fills-seen}
+use Rattle.calls.proofs.LentLaws.{outcome-is, returned-head, makes-seen}
 use Rattle.calls.proofs.ProgressLaws.{orElse, Inv}
 use Rattle.calls.proofs.Strays.{stray-step}
 use Rattle.calls.proofs.WholeCalls.{all-own, replay-six, WholeCall, whole-sound, whole-step}
@@ -90,7 +90,7 @@ module _ (E : Engine) (laws : Laws E) (p : Pool) (ok : sound E p ≡ true) (ms :
           head = λ a.
               let (f, back) = k .head (and-l (accepted (outcome E q e .answer)) (headReturns q e) a) in
               back ∙ returned-head q e (and-r (accepted (outcome E q e .answer)) (headReturns q e) a)
-              (sym (fills-seen (see q) (e .call)) ∙ f);
+              (sym (makes-seen (see q) (e .call)) ∙ fills-head c f);
           buffers = λ a. k .buffers (not-true (accepted (outcome E q e .answer))
               (or-first (not (accepted (outcome E q e .answer))) (elsewhere (e .call)) a b));
         }) ∙ d ∙ ap (λ (z : Progress). settled E p (z .done)) (sym (k .progress));
@@ -103,11 +103,12 @@ module _ (E : Engine) (laws : Laws E) (p : Pool) (ok : sound E p ≡ true) (ms :
       → RightList q c o
   unfolding actsDone
   list-right q so (format first) o j = tt
+  list-right q so (copy old) o j = tt
   list-right q so (single a) o j = tt
   list-right q so (look r hold) o j = tt
-  list-right q so (list rs bs) o j = λ h.
-      let k : o ≡ actsDone E (list (see q rs) (see q bs)) q =
-      j ∙ step-sound E (list (see q rs) (see q bs)) q refl h so in
+  list-right q so (list c rs bs) o j = λ h g.
+      let k : o ≡ actsDone E (list c (see q rs) (see q bs)) q =
+      j ∙ step-sound E (list c (see q rs) (see q bs)) q refl h so g in
       subst
       (λ (z : Outcome). (z .answer ≡ zeroAnswer)
       × (z .buffers ≡ (answerWords (answersOf (z .counted)) ++ drop (length (see q rs)) (see q bs)) ∷ []))

@@ -30,12 +30,14 @@ use Rattle.calls.specs.Demand2.{Demand2}
 use Rattle.calls.specs.Monotone.{Monotone}
 use Rattle.calls.specs.Demand3.{Demand3}
 use Rattle.calls.specs.Restart.{Restart}
+use Rattle.calls.specs.Private.{Private}
 use Rattle.calls.proofs.StoreLaws.{arena-store, sound-valid, is-store}
 use Rattle.calls.proofs.Demand1.{demand1}
 use Rattle.calls.proofs.Demand2.{demand2}
 use Rattle.calls.proofs.Monotone.{monotone}
 use Rattle.calls.proofs.Demand3.{demand3}
 use Rattle.calls.proofs.Restart.{restart}
+use Rattle.calls.proofs.Private.{private}
 
 -- a block of the tree pool has no word before its address
 pub tree-laws : Laws treeEngine
@@ -62,12 +64,12 @@ segment-laws =
 
 -- ---- row 8: "a lent length or S lies outside the ranges above"
 
--- Tree pool: whole units, from one to the most words of the form, whose number is 1, 2 or 3 (02, tickets 3 and 11). "Table:
--- 32-bit words, three to a record, 1 to 256 records". It has no index.
+-- Tree pool: whole units, from one to the most words of the form, whose number is 1, 2 or 3 (02, tickets 3 and 11).
+-- "tables are 4 to 1,024 words, a multiple of four" (ticket 6). It has no index.
 pub tree-lengths : (p : Pool) → Says (lengths treeEngine p)
     ((isForm (p .shape) ≡ true) × (formOf (p .shape) .unit ≤ wordCount p) × (wordCount p ≤ formOf (p .shape) .most)
     × (wordCount p % formOf (p .shape) .unit ≡ 0)
-    × (length (p .table) % 3 ≡ 0) × (3 ≤ length (p .table)) × (length (p .table) ≤ 768) × (length (p .index) ≡ 0))
+    × (length (p .table) % 4 ≡ 0) × (4 ≤ length (p .table)) × (length (p .table) ≤ 1024) × (length (p .index) ≡ 0))
 unfolding lengths treeEngine treeRange
 tree-lengths p =
     let W = wordCount p in
@@ -76,7 +78,7 @@ tree-lengths p =
       (λ h.
           let few = le-of 1 t (search (and-l, and-r)) in
           let many = le-of t 256 (search (and-l, and-r)) in
-          let whole = eqb-eq (length (p .table) % 3) 0 (search (and-l, and-r)) in (
+          let whole = eqb-eq (length (p .table) % 4) 0 (search (and-l, and-r)) in (
             search (and-l, and-r) depth 8,
             le-of (F .unit) W (search (and-l, and-r) depth 8),
             le-of W (F .most) (search (and-l, and-r) depth 8),
@@ -96,7 +98,7 @@ tree-lengths p =
 -- words".
 pub segment-lengths : (p : Pool) → Says (lengths segmentEngine p)
     ((2 ≤ wordCount p) × (wordCount p ≤ 16384) × ((d : ℕ) × (d ≤ 8) × (p .shape ≡ 2 ^ d))
-    × (length (p .table) % 3 ≡ 0) × (3 ≤ length (p .table)) × (length (p .table) ≤ 768)
+    × (length (p .table) % 4 ≡ 0) × (4 ≤ length (p .table)) × (length (p .table) ≤ 1024)
     × (length (p .index) ≡ 3 * p .shape))
 unfolding lengths segmentEngine segmentRange
 segment-lengths p =
@@ -105,7 +107,7 @@ segment-lengths p =
       (λ h.
           let few = le-of 1 t (search (and-l, and-r)) in
           let many = le-of t 256 (search (and-l, and-r)) in
-          let whole = eqb-eq (length (p .table) % 3) 0 (search (and-l, and-r)) in
+          let whole = eqb-eq (length (p .table) % 4) 0 (search (and-l, and-r)) in
           let range : segmentRange (p .shape) W ≡ true = search (and-l, and-r) in (
             le-of 2 W (search (and-l, and-r)),
             le-of W 16384 (search (and-l, and-r)),
@@ -194,3 +196,9 @@ tree-restart = restart treeEngine
 
 pub segment-restart : Restart segmentEngine
 segment-restart = restart segmentEngine
+
+pub tree-private : Private treeEngine
+tree-private = private treeEngine
+
+pub segment-private : Private segmentEngine
+segment-private = private segmentEngine

@@ -58,29 +58,29 @@ record-enter t new (r ∷ L) z d = go (isEmpty r) refl (record-enter t new L z d
 
 -- ---- what a grant stores, and over what
 
-abbrev pub entered : Engine → Pool → ℕ → ℕ → Ledger
-entered E p n k = enter (newRow E p n k) (ledger p)
+abbrev pub entered : Engine → Pool → ℕ → ℕ → ℕ → Ledger
+entered E p c n k = enter (newRow E p c n k) (ledger p)
 
 -- the first word of the granted units at the address, and the word past them
-abbrev pub start : Engine → Pool → ℕ → ℕ → ℕ
-start E p n k = newRow E p n k .address
+abbrev pub start : Engine → Pool → ℕ → ℕ → ℕ → ℕ
+start E p c n k = newRow E p c n k .address
 
-abbrev pub end : Engine → Pool → ℕ → ℕ → ℕ
-end E p n k = ruleOf E p .unit * past (ruleOf E p) (newRow E p n k)
+abbrev pub end : Engine → Pool → ℕ → ℕ → ℕ → ℕ
+end E p c n k = ruleOf E p .unit * past (ruleOf E p) (newRow E p c n k)
 
-unfoldable pub zeroed : Engine → Pool → ℕ → ℕ → Words
-zeroed E p n k = wiped 0 (start E p n k) (end E p n k) (p .arena)
+unfoldable pub zeroed : Engine → Pool → ℕ → ℕ → ℕ → Words
+zeroed E p c n k = wiped 0 (start E p c n k) (end E p c n k) (p .arena)
 
-pub length-zeroed : (E : Engine) (p : Pool) (n k : ℕ) → length (zeroed E p n k) ≡ wordCount p
+pub length-zeroed : (E : Engine) (p : Pool) (c n k : ℕ) → length (zeroed E p c n k) ≡ wordCount p
 unfolding zeroed
-length-zeroed E p n k = length-wiped 0 (start E p n k) (end E p n k) (p .arena)
+length-zeroed E p c n k = length-wiped 0 (start E p c n k) (end E p c n k) (p .arena)
 
-pub grant-store : (E : Engine) (p : Pool) (n k : ℕ)
-    → grant E p n k ≡ store E (entered E p n k) (nextAfter (p .head .next)) (over p (zeroed E p n k))
+pub grant-store : (E : Engine) (p : Pool) (c n k : ℕ)
+    → grant E p c n k ≡ store E (entered E p c n k) (nextAfter (p .head .next)) (over p (zeroed E p c n k))
 unfolding grant zeroed
-grant-store E p n k = refl
+grant-store E p c n k = refl
 
-module _ (E : Engine) (laws : Laws E) (p : Pool) (ok : sound E p ≡ true) (n k : ℕ) (asked : Asked E p n k) where
+module _ (E : Engine) (laws : Laws E) (p : Pool) (ok : sound E p ≡ true) (c n k : ℕ) (asked : Asked E p c n k) where
   fit : LowestFit E p n k
   fit = fit-found E p n k (asked .fit)
 
@@ -90,62 +90,62 @@ module _ (E : Engine) (laws : Laws E) (p : Pool) (ok : sound E p ≡ true) (n k 
   size-some : 1 ≤ n
   size-some = let z = eqb-false n 0 (or-l (eqb n 0) (ltb (E .limit (p .shape)) n) (asked .size)) in omega arith
 
-  pub grant-valid : valid (ruleOf E p) (wordCount p) (nextAfter (p .head .next)) (entered E p n k) ≡ true
+  pub grant-valid : valid (ruleOf E p) (wordCount p) (nextAfter (p .head .next)) (entered E p c n k) ≡ true
   grant-valid =
       let ρ = ruleOf E p in
       let next = p .head .next in
-      valid-enter ρ (laws .unit (p .shape)) (wordCount p) next (nextAfter next) k n (ledger p)
+      valid-enter ρ (laws .unit (p .shape)) (wordCount p) next (nextAfter next) k n c (ledger p)
       (sound-valid E laws p ok)
-      next-some (next-above next) size-some (fit .inside)
+      next-some (next-above next) size-some (asked .party) (fit .inside)
       (every-of (free ρ (ledger p)) k (span ρ n) (fit .enough))
 
-  pub grant-sound : sound E (grant E p n k) ≡ true
+  pub grant-sound : sound E (grant E p c n k) ≡ true
   unfolding lengths
   grant-sound =
-      ap (λ (q : Pool). sound E q) (grant-store E p n k)
-      ∙ store-sound E laws (over p (zeroed E p n k)) (entered E p n k) (nextAfter (p .head .next))
-      (rw (length-zeroed E p n k) (sound-lengths E laws p ok))
-      (length-table-enter (newRow E p n k) (ledger p) ∙ ap length (sym (is-table E laws p ok)))
-      (rw (length-zeroed E p n k) grant-valid)
+      ap (λ (q : Pool). sound E q) (grant-store E p c n k)
+      ∙ store-sound E laws (over p (zeroed E p c n k)) (entered E p c n k) (nextAfter (p .head .next))
+      (rw (length-zeroed E p c n k) (sound-lengths E laws p ok))
+      (length-table-enter (newRow E p c n k) (ledger p) ∙ ap length (sym (is-table E laws p ok)))
+      (rw (length-zeroed E p c n k) grant-valid)
 
   -- the words of the grant lie in the arena, in units that were free
-  grant-inside : end E p n k ≤ wordCount p
+  grant-inside : end E p c n k ≤ wordCount p
   grant-inside =
       let ρ = ruleOf E p in
-      rw (past-new ρ (laws .unit (p .shape)) (p .head .next) k n)
+      rw (past-new ρ (laws .unit (p .shape)) (p .head .next) k n c)
       (le-trans (mul-le-mul-left (ρ .unit) (fit .inside)) (mul-div-le (wordCount p) (ρ .unit)))
 
-  grant-units : (i : ℕ) → start E p n k ≤ i → i < end E p n k
+  grant-units : (i : ℕ) → start E p c n k ≤ i → i < end E p c n k
       → free (ruleOf E p) (ledger p) (i / ruleOf E p .unit) ≡ true
   unfolding addressAt
   grant-units i a b =
       let ρ = ruleOf E p in
       let pos = laws .unit (p .shape) in
-      let hi : i < ρ .unit * (k + span ρ n) = rw (past-new ρ pos (p .head .next) k n) at b in
+      let hi : i < ρ .unit * (k + span ρ n) = rw (past-new ρ pos (p .head .next) k n c) at b in
       fit .enough (i / ρ .unit)
       (le-div-iff-mul-le pos .1 (rw (mul-comm k (ρ .unit)) (omega arith)))
       (div-lt-iff-lt-mul pos .1 (rw (mul-comm (k + span ρ n) (ρ .unit)) hi))
 
-  pub grant-zeros : (i : ℕ) → start E p n k ≤ i → i < end E p n k → getD (grant E p n k .arena) i 0 ≡ 0
+  pub grant-zeros : (i : ℕ) → start E p c n k ≤ i → i < end E p c n k → getD (grant E p c n k .arena) i 0 ≡ 0
   unfolding zeroed owns
   grant-zeros i a b =
       let ρ = ruleOf E p in
-      let new = newRow E p n k in
+      let new = newRow E p c n k in
       let live : isLive new ≡ true = rw (eqb-ne (p .head .next) 0 next-some) in
-      let lo = start E p n k in
-      let hi = end E p n k in
+      let lo = start E p c n k in
+      let hi = end E p c n k in
       let own = and-i (isLive new) (within lo hi i) live (within-in lo hi i a b) in
-      ap (λ (q : Pool). getD (q .arena) i 0) (grant-store E p n k)
-      ∙ store-keeps E (entered E p n k) (nextAfter (p .head .next)) (over p (zeroed E p n k)) i
+      ap (λ (q : Pool). getD (q .arena) i 0) (grant-store E p c n k)
+      ∙ store-keeps E (entered E p c n k) (nextAfter (p .head .next)) (over p (zeroed E p c n k)) i
       (owned-enter ρ new (ledger p) (asked .slot) i ∙ rw own (or-true (owned ρ (ledger p) i)))
       ∙ wiped-in 0 lo hi (p .arena) i 0 a b (le-trans b grant-inside)
 
   -- what a holder owns is not wiped
-  pub zeroed-keeps : (i : ℕ) → owned (ruleOf E p) (ledger p) i ≡ true → getD (zeroed E p n k) i 0 ≡ getD (p .arena) i 0
+  pub zeroed-keeps : (i : ℕ) → owned (ruleOf E p) (ledger p) i ≡ true → getD (zeroed E p c n k) i 0 ≡ getD (p .arena) i 0
   unfolding zeroed
   zeroed-keeps i own =
-      let lo = start E p n k in
-      let hi = end E p n k in
+      let lo = start E p c n k in
+      let hi = end E p c n k in
       let pos = laws .unit (p .shape) in
       let good = sound-valid E laws p ok in
       let taken = owned-covered (ruleOf E p) pos (wordCount p) (p .head .next) (ledger p) good i own in
@@ -155,11 +155,11 @@ module _ (E : Engine) (laws : Laws E) (p : Pool) (ok : sound E p ≡ true) (n k 
 
   -- a record that was held is held after the grant
   pub grant-holds : (r : Row) → recordOf (r .ticket) (ledger p) ≡ some r
-      → recordOf (r .ticket) (entered E p n k) ≡ some r
+      → recordOf (r .ticket) (entered E p c n k) ≡ some r
   grant-holds r e =
       let next = p .head .next in
       let pos = laws .unit (p .shape) in
       let good = sound-valid E laws p ok in
       let facts = valid-record (ruleOf E p) pos (wordCount p) next (ledger p) good (r .ticket) r e in
       let below : r .ticket < next = lt-of (r .ticket) next (rw (asked .ticket) at (facts .below)) in
-      record-enter (r .ticket) (newRow E p n k) (ledger p) (facts .ticket) (λ q. omega arith) ∙ e
+      record-enter (r .ticket) (newRow E p c n k) (ledger p) (facts .ticket) (λ q. omega arith) ∙ e

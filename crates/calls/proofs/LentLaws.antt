@@ -12,11 +12,13 @@ use Rattle.words.specs.Lists.{Words, all}
 use Rattle.words.proofs.Tests.{and-l, and-r, eqb-eq}
 use Rattle.words.proofs.ListLaws.{sameWords-eq}
 use Rattle.calls.specs.Pool.{Head, Pool, withHead, Engine}
-use Rattle.calls.specs.Step.{Call, format, single, look, list, accepted, Outcome, buffersOf, fills, step}
+use Rattle.calls.specs.Step.{Call, format, copy, single, look, list, accepted, Outcome, buffersOf, fills, makesHead}
+use Rattle.calls.specs.Step.{perform, step}
 use Rattle.calls.specs.Lent.{Part, inArena, inTable, inIndex, Spot, own, other, Buffer, partOf, withPart, seeAt}
 use Rattle.calls.specs.Lent.{see, leaveAt, leave, leaveAll, isOther, samePart, isOwn, areOwn, isAllOf, Event}
 use Rattle.calls.specs.Lent.{mapCall, headBrought, brought, sameHead, isWhole, ownTable, headReturns, writtenBy}
 use Rattle.calls.specs.Lent.{outcome, after}
+use Rattle.calls.proofs.GateLaws.{Way, stops, runs, way}
 
 -- ---- one buffer
 
@@ -156,38 +158,68 @@ pub refused-keeps : (E : Engine) (q : Pool) (e : Event) → accepted (outcome E 
 unfolding after
 refused-keeps E q e a = rw a
 
--- a call that fills memory anew, lent the pool's table, makes the pool's head, whatever head it was brought
-pub fills-returns : (E : Engine) (q : Pool) (e : Event) → ownTable q e ≡ true → fills (e .call) ≡ true
+-- a call that makes a head, lent the pool's table, makes the pool's, whatever head it was brought
+pub made-returns : (E : Engine) (q : Pool) (e : Event) → ownTable q e ≡ true → makesHead (e .call) ≡ true
     → accepted (outcome E q e .answer) ≡ true → after E q e .head ≡ outcome E q e .pool .head
 unfolding after headReturns
-fills-returns E q e t f a = rw (t, f, a)
+made-returns E q e t f a = rw (t, f, a)
 
 -- the head that is handed back as the pool's: the pool brought whole; a head as it was brought
 pub whole-returns : (q : Pool) (e : Event) → isWhole q e ≡ true → headReturns q e ≡ true
 unfolding isWhole headReturns
 whole-returns q e h =
     let same : sameHead (headBrought q (e .head)) (q .head) ≡ true = search (and-l, and-r) in
-    rw (whole-table q e h, same) (or-true (fills (e .call)))
+    rw (whole-table q e h, same) (or-true (makesHead (e .call)))
 
-pub returned-head : (q : Pool) (e : Event) → headReturns q e ≡ true → fills (e .call) ≡ false
+pub returned-head : (q : Pool) (e : Event) → headReturns q e ≡ true → makesHead (e .call) ≡ false
     → headBrought q (e .head) ≡ q .head
 unfolding headReturns
 returned-head q e h f =
     let taken : sameHead (headBrought q (e .head)) (q .head) ≡ true =
-    rw f at (and-r (ownTable q e) (fills (e .call) || sameHead (headBrought q (e .head)) (q .head)) h) in
+    rw f at (and-r (ownTable q e) (makesHead (e .call) || sameHead (headBrought q (e .head)) (q .head)) h) in
     let own = sameWords-eq (headBrought q (e .head) .own) (q .head .own) (search and-l) in
     let next = eqb-eq (headBrought q (e .head) .next) (q .head .next) (search (and-l, and-r)) in
     λ i. record { own = own i; next = next i }
 
 pub fills-seen : (f : Buffer → Words) (c : Call Buffer) → fills (mapCall f c) ≡ fills c
 fills-seen f (format first) = refl
+fills-seen f (copy old) = refl
 fills-seen f (single a) = refl
 fills-seen f (look r hold) = refl
-fills-seen f (list rs bs) = refl
+fills-seen f (list c rs bs) = refl
+
+pub makes-seen : (f : Buffer → Words) (c : Call Buffer) → makesHead (mapCall f c) ≡ makesHead c
+makes-seen f (format first) = refl
+makes-seen f (copy old) = refl
+makes-seen f (single a) = refl
+makes-seen f (look r hold) = refl
+makes-seen f (list c rs bs) = refl
 
 pub outcome-is : (E : Engine) (q : Pool) (e : Event) → outcome E q e ≡ step E (mapCall (see q) (e .call)) (brought q e)
 unfolding outcome
 outcome-is E q e = refl
+
+-- a copy, which takes no head and makes none, leaves the pool the one it had, whatever head it was brought
+pub copy-keeps : (E : Engine) (q : Pool) (e : Event) (old : Buffer) → e .call ≡ copy old → after E q e .head ≡ q .head
+unfolding after perform
+copy-keeps E q e old is = go (accepted (outcome E q e .answer) && headReturns q e) refl
+  where
+    back : (x : Words) (m : Pool) → step E (copy x) m .pool .head ≡ m .head
+    back x m = by (step E (copy x) m) (way E (copy x) m)
+      where
+        by : (o : Outcome) → Way E (copy x) m o → o .pool .head ≡ m .head
+        by o (stops n g z e) = ap (λ (y : Outcome). y .pool .head) e
+        by o (runs g e) = ap (λ (y : Outcome). y .pool .head) e
+
+    go : (b : Bool) → (accepted (outcome E q e .answer) && headReturns q e) ≡ b
+        → cond b (outcome E q e .pool .head) (q .head) ≡ q .head
+    go false h = refl
+    go true h =
+        ap (λ (y : Outcome). y .pool .head) (outcome-is E q e)
+        ∙ ap (λ (c : Call Buffer). step E (mapCall (see q) c) (brought q e) .pool .head) is
+        ∙ back (see q old) (brought q e)
+        ∙ returned-head q e (and-r (accepted (outcome E q e .answer)) (headReturns q e) h)
+        (ap (λ (c : Call Buffer). makesHead c) is)
 
 -- ---- the pool after an event
 
@@ -195,10 +227,11 @@ outcome-is E q e = refl
 pub buffers-left : (c : Call Buffer) (q : Pool) (xs : List Words)
     → (all (all isOther) (writtenBy c) ≡ false → xs ≡ buffersOf (mapCall (see q) c)) → leaveAll (writtenBy c) xs q ≡ q
 buffers-left (format first) q xs h = refl
+buffers-left (copy old) q xs h = refl
 buffers-left (single a) q xs h = refl
 buffers-left (look r hold) q xs h = refl
-buffers-left (list rs bs) q [] h = refl
-buffers-left (list rs bs) q (x ∷ xs) h = go (all isOther (take (length rs) bs)) refl
+buffers-left (list c rs bs) q [] h = refl
+buffers-left (list c rs bs) q (x ∷ xs) h = go (all isOther (take (length rs) bs)) refl
   where
     go : (b : Bool) → all isOther (take (length rs) bs) ≡ b → leave (take (length rs) bs) x q ≡ q
     go true e = leave-other (take (length rs) bs) x q e

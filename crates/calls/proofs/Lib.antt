@@ -1,4 +1,5 @@
--- The laws over any engine, the three demands, the claims on restarts and on freeing early, and their instances.
+-- The laws over any engine, the three demands, the claims on restarts, on freeing early and on parties, and their
+-- instances.
 pub mod StoreLaws
 pub mod ActLaws
 pub mod GateLaws
@@ -16,4 +17,5 @@ pub mod WholeCalls
 pub mod Demand3
 pub mod Restart
 pub mod AnyOrder
+pub mod Private
 pub mod Engines

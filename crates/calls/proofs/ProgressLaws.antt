@@ -104,7 +104,8 @@ module _ (start : Ledger) (b : Brings) (s : Progress) where
       go (plans q r) = record {
         accepts = λ d. absurd (false≢true (sym (not-due w (plans q r)) ∙ d));
         refuses = λ _. h;
-        six = λ _ k. absurd (true≢false (sym k ∙ w));
+        six = λ _ k _. absurd (true≢false (sym k ∙ w));
+        twelve = λ _ k _. absurd (true≢false (sym k ∙ w));
       }
       go reads = tt
       go others = tt

@@ -17,9 +17,9 @@ use Rattle.ledger.specs.Records.{Member, member, planFor, settle}
 use Rattle.ledger.proofs.RecordLaws.{has-ticket, record-zero, record-gone, record-kept, table-records}
 use Rattle.ledger.proofs.RecordLaws.{length-table-settle, length-table-enter}
 use Rattle.calls.specs.Pool.{Head, Pool, ledger, Engine, nextAfter, store}
-use Rattle.calls.specs.Step.{Call, format, single, look, list, accepted, Act, ask, give, query, bad, Counted, Outcome}
+use Rattle.calls.specs.Step.{Call, format, copy, single, look, list, accepted, Act, ask, give, query, bad, Counted, Outcome}
 use Rattle.calls.specs.Step.{numberOf, newRow, carry, grant, answerTo, poolAfter, countedOf, poolAfterAll}
-use Rattle.calls.specs.Step.{actsOf, fills, blank, refusedBy, actsDone, perform, step}
+use Rattle.calls.specs.Step.{actsOf, fills, makesHead, blank, refusedBy, actsDone, perform, step}
 use Rattle.calls.specs.Lent.{Buffer, inArena, inTable, inIndex, Spot, own, other, isAllOf, see, leaveAt, leave}
 use Rattle.calls.specs.Lent.{leaveAll, Event, mapCall, headBrought, brought, sameHead, ownTable, headReturns}
 use Rattle.calls.specs.Lent.{writtenBy, outcome, after, Later, calls, writes, laterPool}
@@ -30,9 +30,9 @@ use Rattle.calls.specs.Restart.{requestsRefused}
 use Rattle.calls.specs.Restart.{RefusedBelow, NoneBelow, Restart}
 use Rattle.calls.proofs.StoreLaws.{ledger-store, whole-records, blank-long}
 use Rattle.calls.proofs.ActLaws.{Asked, named-none, act-refused, act-by}
-use Rattle.calls.proofs.GateLaws.{Way, stops, runs, way, perform-acts, format-done}
+use Rattle.calls.proofs.GateLaws.{Way, stops, runs, way, fills-head, perform-acts, format-done}
 use Rattle.calls.proofs.GrantLaws.{over, record-enter, entered, zeroed, grant-store}
-use Rattle.calls.proofs.LentLaws.{leave-all, own-table, fills-seen, outcome-is, quiet-after}
+use Rattle.calls.proofs.LentLaws.{leave-all, own-table, fills-seen, makes-seen, outcome-is, quiet-after}
 use Rattle.calls.proofs.LentLaws.{returned-head}
 use Rattle.calls.proofs.CallLaws.{act-kept}
 use Rattle.calls.proofs.Demand1.{refused-step}
@@ -69,10 +69,10 @@ module _ (E : Engine) (n long : ℕ) where
     records-long p f =
         ap length (table-records (p .table) (ap (λ j. j % recordWords) (f .table) ∙ whole)) ∙ f .table
 
-    grant-fresh : (p : Pool) (m k : ℕ) → Asked E p m k → Fresh n long p → Fresh n long (grant E p m k)
-    grant-fresh p m k asked f =
-        fresh-store (over p (zeroed E p m k)) (grant E p m k) (entered E p m k) (nextAfter (p .head .next))
-        (grant-store E p m k) dead later (length-table-enter (newRow E p m k) (ledger p) ∙ records-long p f)
+    grant-fresh : (p : Pool) (c m k : ℕ) → Asked E p c m k → Fresh n long p → Fresh n long (grant E p c m k)
+    grant-fresh p c m k asked f =
+        fresh-store (over p (zeroed E p c m k)) (grant E p c m k) (entered E p c m k) (nextAfter (p .head .next))
+        (grant-store E p c m k) dead later (length-table-enter (newRow E p c m k) (ledger p) ∙ records-long p f)
       where
         above : n ≤ p .head .next
         above = go (f .next)
@@ -81,12 +81,12 @@ module _ (E : Engine) (n long : ℕ) where
             go (inl e) = absurd (eqb-false (p .head .next) 0 (asked .ticket) e)
             go (inr l) = l
 
-        dead : (t : ℕ) → t < n → recordOf t (entered E p m k) ≡ none
+        dead : (t : ℕ) → t < n → recordOf t (entered E p c m k) ≡ none
         dead t l = go (ℕ-discrete t 0)
           where
-            go : Dec (t ≡ 0) → recordOf t (entered E p m k) ≡ none
-            go (yes z) = rw z (record-zero (entered E p m k))
-            go (no z) = record-enter t (newRow E p m k) (ledger p) z (λ y. omega (arith, above)) ∙ f .dead t l
+            go : Dec (t ≡ 0) → recordOf t (entered E p c m k) ≡ none
+            go (yes z) = rw z (record-zero (entered E p c m k))
+            go (no z) = record-enter t (newRow E p c m k) (ledger p) z (λ y. omega (arith, above)) ∙ f .dead t l
 
         later : (nextAfter (p .head .next) ≡ 0) ⊎ (n ≤ nextAfter (p .head .next))
         later = go (eqb (p .head .next) 4294967295)
@@ -143,7 +143,7 @@ module _ (E : Engine) where
       names r i = let j : r .ticket ≡ t = cc in ap (λ u. recordOf u (ledger p)) j ∙ d
 
       go : (a : Act) → ticketOf a ≡ some t → accepted (answerTo E p a) ≡ false
-      go (ask m) i = absurd (absurd-some i)
+      go (ask c m) i = absurd (absurd-some i)
       go (give r) i = six (give r) (named-none (ledger p) r (names r i))
       go (query r) i = six (query r) (named-none (ledger p) r (names r i))
       go bad i = absurd (absurd-some i)
@@ -155,9 +155,10 @@ module _ (E : Engine) where
     where
       go : (c : Call Words) → ticketNamed c ≡ some t → accepted (perform E c p .answer) ≡ false
       go (format first) i = absurd (absurd-some i)
+      go (copy old) i = absurd (absurd-some i)
       go (single a) i = act-unknown p a t i d
       go (look r hold) i = act-unknown p (query r) t i d
-      go (list rs bs) i = absurd (absurd-some i)
+      go (list c rs bs) i = absurd (absurd-some i)
 
       by : (o : Outcome) → Way E c p o → accepted (o .answer) ≡ false
       by o (stops x g z e) = ap (λ (y : Outcome). accepted (y .answer)) e ∙ eqb-ne x 0 z
@@ -177,15 +178,17 @@ module _ (E : Engine) where
       where
         stopped : (x : ℕ) → x ≢ 0 → (c : Call Words) → RefusedBelow E n (refusedBy E c p x .counted)
         stopped x z (format first) = ((λ t i l. eqb-ne x 0 z), tt)
+        stopped x z (copy old) = ((λ t i l. eqb-ne x 0 z), tt)
         stopped x z (single a) = ((λ t i l. eqb-ne x 0 z), tt)
         stopped x z (look r hold) = ((λ t i l. eqb-ne x 0 z), tt)
-        stopped x z (list rs bs) = ((λ t i l. eqb-ne x 0 z), tt)
+        stopped x z (list c rs bs) = ((λ t i l. eqb-ne x 0 z), tt)
 
         ran : (c : Call Words) → RefusedBelow E n (perform E c p .counted)
         ran (format first) = ((λ t i l. absurd (absurd-some i)), tt)
+        ran (copy old) = ((λ t i l. absurd (absurd-some i)), tt)
         ran (single a) = acts-refused (actsOf (single a)) p f
         ran (look r hold) = acts-refused (actsOf (look r hold)) p f
-        ran (list rs bs) = acts-refused (actsOf (list rs bs)) p f
+        ran (list c rs bs) = acts-refused (actsOf (list c rs bs)) p f
 
         by : (o : Outcome) → Way E c p o → RefusedBelow E n (o .counted)
         by o (stops x g z e) = subst (λ (y : Outcome). RefusedBelow E n (y .counted)) (sym e) (stopped x z c)
@@ -217,9 +220,10 @@ module _ (E : Engine) where
     where
       filled : (c : Call Words) → fills c ≡ true → all refusedOne (perform E c m .counted) ≡ true → ⊥
       filled (format first) f h = false≢true h
+      filled (copy old) f h = false≢true h
       filled (single a) f h = false≢true f
       filled (look r hold) f h = false≢true f
-      filled (list rs bs) f h = false≢true f
+      filled (list c rs bs) f h = false≢true f
 
       done : fills c ≡ false → all refusedOne (actsDone E c m .counted) ≡ true → Kept c m (actsDone E c m)
       done f h =
@@ -273,9 +277,10 @@ leave-all-off (l ∷ ls) (x ∷ xs) q h =
 
 named-seen : (f : Buffer → Words) (c : Call Buffer) → ticketNamed (mapCall f c) ≡ ticketNamed c
 named-seen f (format first) = refl
+named-seen f (copy old) = refl
 named-seen f (single a) = refl
 named-seen f (look r hold) = refl
-named-seen f (list rs bs) = refl
+named-seen f (list c rs bs) = refl
 
 head-brought : (q : Pool) (e : Event) → ownHead q e ≡ true → headBrought q (e .head) .next ≡ q .head .next
 head-brought q e h = eqb-eq (headBrought q (e .head) .next) (q .head .next) (search (and-l, and-r))
@@ -304,7 +309,7 @@ module _ (E : Engine) (q : Pool) (e : Event) where
     head-after a =
         let mine : ownTable q e ≡ true = search (and-l, and-r) in
         let taken : sameHead (headBrought q (e .head)) (q .head) ≡ true = search (and-l, and-r) in
-        rw (a, mine, taken, or-true (fills (e .call)))
+        rw (a, mine, taken, or-true (makesHead (e .call)))
 
   refused-after : accepted (outcome E q e .answer) ≡ false → after E q e ≡ q
   refused-after a =
@@ -336,7 +341,7 @@ module _ (E : Engine) (q : Pool) (e : Event) where
             ∙ and-l (accepted (outcome E q e .answer)) (headReturns q e) a) in
             ap (λ (z : Outcome). z .pool .head) is ∙ back
             ∙ returned-head q e (and-r (accepted (outcome E q e .answer)) (headReturns q e) a)
-            (sym (fills-seen (see q) (e .call)) ∙ f);
+            (sym (makes-seen (see q) (e .call)) ∙ fills-head c f);
         buffers = λ inside. absurd (true≢false (sym out ∙ inside));
       })
 

@@ -7,7 +7,7 @@ use mathlib.Core.Path.{_≡_, refl, sym, ap, _∙_, subst}
 use mathlib.Core.Logic.{_≢_, _↔_, inl, inr, ⊎-elim}
 use mathlib.Core.Bool.{and-false, cond, Bool, true, false, not, _||_, true≢false, or-true}
 use mathlib.Core.List.{[], _∷_}
-use mathlib.Core.Option.{Option, none, some}
+use mathlib.Core.Option.{none, some}
 use lib.Dec.{eqb, ltb}
 use lib.ListN.{length, getD}
 use Rattle.words.specs.Flags.{Says}
@@ -105,15 +105,11 @@ module _ (E : Engine) (p : Pool) (n : ℕ) where
 
 -- ---- 6 and 7
 
-pub unknown-test : (p : Pool) (r : Row) → (recordOf (r .ticket) (ledger p) ≡ none) ↔ Unknown p r
-unknown-test p r = (
-  (λ e. from e (ℕ-discrete (r .ticket) 0)),
-  (λ u. go (recordOf (r .ticket) (ledger p)) refl u),
-)
+pub unknown-none : (p : Pool) (r : Row) → recordOf (r .ticket) (ledger p) ≡ none → Unknown p r
+unknown-none p r e = go (ℕ-discrete (r .ticket) 0)
   where
-    other : recordOf (r .ticket) (ledger p) ≡ none → r .ticket ≢ 0 → (i : ℕ) → i < slots (p .table)
-        → recordAt (p .table) i .ticket ≢ r .ticket
-    other e z i l q =
+    other : r .ticket ≢ 0 → (i : ℕ) → i < slots (p .table) → recordAt (p .table) i .ticket ≢ r .ticket
+    other z i l q =
         let has : Row → Bool = hasTicket (r .ticket) in
         let s = getD (ledger p) i emptyRow in
         let none-has = firstThat-none has (ledger p) e in
@@ -121,17 +117,18 @@ unknown-test p r = (
         let here = has-ticket (r .ticket) s .1 (z, ap (λ (s : Row). s .ticket) (record-at (p .table) i l) ∙ q) in
         true≢false (sym here ∙ not-true (has s) not-here)
 
-    from : recordOf (r .ticket) (ledger p) ≡ none → Dec (r .ticket ≡ 0) → Unknown p r
-    from e (yes z) = inl z
-    from e (no z) = inr (other e z)
+    go : Dec (r .ticket ≡ 0) → Unknown p r
+    go (yes z) = inl z
+    go (no z) = inr (λ i l q. absurd (other z i l q))
 
-    go : (o : Option Row) → recordOf (r .ticket) (ledger p) ≡ o → Unknown p r → recordOf (r .ticket) (ledger p) ≡ none
-    go none e u = e
-    go (some s) e u =
-        let (z, q) = record-ticket (r .ticket) (ledger p) s e in
-        let (i, l, x) = record-slot (r .ticket) (ledger p) s e in
-        let below : i < slots (p .table) = rw length-records at l in
-        absurd (⊎-elim z (λ h. h i below (ap (λ (v : Row). v .ticket) (sym (record-at (p .table) i below) ∙ x) ∙ q)) u)
+-- a ticket with a record of the party that names it
+pub known-own : (p : Pool) (r s : Row) → recordOf (r .ticket) (ledger p) ≡ some s → s .party ≡ r .party → Unknown p r → ⊥
+known-own p r s e c =
+    let (z, q) = record-ticket (r .ticket) (ledger p) s e in
+    let (i, l, x) = record-slot (r .ticket) (ledger p) s e in
+    let below : i < slots (p .table) = rw length-records at l in
+    let here : recordAt (p .table) i ≡ s = sym (record-at (p .table) i below) ∙ x in
+    ⊎-elim z (λ h. h i below (ap (λ (v : Row). v .ticket) here ∙ q) (ap (λ (v : Row). v .party) here ∙ c))
 
 pub record-same : (p : Pool) (r : Row) → recordOf (r .ticket) (ledger p) ≡ some r → Same p r
 record-same p r e =
@@ -171,3 +168,15 @@ same-record ρ W next p good r z (i, l, e) =
     let some-ticket : getD (ledger p) i emptyRow .ticket ≢ 0 = λ y. z (ap (λ (s : Row). s .ticket) (sym x) ∙ y) in
     subst (λ (s : Row). recordOf (s .ticket) (ledger p) ≡ some s) x
     (record-first ρ (ledger p) (valid-apart ρ W next (ledger p) good) i inside some-ticket)
+
+-- so a ticket whose record is another party's is none of the party's own
+pub unknown-other : (ρ : Rule) (W next : ℕ) (p : Pool) → valid ρ W next (ledger p) ≡ true
+    → (r s : Row) → recordOf (r .ticket) (ledger p) ≡ some s → s .party ≢ r .party → Unknown p r
+unknown-other ρ W next p good r s e d =
+    inr (λ i l t c.
+    let at = recordAt (p .table) i in
+    let z : at .ticket ≢ 0 = λ y. record-ticket (r .ticket) (ledger p) s e .0 (sym t ∙ y) in
+    let here = same-record ρ W next p good at z (i, l, refl) in
+    let found : recordOf (r .ticket) (ledger p) ≡ some at = ap (λ k. recordOf k (ledger p)) (sym t) ∙ here in
+    let same : s ≡ at = cc in
+    d (ap (λ (v : Row). v .party) same ∙ c))

@@ -11,7 +11,7 @@ use Rattle.words.proofs.Tests.{and-l, and-r, not-true, eqb-ne}
 use Rattle.ledger.specs.declared.Row.{Row}
 use Rattle.ledger.specs.Records.{Ledger, Plan}
 use Rattle.calls.specs.Pool.{Pool, ledger, Engine}
-use Rattle.calls.specs.Step.{Call, format, single, look, list, refusal, accepted, Act, Kind, plans, reads}
+use Rattle.calls.specs.Step.{Call, format, copy, single, look, list, refusal, accepted, Act, Kind, plans, reads}
 use Rattle.calls.specs.Step.{others, kindOf, Outcome, named, answerTo, poolAfter, countedOf, poolAfterAll, actsOf}
 use Rattle.calls.specs.Step.{buffersOf, countedWhole, fills, refusedBy, actsDone, perform, step}
 use Rattle.calls.specs.Demand3.{Brings, Progress, isReplay, standsAs, stands, Right, afterAct, standAll, RightAll}
@@ -86,9 +86,10 @@ pub no-filling : (E : Engine) (start : Ledger) (b : Brings) (s : Progress) (c : 
     → fills c ≡ true → standAll start b s (perform E c m .counted) ≡ true → ⊥
 unfolding perform stands
 no-filling E start b s (format first) m f h = false≢true h
+no-filling E start b s (copy old) m f h = false≢true h
 no-filling E start b s (single a) m f h = false≢true f
 no-filling E start b s (look r hold) m f h = false≢true f
-no-filling E start b s (list rs bs) m f h = false≢true f
+no-filling E start b s (list c rs bs) m f h = false≢true f
 
 module _ (E : Engine) (start : Ledger) (b : Brings) (s : Progress) (w : b .whole ≡ false) (m : Pool)
     (unknown : (r : Row) → isReplay start b s r ≡ true → named (ledger m) r ≡ 6) where
@@ -106,15 +107,17 @@ module _ (E : Engine) (start : Ledger) (b : Brings) (s : Progress) (w : b .whole
     where
       right : (c : Call Words) → Right start b s (countedWhole c n)
       right (format first) = tt
+      right (copy old) = tt
       right (single a) = right-stray start b s a (refusal n) w z
       right (look r hold) = tt
-      right (list rs bs) = tt
+      right (list c rs bs) = tt
 
       still : (c : Call Words) → afterAct start b s (countedWhole c n) ≡ s
       still (format first) = refl
+      still (copy old) = refl
       still (single a) = stays start b s a (refusal n) (not-due start b s w (kindOf a)) z
       still (look r hold) = refl
-      still (list rs bs) = refl
+      still (list c rs bs) = refl
 
   stray-acted : (c : Call Words) → fills c ≡ false → standAll start b s (actsDone E c m .counted) ≡ true
       → StrayCall E start b s c m (actsDone E c m)

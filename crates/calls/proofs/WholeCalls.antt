@@ -6,25 +6,26 @@ use mathlib.Core.Logic.{_≢_}
 use mathlib.Core.Bool.{Bool, true, false, not, _&&_, _||_, false≢true, true≢false}
 use mathlib.Core.List.{List, [], _∷_}
 use mathlib.Core.Option.{Option, none, some}
-use lib.Dec.{eqb}
-use Rattle.words.specs.Lists.{Words, isSome}
-use Rattle.words.proofs.Tests.{and-l, and-r, not-true, eqb-eq, eqb-ne}
+use Rattle.words.specs.Lists.{Words, all, isSome}
+use Rattle.words.proofs.Tests.{and-l, and-r, not-true, eqb-eq, eqb-ne, false-of}
 use Rattle.ledger.specs.declared.Row.{Row}
-use Rattle.ledger.specs.Records.{Ledger, recordOf, Plan, vacate, Member, member, planFor, settle}
+use Rattle.ledger.specs.Records.{Ledger, isParty, recordOf, Plan, vacate, Member, member, planFor, settle}
 use Rattle.ledger.proofs.RecordLaws.{record-gone, record-kept}
+use Rattle.ledger.proofs.UnitLaws.{valid-record}
 use Rattle.calls.specs.declared.Answer.{Answer}
-use Rattle.calls.specs.Pool.{Pool, ledger, Engine, Laws, sound}
-use Rattle.calls.specs.Step.{Call, format, single, look, list, success, refusal, accepted, Act, query, Kind}
-use Rattle.calls.specs.Step.{plans, reads, others, kindOf, Counted, Outcome, named, carry, answerTo, poolAfter}
-use Rattle.calls.specs.Step.{countedOf, poolAfterAll, actsOf, buffersOf, fills, ownAnswer, asOne, gate}
-use Rattle.calls.specs.Step.{refusedBy, actsDone, perform, step}
+use Rattle.calls.specs.Pool.{Pool, ledger, wordCount, Engine, Laws, ruleOf, sound}
+use Rattle.calls.specs.Step.{Call, format, copy, single, look, list, success, refusal, accepted, Act, query, Kind}
+use Rattle.calls.specs.Step.{plans, reads, others, kindOf, Outcome, named, carry, answerTo, poolAfter}
+use Rattle.calls.specs.Step.{countedOf, poolAfterAll, actsOf, buffersOf, fills, partyGiven, rightParty, partied}
+use Rattle.calls.specs.Step.{ownAnswer, countedWhole, gate, refusedBy, actsDone, perform, step}
 use Rattle.calls.specs.Demand3.{Brings, Progress, remove, isPlan, live, isDue, isReplay, standsAs, stands}
 use Rattle.calls.specs.Demand3.{RightAs, Right, afterAs, afterAct, standAll, RightAll, afterActs}
-use Rattle.calls.proofs.StoreLaws.{ledger-store, settled-sound, settled, settled-more}
+use Rattle.calls.proofs.StoreLaws.{ledger-store, sound-valid, settled-sound, settled, settled-more}
 use Rattle.calls.proofs.ActLaws.{named-none, named-zero, plan-done, kind-plans}
-use Rattle.calls.proofs.GateLaws.{Way, stops, runs, way, perform-acts}
+use Rattle.calls.proofs.GateLaws.{Way, stops, runs, way, perform-acts, gate-sound, gate-partied, sound-gate}
 use Rattle.calls.proofs.ProgressLaws.{Inv, inv-carried, is-plan, given, stays, NotDue}
-use Rattle.calls.proofs.CallLaws.{act-kept, reads-kept, plan-refused, own-refused, own-buffers, stopped-whole}
+use Rattle.calls.proofs.CallLaws.{act-kept, reads-kept, plan-refused, own-refused, own-buffers, plan-party}
+use Rattle.calls.proofs.CallLaws.{acts-partied}
 use Rattle.calls.proofs.Strays.{no-filling}
 
 -- ---- their acts
@@ -117,7 +118,8 @@ module _ (E : Engine) (laws : Laws E) (p : Pool) (ok : sound E p ≡ true) (ms :
         right = subst (λ (z : Kind). RightAs (ledger p) all-own s z (answerTo E q a)) (sym k) (record {
           accepts = λ _. did .0;
           refuses = λ h. absurd (true≢false (sym h ∙ fresh));
-          six = λ h _. absurd (true≢false (sym h ∙ fresh));
+          six = λ h _ _. absurd (true≢false (sym h ∙ fresh));
+          twelve = λ h _ _. absurd (true≢false (sym h ∙ fresh));
         });
         still = λ f. absurd (true≢false (sym (ap accepted (did .0)) ∙ f));
       },
@@ -147,14 +149,15 @@ module _ (E : Engine) (laws : Laws E) (p : Pool) (ok : sound E p ≡ true) (ms :
         moved = due-after (ledger p) s x r d a k (answerTo E q a) (ap accepted (did .0))
 
     -- one that is not due: refused, whether it is a replay or another
-    other-plan : (a : Act) (x : Plan) (r : Row) → kindOf a ≡ plans x r → isDue (ledger p) all-own s x r ≡ false
-        → accepted (answerTo E q a) ≡ false → Acted s q a
-    other-plan a x r k d f =
+    other-plan : (a : Act) (x : Plan) (r : Row) → kindOf a ≡ plans x r → partied a ≡ true
+        → isDue (ledger p) all-own s x r ≡ false → accepted (answerTo E q a) ≡ false → Acted s q a
+    other-plan a x r k c d f =
         refused-act a (subst (λ (z : Kind). NotDue (ledger p) all-own s z) (sym k) d) f
         (subst (λ (z : Kind). RightAs (ledger p) all-own s z (answerTo E q a)) (sym k) (record {
           accepts = λ h. absurd (true≢false (sym h ∙ d));
           refuses = λ _. f;
-          six = λ h _. plan-refused E q a x r k 6 (replay-six all-own r h) (λ z. omega arith);
+          six = λ h _ _. plan-refused E q a x r k 6 (replay-six all-own r h) (λ z. omega arith);
+          twelve = λ _ _ n. absurd (false≢true (sym n ∙ sym (plan-party a x r k) ∙ c));
         }))
 
     -- an act that reads
@@ -170,18 +173,18 @@ module _ (E : Engine) (laws : Laws E) (p : Pool) (ok : sound E p ≡ true) (ms :
           still = λ _. same;
         }
 
-    act-at : (a : Act) → stands (ledger p) all-own s (given a (answerTo E q a)) ≡ true → Acted s q a
+    act-at : (a : Act) → partied a ≡ true → stands (ledger p) all-own s (given a (answerTo E q a)) ≡ true → Acted s q a
     unfolding stands
-    act-at a h = go (kindOf a) refl h
+    act-at a g h = go (kindOf a) refl h
       where
         plan : (x : Plan) (r : Row) → kindOf a ≡ plans x r → (b : Bool) → isDue (ledger p) all-own s x r ≡ b
             → (c : Bool) → isReplay (ledger p) all-own s r ≡ c
             → (b || c || not (accepted (answerTo E q a))) ≡ true → Acted s q a
         plan x r k true d c y h = due-act a x r k d .1
         plan x r k false d true y h =
-            other-plan a x r k d
+            other-plan a x r k g d
             (ap accepted (plan-refused E q a x r k 6 (replay-six all-own r y) (λ z. omega arith)))
-        plan x r k false d false y h = other-plan a x r k d (not-true (accepted (answerTo E q a)) h)
+        plan x r k false d false y h = other-plan a x r k g d (not-true (accepted (answerTo E q a)) h)
 
         go : (k : Kind) → kindOf a ≡ k → standsAs (ledger p) all-own s k (answerTo E q a) ≡ true → Acted s q a
         go (plans x r) k h =
@@ -193,19 +196,26 @@ module _ (E : Engine) (laws : Laws E) (p : Pool) (ok : sound E p ≡ true) (ms :
             (subst (λ (z : Kind). RightAs (ledger p) all-own s z (answerTo E q a)) (sym k) tt)
 
   acts-at : (more : List Act) (s : Progress) (q : Pool) → q ≡ settled E p (s .done) → Inv ms s
-      → standAll (ledger p) all-own s (countedOf E q more) ≡ true → ActedAll s q more
-  acts-at [] s q e v h = record { pool = e; inv = v; right = tt }
-  acts-at (a ∷ more) s q e v h =
+      → all partied more ≡ true → standAll (ledger p) all-own s (countedOf E q more) ≡ true → ActedAll s q more
+  acts-at [] s q e v g h = record { pool = e; inv = v; right = tt }
+  acts-at (a ∷ more) s q e v g h =
       let c = given a (answerTo E q a) in
       let later = countedOf E (poolAfter E q a) more in
-      let one = act-at s q e v a (and-l (stands (ledger p) all-own s c)
+      let one = act-at s q e v a (and-l (partied a) (all partied more) g) (and-l (stands (ledger p) all-own s c)
       (standAll (ledger p) all-own (afterAct (ledger p) all-own s c) later) h) in
       let rest = acts-at more (afterAct (ledger p) all-own s c) (poolAfter E q a) (one .pool) (one .inv)
-      (and-r (stands (ledger p) all-own s c)
+      (and-r (partied a) (all partied more) g) (and-r (stands (ledger p) all-own s c)
       (standAll (ledger p) all-own (afterAct (ledger p) all-own s c) later) h) in
       record { pool = rest .pool; inv = rest .inv; right = (one .right, rest .right) }
 
 -- ---- the calls
+
+-- a record that a sound pool has is some party's
+pub some-party : (E : Engine) → Laws E → (p : Pool) → sound E p ≡ true → (r : Row) → named (ledger p) r ≡ 0
+    → isParty (r .party) ≡ true
+some-party E laws p ok r h =
+    valid-record (ruleOf E p) (laws .unit (p .shape)) (wordCount p) (p .head .next) (ledger p)
+    (sound-valid E laws p ok) (r .ticket) r (named-zero (ledger p) r h) .party
 
 -- every word that a call was lent is left as it was
 pub record Unmoved (q : Pool) (c : Call Words) (o : Outcome) : Type 0 where
@@ -228,28 +238,67 @@ module _ (E : Engine) (laws : Laws E) (p : Pool) (ok : sound E p ≡ true) (ms :
     unfolding settled
     whole-sound = ap (λ (z : Pool). sound E z) e ∙ settled-sound E laws p ok (s .done)
 
-    -- what the gate of a sound pool stops counts as a whole
-    whole-stopped : (c : Call Words) (n : ℕ) → eqb n 0 ≡ false → gate E c q ≢ 0 → WholeCall s q c (refusedBy E c q n)
+    -- an act of no party, refused by 12: it is no release of the set, whose records are some party's
+    unpartied : (a : Act) → partied a ≡ false
+        → (afterAct (ledger p) all-own s (given a (refusal 12)) ≡ s) × Right (ledger p) all-own s (given a (refusal 12))
+    unfolding isDue
+    unpartied a g = (stays (ledger p) all-own s a (refusal 12) (not-set (kindOf a) refl) refl, right (kindOf a) refl)
+      where
+        no-party : (x : Plan) (r : Row) → kindOf a ≡ plans x r → isParty (r .party) ≡ false
+        no-party x r k = sym (plan-party a x r k) ∙ g
+
+        not-set : (z : Kind) → kindOf a ≡ z → NotDue (ledger p) all-own s z
+        not-set (plans x r) k =
+            false-of (isDue (ledger p) all-own s x r)
+            (λ d. true≢false (sym (some-party E laws p ok r (eqb-eq (named (ledger p) r) 0 (search and-r)))
+            ∙ no-party x r k))
+        not-set reads k = tt
+        not-set others k = tt
+
+        right : (z : Kind) → kindOf a ≡ z → RightAs (ledger p) all-own s z (refusal 12)
+        right (plans x r) k = record {
+          accepts = λ d. absurd (true≢false (sym d ∙ not-set (plans x r) k));
+          refuses = λ _. refl;
+          six = λ _ _ h. absurd (true≢false (sym h ∙ no-party x r k));
+          twelve = λ _ _ _. refl;
+        }
+        right reads k = tt
+        right others k = tt
+
+    -- what the gate of a sound pool stops counts as a whole, or as an act of no party
+    stopped : (c : Call Words) (n : ℕ) → gate E c q ≡ n → n ≢ 0
+        → (afterAct (ledger p) all-own s (countedWhole c n) ≡ s) × Right (ledger p) all-own s (countedWhole c n)
     unfolding afterAct
-    whole-stopped c n z g =
-        let k : refusedBy E c q n .counted ≡ asOne (refusal n) ∷ [] =
-        ap (λ (x : Counted). x ∷ []) (stopped-whole E c q whole-sound g n) in
+    stopped (format first) n g z = (refl, tt)
+    stopped (copy old) n g z = (refl, tt)
+    stopped (single a) n g z = by (partied a) refl
+      where
+        by : (b : Bool) → partied a ≡ b
+            → (afterAct (ledger p) all-own s (given a (refusal n)) ≡ s) × Right (ledger p) all-own s (given a (refusal n))
+        by true h = absurd (z (sym g ∙ gate-sound E (single a) q refl refl whole-sound h))
+        by false h =
+            subst (λ k. (afterAct (ledger p) all-own s (given a (refusal k)) ≡ s)
+            × Right (ledger p) all-own s (given a (refusal k)))
+            (sym (gate-partied E (single a) q refl refl whole-sound h) ∙ g) (unpartied a h)
+    stopped (look r hold) n g z = (refl, tt)
+    stopped (list c rs bs) n g z = (refl, tt)
+
+    whole-stopped : (c : Call Words) (n : ℕ) → gate E c q ≡ n → n ≢ 0 → WholeCall s q c (refusedBy E c q n)
+    whole-stopped c n g z =
+        let (still, right) = stopped c n g z in
         record {
-          pool = λ h. absurd (false≢true (sym z ∙ h));
-          inv = subst (λ (cs : List Counted). Inv ms (afterActs (ledger p) all-own s cs)) (sym k) v;
-          right = subst (λ (cs : List Counted). RightAll (ledger p) all-own s cs) (sym k) (tt, tt);
-          kept = λ _. (
-            record { arena = refl; table = refl; index = refl; buffers = refl },
-            ap (λ (cs : List Counted). afterActs (ledger p) all-own s cs) k,
-          );
+          pool = λ h. absurd (false≢true (sym (eqb-ne n 0 z) ∙ h));
+          inv = subst (λ (y : Progress). Inv ms y) (sym still) v;
+          right = (right, tt);
+          kept = λ _. (record { arena = refl; table = refl; index = refl; buffers = refl }, still);
         }
 
-    whole-acted : (c : Call Words) → fills c ≡ false → standAll (ledger p) all-own s (actsDone E c q .counted) ≡ true
-        → WholeCall s q c (actsDone E c q)
+    whole-acted : (c : Call Words) → fills c ≡ false → rightParty (partyGiven c) ≡ true
+        → standAll (ledger p) all-own s (actsDone E c q .counted) ≡ true → WholeCall s q c (actsDone E c q)
     unfolding actsDone
-    whole-acted c n h =
-        let a = acts-at E laws p ok ms (actsOf c) s q e v h in
-        record { pool = λ _. a .pool; inv = a .inv; right = a .right; kept = λ f. (left f, still c n h f) }
+    whole-acted c n g h =
+        let a = acts-at E laws p ok ms (actsOf c) s q e v (acts-partied c g) h in
+        record { pool = λ _. a .pool; inv = a .inv; right = a .right; kept = λ f. (left f, still c n g h f) }
       where
         left : accepted (ownAnswer c (countedOf E q (actsOf c))) ≡ false → Unmoved q c (actsDone E c q)
         left f =
@@ -261,20 +310,21 @@ module _ (E : Engine) (laws : Laws E) (p : Pool) (ok : sound E p ≡ true) (ms :
               buffers = own-buffers c (countedOf E q (actsOf c)) f;
             }
 
-        one : (a : Act) → standAll (ledger p) all-own s (countedOf E q (a ∷ [])) ≡ true
+        one : (a : Act) → partied a ≡ true → standAll (ledger p) all-own s (countedOf E q (a ∷ [])) ≡ true
             → accepted (answerTo E q a) ≡ false → afterAct (ledger p) all-own s (given a (answerTo E q a)) ≡ s
-        one a h f =
-            act-at E laws p ok ms s q e v a
+        one a g h f =
+            act-at E laws p ok ms s q e v a g
             (and-l (stands (ledger p) all-own s (given a (answerTo E q a))) true h) .still f
 
-        still : (c : Call Words) → fills c ≡ false
+        still : (c : Call Words) → fills c ≡ false → rightParty (partyGiven c) ≡ true
             → standAll (ledger p) all-own s (countedOf E q (actsOf c)) ≡ true
             → accepted (ownAnswer c (countedOf E q (actsOf c))) ≡ false
             → afterActs (ledger p) all-own s (countedOf E q (actsOf c)) ≡ s
-        still (format first) n h f = absurd (true≢false n)
-        still (single a) n h f = one a h f
-        still (look r hold) n h f = one (query r) h f
-        still (list rs bs) n h f = absurd (true≢false f)
+        still (format first) n g h f = absurd (true≢false n)
+        still (copy old) n g h f = absurd (true≢false n)
+        still (single a) n g h f = one a g h f
+        still (look r hold) n g h f = one (query r) g h f
+        still (list c rs bs) n g h f = absurd (true≢false f)
 
     pub whole-step : (c : Call Words) → standAll (ledger p) all-own s (step E c q .counted) ≡ true
         → WholeCall s q c (step E c q)
@@ -283,18 +333,18 @@ module _ (E : Engine) (laws : Laws E) (p : Pool) (ok : sound E p ≡ true) (ms :
         at : (o z : Outcome) → o ≡ z → WholeCall s q c z → WholeCall s q c o
         at o z i k = subst (λ (y : Outcome). WholeCall s q c y) (sym i) k
 
-        acts : (f : Bool) → fills c ≡ f → standAll (ledger p) all-own s (perform E c q .counted) ≡ true
+        acts : (f : Bool) → fills c ≡ f → gate E c q ≡ 0 → standAll (ledger p) all-own s (perform E c q .counted) ≡ true
             → WholeCall s q c (perform E c q)
-        acts true f h = absurd (no-filling E (ledger p) all-own s c q f h)
-        acts false f h =
+        acts true f g h = absurd (no-filling E (ledger p) all-own s c q f h)
+        acts false f g h =
             let i = perform-acts E c q f in
             at (perform E c q) (actsDone E c q) i
-            (whole-acted c f (subst (λ (z : Outcome). standAll (ledger p) all-own s (z .counted) ≡ true) i h))
+            (whole-acted c f (sound-gate E c q f g .2) (subst (λ (z : Outcome). standAll (ledger p) all-own s (z .counted) ≡ true) i h))
 
         by : (o : Outcome) → Way E c q o → standAll (ledger p) all-own s (o .counted) ≡ true → WholeCall s q c o
         by o (stops n g z i) h =
             at o (refusedBy E c q n) i
-            (whole-stopped c n (eqb-ne n 0 z) (λ y. z (sym g ∙ y)))
+            (whole-stopped c n g z)
         by o (runs g i) h =
             at o (perform E c q) i
-            (acts (fills c) refl (subst (λ (z : Outcome). standAll (ledger p) all-own s (z .counted) ≡ true) i h))
+            (acts (fills c) refl g (subst (λ (z : Outcome). standAll (ledger p) all-own s (z .counted) ≡ true) i h))

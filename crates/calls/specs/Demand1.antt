@@ -1,24 +1,26 @@
 -- Demand 1: any call on any memory gets the number that the table of 01 fixes, and a refused call leaves every word
--- as it stood. 01, "Calls and numbers"; a format's 6: 02, ticket 2. Proved in proofs/Demand1; what row 8 says of each
+-- as it stood. 01, "Calls and numbers"; a format's 6: 02, ticket 2; 12 and copies: ticket 6. Proved in proofs/Demand1; what row 8 says of each
 -- engine's lengths is in proofs/Engines. That a call ends, and stays inside what was lent, is shown elsewhere: `step` is
 -- a function on any memory, and the code's own proofs (the gate) show that every call of the code ends and stays
 -- inside. Assumes nothing.
-use Prim.Native.Nat.{ℕ, _+_, _/_, _%_, _≤_, _<_}
+use Prim.Native.Nat.{ℕ, _+_, _*_, _/_, _%_, _≤_, _<_}
 use mathlib.Core.Path.{_≡_}
 use mathlib.Core.Logic.{_≢_, _↔_, _⊎_}
-use mathlib.Core.Bool.{Bool, true, false, _&&_}
+use mathlib.Core.Bool.{Bool, true, false}
 use mathlib.Core.List.{List, _++_}
+use mathlib.Core.Option.{some}
 use lib.ListN.{length}
 use Rattle.words.specs.Flags.{Says}
 use Rattle.words.specs.Lists.{Words}
 use Rattle.ledger.specs.declared.Row.{Row}
-use Rattle.ledger.specs.Records.{row, slots, recordAt, isEmpty}
+use Rattle.ledger.specs.Records.{row, isParty, slots, recordAt, isEmpty}
 use Rattle.ledger.specs.Units.{span, free}
-use Rattle.calls.specs.Pool.{Pool, ledger, wordCount, Engine, ruleOf, lengths, sound, StoredForm}
-use Rattle.calls.specs.Step.{Call, format, find, look, refusal, accepted, arenaPart, placeholder, Act, ask}
-use Rattle.calls.specs.Step.{give, query, bad, Outcome, request, listSuits, countedOf, poolAfterAll, answerTo}
-use Rattle.calls.specs.Step.{poolAfter, actsOf, buffersOf, suits, fills, ownAnswer, shownBy, buffersAfter}
-use Rattle.calls.specs.Step.{refusedHead, step}
+use Rattle.calls.specs.Pool.{Pool, withTable, ledger, wordCount, Engine, ruleOf, lengths, sound, StoredForm}
+use Rattle.calls.specs.Step.{Call, format, copy, find, look, zeroAnswer, refusal, accepted, arenaPart, placeholder}
+use Rattle.calls.specs.Step.{Act, ask, give, query, bad, Outcome, request, listSuits, copySuits, copied, countedOf}
+use Rattle.calls.specs.Step.{poolAfterAll, answerTo, poolAfter, actsOf, buffersOf, suits, fills, partyGiven}
+use Rattle.calls.specs.Step.{rightParty, ownAnswer, shownBy, buffersAfter, knownForm, rightLengths, refusedHead}
+use Rattle.calls.specs.Step.{step}
 
 -- ---- the rows of the table, each said of the records, units and words themselves
 
@@ -40,11 +42,14 @@ NoRoom E p n =
     (k : ℕ) → k + span (ruleOf E p) n ≤ wordCount p / ruleOf E p .unit
     → ((u : ℕ) × (k ≤ u) × (u < k + span (ruleOf E p) n) × (free (ruleOf E p) (ledger p) u ≡ false))
 
--- 6: no live record has this ticket (0 always)
+-- 6: no live record has this ticket (0 always), or it is another party's (02, ticket 6)
 abbrev pub Unknown : Pool → Row → Type 0
-Unknown p r = (r .ticket ≡ 0) ⊎ ((i : ℕ) → i < slots (p .table) → recordAt (p .table) i .ticket ≢ r .ticket)
+Unknown p r =
+    (r .ticket ≡ 0)
+    ⊎ ((i : ℕ) → i < slots (p .table) → recordAt (p .table) i .ticket ≡ r .ticket
+    → recordAt (p .table) i .party ≢ r .party)
 
--- the record of this ticket has this address and these words; 7: it has not
+-- the party's record of this ticket has this address and these words; 7: it has not
 abbrev pub Same : Pool → Row → Type 0
 Same p r = (i : ℕ) × (i < slots (p .table)) × (recordAt (p .table) i ≡ r)
 
@@ -62,17 +67,33 @@ pub record NameNumbers (p : Pool) (r : Row) (x : ℕ) : Type 0 where
   pub seven : (x ≡ 7) ↔ ((Unknown p r → ⊥) × (Same p r → ⊥))
   pub zero : (x ≡ 0) ↔ ((Unknown p r → ⊥) × Same p r)
 
+-- 12 comes before them (and from the gate, before any act)
 abbrev pub ActNumbers : Engine → Pool → Act → ℕ → Type 0
-ActNumbers E p (ask n) x = AskNumbers E p n x
+ActNumbers E p (ask c n) x = (isParty c ≡ false → x ≡ 12) × (isParty c ≡ true → AskNumbers E p n x)
 ActNumbers E p (give r) x = NameNumbers p r x
 ActNumbers E p (query r) x = NameNumbers p r x
 ActNumbers E p bad x = x ≡ 9
+
+-- ---- 12: the party that a call gives is not 1 to 255
+
+abbrev pub BadParty : Call Words → Type 0
+BadParty c = (x : ℕ) × (partyGiven c ≡ some x) × ((x ≡ 0) ⊎ (255 < x))
 
 -- ---- the number of a format, behind 11 and 8 (02, ticket 2): 6 for first ticket 0, else it is accepted
 
 pub record FormatNumbers (right : Bool) (first x : ℕ) : Type 0 where
   pub six : (x ≡ 6) ↔ ((right ≡ true) × (first ≡ 0))
   pub zero : (x ≡ 0) ↔ ((right ≡ true) × (first ≢ 0))
+
+-- ---- the number of a copy (02, ticket 6), which goes by the lengths of its two tables alone, and what it leaves: every
+-- record of the new table, and nothing else written
+
+pub record Copies (E : Engine) (old : Words) (p : Pool) (o : Outcome) : Type 0 where
+  pub eight : (o .answer .number ≡ 8) ↔ (copySuits old (p .table) ≡ false)
+  pub zero : (o .answer .number ≡ 0) ↔ (copySuits old (p .table) ≡ true)
+  pub done : copySuits old (p .table) ≡ true
+      → (o .answer ≡ zeroAnswer) × (ledger (o .pool) ≡ copied old) × (length (o .pool .table) ≡ length (p .table))
+      × (o .pool ≡ withTable (o .pool .table) p)
 
 -- ---- a refused call
 
@@ -100,9 +121,9 @@ pub record Performed (E : Engine) (c : Call Words) (p : Pool) (o : Outcome) : Ty
 
 -- Row 9: "1, words, 0, 0 to allocate; 2, ticket, address, words to release"; every other four words are a bad request.
 pub record RequestForms : Type 0 where
-  pub asks : (n : ℕ) → request 1 n 0 0 ≡ ask n
-  pub gives : (t a w : ℕ) → request 2 t a w ≡ give (row t a w)
-  pub others : (k x y z : ℕ) → ((k ≡ 1) × (y ≡ 0) × (z ≡ 0) → ⊥) → (k ≡ 2 → ⊥) → request k x y z ≡ bad
+  pub asks : (c n : ℕ) → request c 1 n 0 0 ≡ ask c n
+  pub gives : (c t a w : ℕ) → request c 2 t a w ≡ give (row t a w c)
+  pub others : (c k x y z : ℕ) → ((k ≡ 1) × (y ≡ 0) × (z ≡ 0) → ⊥) → (k ≡ 2 → ⊥) → request c k x y z ≡ bad
 
 -- ---- the demand
 
@@ -111,16 +132,19 @@ pub record Demand1 (E : Engine) : Type 0 where
   pub refused : (c : Call Words) (p : Pool) → accepted (step E c p .answer) ≡ false → Refused E c p (step E c p)
   pub refusedAct : (p : Pool) (a : Act) → accepted (answerTo E p a) ≡ false
       → (answerTo E p a ≡ refusal (answerTo E p a .number)) × (poolAfter E p a ≡ p)
-  -- 11, 8 and 1, exactly when their rows say; a format gives 11, 8, 6 or 0
-  pub eleven : (c : Call Words) (p : Pool) → (step E c p .answer .number ≡ 11) ↔ (E .known (p .shape) ≡ false)
+  -- 11, 8, 1 and 12, exactly when their rows say; a format gives 11, 8, 6 or 0, a copy 8 or 0
+  pub eleven : (c : Call Words) (p : Pool) → (step E c p .answer .number ≡ 11) ↔ (knownForm E c p ≡ false)
   pub eight : (c : Call Words) (p : Pool) → (step E c p .answer .number ≡ 8)
-      ↔ ((E .known (p .shape) ≡ true) × ((lengths E p && suits c) ≡ false))
+      ↔ ((knownForm E c p ≡ true) × (rightLengths E c p ≡ false))
   pub one : (c : Call Words) (p : Pool) → (step E c p .answer .number ≡ 1)
-      ↔ ((fills c ≡ false) × ((lengths E p && suits c) ≡ true) × (StoredForm E p → ⊥))
+      ↔ ((fills c ≡ false) × (rightLengths E c p ≡ true) × (StoredForm E p → ⊥))
+  pub twelve : (c : Call Words) (p : Pool) → (step E c p .answer .number ≡ 12)
+      ↔ ((fills c ≡ false) × (rightLengths E c p ≡ true) × StoredForm E p × BadParty c)
+  pub copies : (p : Pool) (old : Words) → Copies E old p (step E (copy old) p)
   pub formats : (p : Pool) (first : ℕ) → FormatNumbers (lengths E p) first (step E (format first) p .answer .number)
   -- else the call does its acts, and every act's number is the one whose row holds
-  pub performed : (c : Call Words) (p : Pool) → fills c ≡ false → suits c ≡ true → sound E p ≡ true
-      → Performed E c p (step E c p)
+  pub performed : (c : Call Words) (p : Pool) → fills c ≡ false → suits c p ≡ true → sound E p ≡ true
+      → rightParty (partyGiven c) ≡ true → Performed E c p (step E c p)
   pub numbers : (p : Pool) (a : Act) → sound E p ≡ true → ActNumbers E p a (answerTo E p a .number)
   -- and each is answered on the pool as the one before left it
   pub inTurn : (p : Pool) (xs ys : List Act)
@@ -140,3 +164,7 @@ pub record Demand1 (E : Engine) : Type 0 where
   pub requestForms : RequestForms
   pub listLengths : (rs bs : Words)
       → Says (listSuits rs bs) ((length rs % 4 ≡ 0) × (length rs ≤ 4096) × (length rs ≤ length bs))
+  -- copies: "an old table", which has three words to each of 1 to 256 records, "into a new one of as many records"
+  pub copyLengths : (old new : Words)
+      → Says (copySuits old new)
+      ((length old % 3 ≡ 0) × (3 ≤ length old) × (length old ≤ 768) × (length new ≡ 4 * (length old / 3)))

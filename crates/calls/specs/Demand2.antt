@@ -10,7 +10,7 @@ use mathlib.Core.Option.{some}
 use lib.ListN.{getD}
 use Rattle.words.specs.Lists.{Words}
 use Rattle.ledger.specs.declared.Row.{Row}
-use Rattle.ledger.specs.Records.{recordOf, enter, vacate, member, settle}
+use Rattle.ledger.specs.Records.{isParty, recordOf, enter, vacate, member, settle}
 use Rattle.ledger.specs.Units.{span, first, past, covers, free}
 use Rattle.ledger.specs.Runs.{AreRuns, freeRuns}
 use Rattle.calls.specs.Pool.{Pool, ledger, wordCount, Engine, nextAfter, ruleOf, sound}
@@ -25,16 +25,16 @@ pub record LowestFit (E : Engine) (p : Pool) (n k : ℕ) : Type 0 where
   pub lowest : (j : ℕ) → j < k
       → ((u : ℕ) × (j ≤ u) × (u < j + span (ruleOf E p) n) × (free (ruleOf E p) (ledger p) u ≡ false))
 
--- The grant at unit k: the answer, the record in the lowest empty slot, the next ticket, and exactly its units no
+-- The grant at unit k to party c: the answer, the record in the lowest empty slot, the next ticket, and exactly its units no
 -- longer free; the words from its address to the end of its last unit, spare words included, read zero.
-pub record Granted (E : Engine) (p : Pool) (n k : ℕ) : Type 0 where
-  pub answer : answerTo E p (ask n) ≡ success (newRow E p n k)
-  pub holds : ledger (poolAfter E p (ask n)) ≡ enter (newRow E p n k) (ledger p)
-  pub next : poolAfter E p (ask n) .head .next ≡ nextAfter (p .head .next)
-  pub units : (u : ℕ) → free (ruleOf E p) (ledger (poolAfter E p (ask n))) u
-      ≡ (free (ruleOf E p) (ledger p) u && not (covers (ruleOf E p) u (newRow E p n k)))
-  pub zeros : (i : ℕ) → newRow E p n k .address ≤ i → i < ruleOf E p .unit * past (ruleOf E p) (newRow E p n k)
-      → getD (poolAfter E p (ask n) .arena) i 0 ≡ 0
+pub record Granted (E : Engine) (p : Pool) (c n k : ℕ) : Type 0 where
+  pub answer : answerTo E p (ask c n) ≡ success (newRow E p c n k)
+  pub holds : ledger (poolAfter E p (ask c n)) ≡ enter (newRow E p c n k) (ledger p)
+  pub next : poolAfter E p (ask c n) .head .next ≡ nextAfter (p .head .next)
+  pub units : (u : ℕ) → free (ruleOf E p) (ledger (poolAfter E p (ask c n))) u
+      ≡ (free (ruleOf E p) (ledger p) u && not (covers (ruleOf E p) u (newRow E p c n k)))
+  pub zeros : (i : ℕ) → newRow E p c n k .address ≤ i → i < ruleOf E p .unit * past (ruleOf E p) (newRow E p c n k)
+      → getD (poolAfter E p (ask c n) .arena) i 0 ≡ 0
 
 -- The release of the live record r: its slot is empty, the others' stay, the next ticket stays, and exactly its units
 -- become free.
@@ -72,14 +72,16 @@ Throughout E p (a ∷ more) = (sound E p ≡ true) × Throughout E (poolAfter E 
 
 pub record Demand2 (E : Engine) : Type 0 where
   -- if the size is good and a record and a ticket are left, the grant is at the lowest fit, and there is one unless
-  -- there is no room
-  pub grants : (p : Pool) → sound E p ≡ true → (n : ℕ) → (BadSize E p n → ⊥) → (NoRecord p → ⊥) → (NoTicket p → ⊥)
-      → (k : ℕ) → LowestFit E p n k → Granted E p n k
+  -- there is no room; whichever party asks
+  pub grants : (p : Pool) → sound E p ≡ true → (c n : ℕ) → isParty c ≡ true
+      → (BadSize E p n → ⊥) → (NoRecord p → ⊥) → (NoTicket p → ⊥)
+      → (k : ℕ) → LowestFit E p n k → Granted E p c n k
   pub fit : (p : Pool) (n : ℕ) → (NoRoom E p n → ⊥) → ((k : ℕ) × LowestFit E p n k)
   -- "no room" exactly if there is none
-  pub refuses : (p : Pool) → sound E p ≡ true → (n : ℕ) → (BadSize E p n → ⊥) → (NoRecord p → ⊥) → (NoTicket p → ⊥)
-      → NoRoom E p n → answerTo E p (ask n) ≡ refusal 5
-  -- a release is accepted exactly if it names a live record's ticket, address and words
+  pub refuses : (p : Pool) → sound E p ≡ true → (c n : ℕ) → isParty c ≡ true
+      → (BadSize E p n → ⊥) → (NoRecord p → ⊥) → (NoTicket p → ⊥)
+      → NoRoom E p n → answerTo E p (ask c n) ≡ refusal 5
+  -- a release is accepted exactly if it names a live record's ticket, address and words, by its own party
   pub releases : (p : Pool) → sound E p ≡ true → (r : Row) → recordOf (r .ticket) (ledger p) ≡ some r → Released E p r
   pub others : (p : Pool) (r : Row) → (recordOf (r .ticket) (ledger p) ≡ some r → ⊥)
       → accepted (answerTo E p (give r)) ≡ false

@@ -9,12 +9,12 @@ use lib.Dec.{eqb}
 use lib.ListN.{length, getD, drop}
 use Rattle.words.specs.Lists.{all, isSome}
 use Rattle.ledger.specs.declared.Row.{Row}
-use Rattle.ledger.specs.Records.{Ledger, recordOf, Plan, vacate, Member, member, planFor, settle}
+use Rattle.ledger.specs.Records.{Ledger, isParty, recordOf, Plan, vacate, Member, member, planFor, settle}
 use Rattle.ledger.specs.Units.{owned}
 use Rattle.calls.specs.declared.Answer.{Answer}
 use Rattle.calls.specs.Pool.{Pool, ledger, Engine, ruleOf, store, sound}
-use Rattle.calls.specs.Step.{Call, format, single, look, list, success, zeroAnswer, refusal, accepted, Act, Kind}
-use Rattle.calls.specs.Step.{plans, reads, others, kindOf, Counted, Outcome, named, listSuits, answerWords}
+use Rattle.calls.specs.Step.{Call, format, copy, single, look, list, success, zeroAnswer, refusal, accepted, Act}
+use Rattle.calls.specs.Step.{Kind, plans, reads, others, kindOf, Counted, Outcome, named, listSuits, answerWords}
 use Rattle.calls.specs.Step.{answersOf}
 use Rattle.calls.specs.Lent.{Buffer, see, isOther, Event, isWhole, ownTable, writtenBy, outcome, after, Later}
 use Rattle.calls.specs.Lent.{laterEnd, laterOutcomes}
@@ -46,7 +46,8 @@ isPlan vacate (some vacate) = true
 unfoldable pub live : Ledger → List Member → ℕ → Bool
 live start did t = isSome (recordOf t start) && not (isPlan vacate (planFor t did))
 
--- a release of the set: brings the pool whole, and names ticket, address and words as the ledger at the start has them
+-- a release of the set: brings the pool whole, and names ticket, address and words as the ledger at the start has them,
+-- "made by its ticket's own party" (02, ticket 6): `named` gives another's 6
 unfoldable pub isDue : Ledger → Brings → Progress → Plan → Row → Bool
 isDue start b s q r = b .whole && isPlan q (planFor (r .ticket) (s .due)) && eqb (named start r) 0
 
@@ -62,12 +63,13 @@ standsAs start b s (plans q r) x = isDue start b s q r || isReplay start b s r |
 standsAs start b s reads x = b .whole || not (accepted x)
 standsAs start b s others x = not (accepted x)
 
--- What is claimed: a release of the set is accepted, with its three echoed; a replay is refused, by 6 where it brings
--- the pool whole.
+-- What is claimed: a release of the set is accepted, with its three echoed; a replay, by whichever party, is refused, by
+-- 6 where it brings the pool whole and its party is one, by 12 where it is none.
 pub record RightPlan (start : Ledger) (b : Brings) (s : Progress) (q : Plan) (r : Row) (x : Answer) : Type 0 where
   pub accepts : isDue start b s q r ≡ true → x ≡ success r
   pub refuses : isReplay start b s r ≡ true → accepted x ≡ false
-  pub six : isReplay start b s r ≡ true → b .whole ≡ true → x ≡ refusal 6
+  pub six : isReplay start b s r ≡ true → b .whole ≡ true → isParty (r .party) ≡ true → x ≡ refusal 6
+  pub twelve : isReplay start b s r ≡ true → b .whole ≡ true → isParty (r .party) ≡ false → x ≡ refusal 12
 
 abbrev pub RightAs : Ledger → Brings → Progress → Kind → Answer → Type 0
 RightAs start b s (plans q r) x = RightPlan start b s q r x
@@ -119,14 +121,15 @@ brings q e = record { whole = isWhole q e; table = ownTable q e }
 abbrev pub elsewhere : Call Buffer → Bool
 elsewhere c = all (all isOther) (writtenBy c)
 
--- A list call that brings the pool whole and suits its buffer runs: it answers 0 and zeros, and leaves its answers in
--- the buffer, whose words beyond the list stay.
+-- A list call that brings the pool whole, suits its buffer and gives a party runs: it answers 0 and zeros, and leaves
+-- its answers in the buffer, whose words beyond the list stay.
 abbrev pub RightList : Pool → Call Buffer → Outcome → Type 0
-RightList q (list rs bs) o =
-    listSuits (see q rs) (see q bs) ≡ true
+RightList q (list c rs bs) o =
+    listSuits (see q rs) (see q bs) ≡ true → isParty c ≡ true
     → (o .answer ≡ zeroAnswer)
     × (o .buffers ≡ (answerWords (answersOf (o .counted)) ++ drop (length (see q rs)) (see q bs)) ∷ [])
 RightList q (format first) o = Unit {0}
+RightList q (copy old) o = Unit {0}
 RightList q (single a) o = Unit {0}
 RightList q (look r hold) o = Unit {0}
 

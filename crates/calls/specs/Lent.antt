@@ -10,7 +10,7 @@ use lib.Dec.{eqb}
 use lib.ListN.{length, getD, take, set}
 use Rattle.words.specs.Lists.{Words, sameWords, listFrom}
 use Rattle.calls.specs.Pool.{Head, Pool, withHead, Engine}
-use Rattle.calls.specs.Step.{Call, format, single, look, list, accepted, Outcome, fills, step}
+use Rattle.calls.specs.Step.{Call, format, copy, single, look, list, accepted, Outcome, makesHead, step}
 
 -- ---- lent buffers
 
@@ -100,9 +100,10 @@ pub record Event : Type 0 where
 
 abbrev pub mapCall : {A B : Type 0} → (A → B) → Call A → Call B
 mapCall f (format first) = format first
+mapCall f (copy old) = copy (f old)
 mapCall f (single a) = single a
 mapCall f (look r hold) = look r (f hold)
-mapCall f (list rs bs) = list (f rs) (f bs)
+mapCall f (list c rs bs) = list c (f rs) (f bs)
 
 abbrev pub headBrought : Pool → Option Head → Head
 headBrought p none = p .head
@@ -133,9 +134,9 @@ unfoldable pub ownTable : Pool → Event → Bool
 ownTable p e = isAllOf inTable (p .table) (e .table)
 
 -- the head handed back belongs to the pool whose table the call got, where it got that pool's head too or, a format,
--- takes none (`refused-keeps` and `fills-returns` in proofs/LentLaws)
+-- takes none (`refused-keeps`, `made-returns` and `copy-keeps` in proofs/LentLaws)
 unfoldable pub headReturns : Pool → Event → Bool
-headReturns p e = ownTable p e && (fills (e .call) || sameHead (headBrought p (e .head)) (p .head))
+headReturns p e = ownTable p e && (makesHead (e .call) || sameHead (headBrought p (e .head)) (p .head))
 
 -- the call c on the pool whole
 abbrev pub allOf : Part → Pool → Buffer
@@ -155,9 +156,10 @@ onWhole p c = record {
 -- the list stay"
 abbrev pub writtenBy : Call Buffer → List Buffer
 writtenBy (format first) = []
+writtenBy (copy old) = []
 writtenBy (single a) = []
 writtenBy (look r hold) = []
-writtenBy (list rs bs) = take (length rs) bs ∷ []
+writtenBy (list c rs bs) = take (length rs) bs ∷ []
 
 module _ (E : Engine) where
   unfoldable pub outcome : Pool → Event → Outcome

@@ -5,6 +5,7 @@ use Prim.Native.Nat.{ℕ, _/_, _≤_, _<_}
 use mathlib.Core.Path.{_≡_}
 use mathlib.Core.Bool.{true}
 use Rattle.ledger.specs.declared.Rule.{Rule}
+use Rattle.ledger.specs.Records.{isParty}
 use Rattle.ledger.specs.Units.{free}
 use Rattle.calls.specs.declared.Answer.{Answer}
 use Rattle.calls.specs.Pool.{Pool, ledger, wordCount, Engine, ruleOf, sound}
@@ -35,8 +36,9 @@ abbrev pub NoHigher : Answer → Answer → Type 0
 NoHigher x y = accepted x ≡ true → (accepted y ≡ true) × (y .address ≤ x .address)
 
 pub record Monotone (E : Engine) : Type 0 where
-  pub moreFree : (p q : Pool) → Freer E p q → (n : ℕ)
-      → NoHigher (step E (allocate n) p .answer) (step E (allocate n) q .answer)
+  -- whichever party asks, in either
+  pub moreFree : (p q : Pool) → Freer E p q → (c d n : ℕ) → isParty d ≡ true
+      → NoHigher (step E (allocate c n) p .answer) (step E (allocate d n) q .answer)
   -- "any smaller one, down to 1 word"
-  pub fewerWords : (p : Pool) (n m : ℕ) → 1 ≤ m → m ≤ n
-      → NoHigher (step E (allocate n) p .answer) (step E (allocate m) p .answer)
+  pub fewerWords : (p : Pool) (c d n m : ℕ) → isParty d ≡ true → 1 ≤ m → m ≤ n
+      → NoHigher (step E (allocate c n) p .answer) (step E (allocate d m) p .answer)

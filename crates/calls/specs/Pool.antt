@@ -30,6 +30,9 @@ pub record Pool : Type 0 where
 abbrev pub withHead : Head → Pool → Pool
 withHead h p = record { head = h; shape = p .shape; arena = p .arena; table = p .table; index = p .index }
 
+abbrev pub withTable : Words → Pool → Pool
+withTable t p = record { head = p .head; shape = p .shape; arena = p .arena; table = t; index = p .index }
+
 -- A table, a next ticket and an arena's length name at most one ledger.
 abbrev pub ledger : Pool → Ledger
 ledger p = recordsOf (p .table)

@@ -10,7 +10,7 @@ use mathlib.Core.Option.{Option, none, some}
 use Rattle.words.specs.Lists.{all}
 use Rattle.ledger.specs.Records.{recordOf}
 use Rattle.calls.specs.Pool.{Pool, ledger, Engine}
-use Rattle.calls.specs.Step.{Call, format, single, look, list, accepted, Act, ask, give, query, bad, Counted}
+use Rattle.calls.specs.Step.{Call, format, copy, single, look, list, accepted, Act, ask, give, query, bad, Counted}
 use Rattle.calls.specs.Step.{fills, step}
 use Rattle.calls.specs.Lent.{inArena, inTable, inIndex, Spot, own, other, Event, headBrought, sameHead, ownTable}
 use Rattle.calls.specs.Lent.{writtenBy, outcome, Later, calls, writes, laterPool}
@@ -19,16 +19,17 @@ use Rattle.calls.specs.Demand3.{elsewhere}
 -- ---- the ticket that an act names, and a call that is one act
 
 abbrev pub ticketOf : Act → Option ℕ
-ticketOf (ask n) = none
+ticketOf (ask c n) = none
 ticketOf (give r) = some (r .ticket)
 ticketOf (query r) = some (r .ticket)
 ticketOf bad = none
 
 abbrev pub ticketNamed : {B : Type 0} → Call B → Option ℕ
 ticketNamed (format first) = none
+ticketNamed (copy old) = none
 ticketNamed (single a) = ticketOf a
 ticketNamed (look r hold) = some (r .ticket)
-ticketNamed (list rs bs) = none
+ticketNamed (list c rs bs) = none
 
 abbrev pub ticketCounted : Counted → Option ℕ
 ticketCounted c = elim (c .act) [ none ↦ none | some a ↦ ticketOf a ]

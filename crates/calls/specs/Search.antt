@@ -24,9 +24,9 @@ abbrev pub placesBy : Pool → Answer → ℕ
 placesBy p x =
     cond (accepted x) (placesTo (p .shape) (wordCount p) (ledger p) (x .address - 1)) (cond (eqb (x .number) 5) 1 0)
 
--- of an allocation of n words on the pool p
-unfoldable pub placesOf : Pool → ℕ → ℕ
-placesOf p n = placesBy p (step segmentEngine (allocate n) p .answer)
+-- of an allocation of n words for party c on the pool p
+unfoldable pub placesOf : Pool → ℕ → ℕ → ℕ
+placesOf p c n = placesBy p (step segmentEngine (allocate c n) p .answer)
 
 -- 01's search for n words in the lent memory, which has the arena's words with their sign
 abbrev pub signedAt : Words → ℕ → ℤ
@@ -39,10 +39,10 @@ searchOf p n = searched (signedAt (p .arena)) (wordCount p) (p .shape) (p .index
 -- segments that is 73."
 pub record PlacesCounted : Type 0 where
   -- a grant: the search ends at the block's control word
-  pub granted : (p : Pool) (n : ℕ) → let x = step segmentEngine (allocate n) p .answer in
-      accepted x ≡ true → searchOf p n ≡ steps (x .address - 1) (placesOf p n)
+  pub granted : (p : Pool) (c n : ℕ) → let x = step segmentEngine (allocate c n) p .answer in
+      accepted x ≡ true → searchOf p n ≡ steps (x .address - 1) (placesOf p c n)
   -- no room: it ends at the root
-  pub noRoom : (p : Pool) (n : ℕ) → step segmentEngine (allocate n) p .answer .number ≡ 5
-      → searchOf p n ≡ steps (wordCount p) (placesOf p n)
-  pub most : (p : Pool) (n : ℕ) → placesOf p n ≤ mostPlaces (p .shape) (wordCount p)
-  pub largest : (p : Pool) (n : ℕ) → p .shape ≡ 256 → wordCount p ≡ 16384 → placesOf p n ≤ 73
+  pub noRoom : (p : Pool) (c n : ℕ) → step segmentEngine (allocate c n) p .answer .number ≡ 5
+      → searchOf p n ≡ steps (wordCount p) (placesOf p c n)
+  pub most : (p : Pool) (c n : ℕ) → placesOf p c n ≤ mostPlaces (p .shape) (wordCount p)
+  pub largest : (p : Pool) (c n : ℕ) → p .shape ≡ 256 → wordCount p ≡ 16384 → placesOf p c n ≤ 73

@@ -38,57 +38,64 @@ pub record-at : (t : Words) (i : ℕ) → i < slots t → getD (recordsOf t) i e
 unfolding recordsOf
 record-at t i h = getD-listFrom (recordAt t) 0 (slots t) i emptyRow h ∙ ap (recordAt t) (zero-add i)
 
--- where slot i + 1 lies, three words further than slot i
-slot-next : (i k : ℕ) → recordWords * suc i + k ≡ suc (suc (suc (recordWords * i + k)))
+-- where slot i + 1 lies, four words further than slot i
+slot-next : (i k : ℕ) → recordWords * suc i + k ≡ suc (suc (suc (suc (recordWords * i + k))))
 slot-next i k = omega arith
 
-slot-first : (i : ℕ) → recordWords * suc i ≡ suc (suc (suc (recordWords * i)))
+slot-first : (i : ℕ) → recordWords * suc i ≡ suc (suc (suc (suc (recordWords * i))))
 slot-first i = omega arith
 
-record-next : (a b c : ℕ) (t : Words) (i : ℕ) → recordAt (a ∷ b ∷ c ∷ t) (suc i) ≡ recordAt t i
-record-next a b c t i = rw (slot-next i 1, slot-next i 2, slot-first i)
+record-next : (a b c d : ℕ) (t : Words) (i : ℕ) → recordAt (a ∷ b ∷ c ∷ d ∷ t) (suc i) ≡ recordAt t i
+record-next a b c d t i = rw (slot-next i 1, slot-next i 2, slot-next i 3, slot-first i)
 
-records-cons : (a b c : ℕ) (t : Words) → recordsOf (a ∷ b ∷ c ∷ t) ≡ row a b c ∷ recordsOf t
+records-cons : (a b c d : ℕ) (t : Words) → recordsOf (a ∷ b ∷ c ∷ d ∷ t) ≡ row a b c d ∷ recordsOf t
 unfolding recordsOf
-records-cons a b c t =
-    let whole = a ∷ b ∷ c ∷ t in
+records-cons a b c d t =
+    let whole = a ∷ b ∷ c ∷ d ∷ t in
     let more : slots whole ≡ suc (slots t) = omega arith in
     ap (λ n. listFrom (recordAt whole) 0 n) more
-    ∙ ap (λ (L : Ledger). row a b c ∷ L)
-    (listFrom-shift (recordAt whole) (recordAt t) (record-next a b c t) 0 (slots t))
+    ∙ ap (λ (L : Ledger). row a b c d ∷ L)
+    (listFrom-shift (recordAt whole) (recordAt t) (record-next a b c d t) 0 (slots t))
 
 pub records-table : (L : Ledger) → recordsOf (tableOf L) ≡ L
 unfolding recordsOf
 records-table [] = refl
 records-table (r ∷ L) =
-    records-cons (r .ticket) (r .address) (r .words) (tableOf L) ∙ ap (λ (M : Ledger). r ∷ M) (records-table L)
+    records-cons (r .ticket) (r .address) (r .words) (r .party) (tableOf L)
+    ∙ ap (λ (M : Ledger). r ∷ M) (records-table L)
 
 pub table-records : (t : Words) → length t % recordWords ≡ 0 → tableOf (recordsOf t) ≡ t
 unfolding recordsOf
 table-records [] h = refl
 table-records (a ∷ []) h = absurd (omega arith)
 table-records (a ∷ b ∷ []) h = absurd (omega arith)
-table-records (a ∷ b ∷ c ∷ t) h =
-    ap tableOf (records-cons a b c t) ∙ ap (λ (s : Words). a ∷ b ∷ c ∷ s) (table-records t (omega arith))
+table-records (a ∷ b ∷ c ∷ []) h = absurd (omega arith)
+table-records (a ∷ b ∷ c ∷ d ∷ t) h =
+    ap tableOf (records-cons a b c d t) ∙ ap (λ (s : Words). a ∷ b ∷ c ∷ d ∷ s) (table-records t (omega arith))
 
 -- a table with a record written into slot i, word by word
 abbrev pub put : Words → ℕ → Row → Words
-put t i r = set (set (set t (3 * i) (r .ticket)) (3 * i + 1) (r .address)) (3 * i + 2) (r .words)
+put t i r =
+    set (set (set (set t (recordWords * i) (r .ticket)) (recordWords * i + 1) (r .address))
+    (recordWords * i + 2) (r .words)) (recordWords * i + 3) (r .party)
 
-put-next : (a b c : ℕ) (t : Words) (i : ℕ) (r : Row) → put (a ∷ b ∷ c ∷ t) (suc i) r ≡ a ∷ b ∷ c ∷ put t i r
-put-next a b c t i r = rw (slot-next i 1, slot-next i 2, slot-first i)
+put-next : (a b c d : ℕ) (t : Words) (i : ℕ) (r : Row)
+    → put (a ∷ b ∷ c ∷ d ∷ t) (suc i) r ≡ a ∷ b ∷ c ∷ d ∷ put t i r
+put-next a b c d t i r = rw (slot-next i 1, slot-next i 2, slot-next i 3, slot-first i)
 
 pub records-put : (t : Words) (i : ℕ) (r : Row) → i < slots t → recordsOf (put t i r) ≡ set (recordsOf t) i r
 records-put [] i r h = absurd (omega arith)
 records-put (a ∷ []) i r h = absurd (omega arith)
 records-put (a ∷ b ∷ []) i r h = absurd (omega arith)
-records-put (a ∷ b ∷ c ∷ t) zero r h =
-    records-cons (r .ticket) (r .address) (r .words) t ∙ ap (λ (L : Ledger). set L 0 r) (sym (records-cons a b c t))
-records-put (a ∷ b ∷ c ∷ t) (suc i) r h =
-    ap recordsOf (put-next a b c t i r)
-    ∙ records-cons a b c (put t i r)
-    ∙ ap (λ (L : Ledger). row a b c ∷ L) (records-put t i r (omega arith))
-    ∙ ap (λ (L : Ledger). set L (suc i) r) (sym (records-cons a b c t))
+records-put (a ∷ b ∷ c ∷ []) i r h = absurd (omega arith)
+records-put (a ∷ b ∷ c ∷ d ∷ t) zero r h =
+    records-cons (r .ticket) (r .address) (r .words) (r .party) t
+    ∙ ap (λ (L : Ledger). set L 0 r) (sym (records-cons a b c d t))
+records-put (a ∷ b ∷ c ∷ d ∷ t) (suc i) r h =
+    ap recordsOf (put-next a b c d t i r)
+    ∙ records-cons a b c d (put t i r)
+    ∙ ap (λ (L : Ledger). row a b c d ∷ L) (records-put t i r (omega arith))
+    ∙ ap (λ (L : Ledger). set L (suc i) r) (sym (records-cons a b c d t))
 
 -- ---- a ledger with some plans carried out
 
@@ -136,14 +143,15 @@ pub record-zero : (L : Ledger) → recordOf 0 L ≡ none
 record-zero [] = refl
 record-zero (r ∷ L) = record-zero L
 
--- "an empty record is three zeros": ticket 0 with an address or words is none
+-- an empty record is four zeros: ticket 0 with an address, words or a party is none
 pub empty-row : (r : Row) → Says (isEmpty r) (r ≡ emptyRow)
 empty-row r = (
   (λ h.
       let t = eqb-eq (r .ticket) 0 (search (and-l, and-r)) in
       let a = eqb-eq (r .address) 0 (search (and-l, and-r)) in
       let w = eqb-eq (r .words) 0 (search (and-l, and-r)) in
-      λ i. record { ticket = t i; address = a i; words = w i }),
+      let c = eqb-eq (r .party) 0 (search (and-l, and-r)) in
+      λ i. record { ticket = t i; address = a i; words = w i; party = c i }),
   (λ e. ap isEmpty e),
 )
 

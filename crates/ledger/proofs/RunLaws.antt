@@ -581,14 +581,14 @@ module _ (ρ : Rule) (pos : 0 < ρ .unit) where
       (λ u b. free-settle ρ W next L good t r e u ∙ ap (λ c. free ρ L u || c) (live u))
 
   -- a grant takes the new record's units from the run that begins with them
-  pub freeRuns-enter : (W : ℕ) (L : Ledger) → full L ≡ false → (t n : ℕ) → t ≢ 0
+  pub freeRuns-enter : (W : ℕ) (L : Ledger) → full L ≡ false → (t n c : ℕ) → t ≢ 0
       → (xs : List Run) (r : Run) (ys : List Run) → freeRuns ρ W L ≡ xs ++ r ∷ ys → span ρ n ≤ r .size
-      → freeRuns ρ W (enter (row t (addressAt ρ (r .start)) n) L) ≡ xs ++ shorten (span ρ n) r ys
+      → freeRuns ρ W (enter (row t (addressAt ρ (r .start)) n c) L) ≡ xs ++ shorten (span ρ n) r ys
   unfolding freeRuns
-  freeRuns-enter W L room t n z xs r ys e part =
+  freeRuns-enter W L room t n c z xs r ys e part =
       let k = r .start in
-      let new = row t (addressAt ρ k) n in
+      let new = row t (addressAt ρ k) n c in
       let live : (u : ℕ) → covers ρ u new ≡ within k (k + span ρ n) u =
-      λ u. covers-live new z u ∙ ap (λ j. within j (j + span ρ n) u) (first-new ρ pos t k n) in
+      λ u. covers-live new z u ∙ ap (λ j. within j (j + span ρ n) u) (first-new ρ pos t k n c) in
       runs-after-grant (free ρ L) (free ρ (enter new L)) (W / ρ .unit) (span ρ n) xs r ys e part
-      (λ u b. free-enter ρ new L room u ∙ ap (λ c. free ρ L u && not c) (live u))
+      (λ u b. free-enter ρ new L room u ∙ ap (λ x. free ρ L u && not x) (live u))

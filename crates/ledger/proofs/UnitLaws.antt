@@ -23,8 +23,8 @@ use Rattle.words.proofs.ListLaws.{all-map, any-map, pairwise-map, all-imp, all-
 use Rattle.words.proofs.CountedLaws.{every-at}
 use Rattle.ledger.specs.declared.Row.{Row}
 use Rattle.ledger.specs.declared.Rule.{Rule}
-use Rattle.ledger.specs.Records.{row, Ledger, emptyRow, isEmpty, isLive, hasTicket, recordOf, full, enter}
-use Rattle.ledger.specs.Records.{Plan, vacate, Member, member, planFor, carryIf, settle}
+use Rattle.ledger.specs.Records.{row, Ledger, isParty, emptyRow, isEmpty, isLive, hasTicket, recordOf, full}
+use Rattle.ledger.specs.Records.{enter, Plan, vacate, Member, member, planFor, carryIf, settle}
 use Rattle.ledger.specs.Units.{span, addressAt, first, past, fits, apart, valid, covers, free, owns, owned}
 use Rattle.ledger.proofs.RecordLaws.{has-ticket, record-ticket, record-slot, settle-slot}
 
@@ -40,6 +40,7 @@ pub record Fitted (ρ : Rule) (W next : ℕ) (r : Row) : Type 0 where
   pub below : (eqb next 0 || ltb (r .ticket) next) ≡ true
   pub live : isLive r ≡ true
   pub asked : 1 ≤ r .words
+  pub party : isParty (r .party) ≡ true
   pub place : r .address ≡ addressAt ρ (first ρ r)
   pub nonempty : first ρ r < past ρ r
   -- in words, and in units
@@ -63,13 +64,13 @@ module _ (ρ : Rule) (pos : 0 < ρ .unit) where
   unfolding span
   span-mono m n h = units-mono (m + ρ .lead + (ρ .unit - 1)) (n + ρ .lead + (ρ .unit - 1)) (omega arith)
 
-  pub first-new : (t k n : ℕ) → first ρ (row t (addressAt ρ k) n) ≡ k
+  pub first-new : (t k n c : ℕ) → first ρ (row t (addressAt ρ k) n c) ≡ k
   unfolding first addressAt
-  first-new t k n = rw (add-sub-cancel (ρ .unit * k) (ρ .lead)) (mul-div-right k pos)
+  first-new t k n c = rw (add-sub-cancel (ρ .unit * k) (ρ .lead)) (mul-div-right k pos)
 
-  pub past-new : (t k n : ℕ) → past ρ (row t (addressAt ρ k) n) ≡ k + span ρ n
+  pub past-new : (t k n c : ℕ) → past ρ (row t (addressAt ρ k) n c) ≡ k + span ρ n
   unfolding past
-  past-new t k n = rw (first-new t k n)
+  past-new t k n c = rw (first-new t k n c)
 
   place-is : (r : Row) → ρ .lead ≤ r .address → (r .address - ρ .lead) % ρ .unit ≡ 0
       → r .address ≡ addressAt ρ (first ρ r)
@@ -90,6 +91,7 @@ module _ (ρ : Rule) (pos : 0 < ρ .unit) where
         below = search (and-l, and-r);
         live = live-ticket r ticket;
         asked = asked;
+        party = search (and-l, and-r);
         place = place-is r lead even;
         nonempty = unfold past in let one = span-pos (r .words) asked in omega arith;
         inside = inside;
@@ -363,15 +365,16 @@ module _ (ρ : Rule) (pos : 0 < ρ .unit) where
           ∙ h u (omega arith) (omega arith)))
 
   -- a record for ticket `next` at unit k, over free units; the next ticket after it is 0 or above it
-  module _ (W next next′ k n : ℕ) (L : Ledger) (good : valid ρ W next L ≡ true) (some-next : next ≢ 0)
-      (above : (eqb next′ 0 || ltb next next′) ≡ true) (asked : 1 ≤ n) (room : k + span ρ n ≤ W / ρ .unit)
+  module _ (W next next′ k n c : ℕ) (L : Ledger) (good : valid ρ W next L ≡ true) (some-next : next ≢ 0)
+      (above : (eqb next′ 0 || ltb next next′) ≡ true) (asked : 1 ≤ n) (party : isParty c ≡ true)
+      (room : k + span ρ n ≤ W / ρ .unit)
       (unused : every (free ρ L) k (span ρ n) ≡ true) where
     new : Row
-    new = row next (addressAt ρ k) n
+    new = row next (addressAt ρ k) n c
 
     new-units : (first ρ new ≡ k) × (past ρ new ≡ k + span ρ n)
     unfolding new
-    new-units = (first-new ρ pos next k n, past-new ρ pos next k n)
+    new-units = (first-new ρ pos next k n c, past-new ρ pos next k n c)
 
     new-fits : fits ρ W next′ new ≡ true
     unfolding fits new addressAt
@@ -383,6 +386,7 @@ module _ (ρ : Rule) (pos : 0 < ρ .unit) where
           eqb-ne next 0 some-next,
           above,
           of-le 1 n asked,
+          party,
           of-le (ρ .lead) (place + ρ .lead) (omega arith),
           add-sub-cancel place (ρ .lead),
           mul-mod-right (ρ .unit) k,
@@ -416,7 +420,7 @@ module _ (ρ : Rule) (pos : 0 < ρ .unit) where
         let below = below-later (r .ticket) next next′ some-next (fits-facts ρ pos W next r h .below) above in
         search (and-i, and-l, and-r)
 
-    pub valid-enter : valid ρ W next′ (enter (row next (addressAt ρ k) n) L) ≡ true
+    pub valid-enter : valid ρ W next′ (enter (row next (addressAt ρ k) n c) L) ≡ true
     unfolding valid new
     valid-enter =
         let each : Row → Bool = λ r. isEmpty r || fits ρ W next r in

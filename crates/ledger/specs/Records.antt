@@ -1,17 +1,21 @@
--- Records in the slots of the table, and the changes of a ledger. 01, "The ledger" and "Stored form of the tree pool".
--- Assumes nothing.
+-- Records in the slots of the table, and the changes of a ledger. 01, "The ledger" and "Stored form of the tree pool";
+-- their party: 02, ticket 6. Assumes nothing.
 use Prim.Native.Nat.{ℕ, _+_, _*_, _/_}
 use mathlib.Core.Bool.{Bool, cond, not, _&&_}
 use mathlib.Core.List.{List, [], _∷_, _++_, map}
 use mathlib.Core.Option.{Option, none, some}
-use lib.Dec.{eqb}
+use lib.Dec.{eqb, leb}
 use lib.ListN.{length, getD}
 use Rattle.words.specs.Lists.{Words, all, firstThat, listFrom}
 use Rattle.ledger.specs.declared.Row.{Row}
 
--- A record is ticket, address in words, words asked: the code's struct `Row`.
-abbrev pub row : ℕ → ℕ → ℕ → Row
-row t a w = record { ticket = t; address = a; words = w }
+-- A record is ticket, address in words, words asked, party: the code's struct `Row`.
+abbrev pub row : ℕ → ℕ → ℕ → ℕ → Row
+row t a w c = record { ticket = t; address = a; words = w; party = c }
+
+-- "the party, 1 to 255"
+unfoldable pub isParty : ℕ → Bool
+isParty c = leb 1 c && leb c 255
 
 -- The ledger's records, slot by slot.
 abbrev pub Ledger : Type 0
@@ -19,13 +23,15 @@ Ledger = List Row
 
 -- Words to a record, and how a record lies in them; every other definition goes by these.
 abbrev pub recordWords : ℕ
-recordWords = 3
+recordWords = 4
 
 abbrev pub recordAt : Words → ℕ → Row
-recordAt t i = row (getD t (recordWords * i) 0) (getD t (recordWords * i + 1) 0) (getD t (recordWords * i + 2) 0)
+recordAt t i =
+    row (getD t (recordWords * i) 0) (getD t (recordWords * i + 1) 0) (getD t (recordWords * i + 2) 0)
+    (getD t (recordWords * i + 3) 0)
 
 abbrev pub rowWords : Row → Words
-rowWords r = r .ticket ∷ r .address ∷ r .words ∷ []
+rowWords r = r .ticket ∷ r .address ∷ r .words ∷ r .party ∷ []
 
 -- the slots of a table, its records, and the table of some records
 abbrev pub slots : Words → ℕ
@@ -40,10 +46,10 @@ tableOf (r ∷ L) = rowWords r ++ tableOf L
 
 -- An empty record is all zeros; every other record is live.
 abbrev pub emptyRow : Row
-emptyRow = row 0 0 0
+emptyRow = row 0 0 0 0
 
 abbrev pub isEmpty : Row → Bool
-isEmpty r = eqb (r .ticket) 0 && eqb (r .address) 0 && eqb (r .words) 0
+isEmpty r = eqb (r .ticket) 0 && eqb (r .address) 0 && eqb (r .words) 0 && eqb (r .party) 0
 
 abbrev pub isLive : Row → Bool
 isLive r = not (isEmpty r)

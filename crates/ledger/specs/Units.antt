@@ -1,5 +1,5 @@
 -- The unit rule: where records lie, which ledgers are valid, which units are free, and the lowest fit.
--- 01, "The ledger" and row 1 of "Calls and numbers". Assumes nothing.
+-- 01, "The ledger" and row 1 of "Calls and numbers"; 02, ticket 6. Assumes nothing.
 use Prim.Native.Nat.{ℕ, suc, _+_, _-_, _*_, _/_, _%_}
 use mathlib.Core.Bool.{Bool, not, _&&_, _||_}
 use mathlib.Core.Option.{Option}
@@ -8,7 +8,7 @@ use Rattle.words.specs.Lists.{all, any, pairwise}
 use Rattle.words.specs.Counted.{every, lowest, within}
 use Rattle.ledger.specs.declared.Row.{Row}
 use Rattle.ledger.specs.declared.Rule.{Rule}
-use Rattle.ledger.specs.Records.{Ledger, isEmpty, isLive}
+use Rattle.ledger.specs.Records.{Ledger, isParty, isEmpty, isLive}
 
 -- The unit rule is the code's struct `Rule`: words to a unit, and words of a block before its address.
 -- Tree pool: 2 and 0. Segment pool: 1 and 1, the control word.
@@ -29,12 +29,13 @@ module _ (ρ : Rule) where
   past r = first r + span (r .words)
 
   -- Row 1, a record by itself, in an arena of W words: ticket not 0 and, where the next ticket is not 0, below it;
-  -- words asked 1 or more; starting on a unit; inside the arena.
+  -- words asked 1 or more; a party; starting on a unit; inside the arena.
   unfoldable pub fits : ℕ → ℕ → Row → Bool
   fits W next r =
       not (eqb (r .ticket) 0)
       && (eqb next 0 || ltb (r .ticket) next)
       && leb 1 (r .words)
+      && isParty (r .party)
       && leb (ρ .lead) (r .address)
       && eqb ((r .address - ρ .lead) % ρ .unit) 0
       && leb (ρ .unit * past r) W

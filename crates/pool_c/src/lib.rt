@@ -7,6 +7,7 @@ ghost use Rattle.ledger.specs.Records.{row};
 ghost use Rattle.calls.specs.Step.{format, allocate, release, find, list, step};
 ghost use Rattle.calls.specs.Engines.{treeEngine, segmentEngine};
 ghost use Rattle.call_parts.specs.Results.{resultOf};
+ghost use Rattle.old_tables.specs.Copies.{copyOf};
 ghost use Rattle.tree_check.specs.Gate.{treePool, noHead};
 ghost use Rattle.segment_check.specs.Gate.{segmentPool};
 ghost use Rattle.tree_requests.specs.Outcomes as tree;
@@ -142,10 +143,11 @@ pub extern "C" fn lf_tree_allocate(
     head: TreeHead,
     arena: &mut [u32],
     table: &mut [u32],
+    party: u32,
     words: u32,
 ) -> TreeOutcome
     ensures { λ r. ⌜ tree.handed (treeOutcome r) (now (arena .exit)) (now (table .exit)) []
-        ≡ resultOf (step treeEngine (allocate words)
+        ≡ resultOf (step treeEngine (allocate party words)
         (treePool (headOf head) (now (arena .entry)) (now (table .entry)))) ⌝ }
 {
     let pool = tree_check::Head {
@@ -153,7 +155,7 @@ pub extern "C" fn lf_tree_allocate(
         next: head.next,
         form: head.form,
     };
-    let done = tree_pool::allocate(pool, arena, table, words);
+    let done = tree_pool::allocate(pool, arena, table, party, words);
     c_tree_outcome(done)
 }
 
@@ -162,12 +164,13 @@ pub extern "C" fn lf_tree_release(
     head: TreeHead,
     arena: &mut [u32],
     table: &mut [u32],
+    party: u32,
     ticket: u32,
     address: u32,
     words: u32,
 ) -> TreeOutcome
     ensures { λ r. ⌜ tree.handed (treeOutcome r) (now (arena .exit)) (now (table .exit)) []
-        ≡ resultOf (step treeEngine (release (row ticket address words))
+        ≡ resultOf (step treeEngine (release (row ticket address words party))
         (treePool (headOf head) (now (arena .entry)) (now (table .entry)))) ⌝ }
 {
     let pool = tree_check::Head {
@@ -179,6 +182,7 @@ pub extern "C" fn lf_tree_release(
         ticket,
         address,
         words,
+        party,
     };
     let done = tree_pool::release(pool, arena, table, named);
     c_tree_outcome(done)
@@ -189,12 +193,13 @@ pub extern "C" fn lf_tree_find(
     head: TreeHead,
     arena: &[u32],
     table: &[u32],
+    party: u32,
     ticket: u32,
     address: u32,
     words: u32,
 ) -> Answer
     ensures { λ r. ⌜ answerOf r
-        ≡ step treeEngine (find (row ticket address words))
+        ≡ step treeEngine (find (row ticket address words party))
         (treePool (headOf head) (now (arena .entry)) (now (table .entry))) .answer ⌝ }
 {
     let pool = tree_check::Head {
@@ -206,6 +211,7 @@ pub extern "C" fn lf_tree_find(
         ticket,
         address,
         words,
+        party,
     };
     let answer = tree_pool::find(pool, arena, table, named);
     c_answer(answer)
@@ -216,11 +222,12 @@ pub extern "C" fn lf_tree_list(
     head: TreeHead,
     arena: &mut [u32],
     table: &mut [u32],
+    party: u32,
     requests: &[u32],
     answers: &mut [u32],
 ) -> TreeOutcome
     ensures { λ r. ⌜ tree.handed (treeOutcome r) (now (arena .exit)) (now (table .exit)) (now (answers .exit) ∷ [])
-        ≡ resultOf (step treeEngine (list (now (requests .entry)) (now (answers .entry)))
+        ≡ resultOf (step treeEngine (list party (now (requests .entry)) (now (answers .entry)))
         (treePool (headOf head) (now (arena .entry)) (now (table .entry)))) ⌝ }
 {
     let pool = tree_check::Head {
@@ -228,7 +235,7 @@ pub extern "C" fn lf_tree_list(
         next: head.next,
         form: head.form,
     };
-    let done = tree_pool::list(pool, arena, table, requests, answers);
+    let done = tree_pool::list(pool, arena, table, party, requests, answers);
     c_tree_outcome(done)
 }
 
@@ -258,6 +265,7 @@ pub extern "C" fn lf_segment_allocate(
     table: &mut [u32],
     segments: u32,
     index: &mut [u32],
+    party: u32,
     words: u32,
 ) -> SegmentAllocation
     ensures { λ r. ⌜ (
@@ -266,10 +274,11 @@ pub extern "C" fn lf_segment_allocate(
       r .places,
     )
         ≡ segment.allocated
-        (segmentPool segments (segmentHead next) (now (arena .entry)) (now (table .entry)) (now (index .entry))) words ⌝ }
+        (segmentPool segments (segmentHead next) (now (arena .entry)) (now (table .entry)) (now (index .entry)))
+        party words ⌝ }
 {
     let head = segment_check::Head { next };
-    let done = segment_pool::allocate(head, segments, arena, table, index, words);
+    let done = segment_pool::allocate(head, segments, arena, table, index, party, words);
     c_segment_allocation(done)
 }
 
@@ -280,13 +289,14 @@ pub extern "C" fn lf_segment_release(
     table: &mut [u32],
     segments: u32,
     index: &mut [u32],
+    party: u32,
     ticket: u32,
     address: u32,
     words: u32,
 ) -> SegmentOutcome
     ensures { λ r. ⌜
         segment.handed segments (segmentOutcome r) (now (arena .exit)) (now (table .exit)) (now (index .exit)) []
-        ≡ resultOf (step segmentEngine (release (row ticket address words))
+        ≡ resultOf (step segmentEngine (release (row ticket address words party))
         (segmentPool segments (segmentHead next) (now (arena .entry)) (now (table .entry)) (now (index .entry)))) ⌝ }
 {
     let head = segment_check::Head { next };
@@ -294,6 +304,7 @@ pub extern "C" fn lf_segment_release(
         ticket,
         address,
         words,
+        party,
     };
     let done = segment_pool::release(head, segments, arena, table, index, named);
     c_segment_outcome(done)
@@ -306,12 +317,13 @@ pub extern "C" fn lf_segment_find(
     table: &[u32],
     segments: u32,
     index: &[u32],
+    party: u32,
     ticket: u32,
     address: u32,
     words: u32,
 ) -> Answer
     ensures { λ r. ⌜ answerOf r
-        ≡ step segmentEngine (find (row ticket address words))
+        ≡ step segmentEngine (find (row ticket address words party))
         (segmentPool segments (segmentHead next) (now (arena .entry)) (now (table .entry)) (now (index .entry))) .answer ⌝ }
 {
     let head = segment_check::Head { next };
@@ -319,6 +331,7 @@ pub extern "C" fn lf_segment_find(
         ticket,
         address,
         words,
+        party,
     };
     let answer = segment_pool::find(head, segments, arena, table, index, named);
     c_answer(answer)
@@ -331,16 +344,35 @@ pub extern "C" fn lf_segment_list(
     table: &mut [u32],
     segments: u32,
     index: &mut [u32],
+    party: u32,
     requests: &[u32],
     answers: &mut [u32],
 ) -> SegmentOutcome
     ensures { λ r. ⌜
         segment.handed segments (segmentOutcome r) (now (arena .exit)) (now (table .exit)) (now (index .exit))
         (now (answers .exit) ∷ [])
-        ≡ resultOf (step segmentEngine (list (now (requests .entry)) (now (answers .entry)))
+        ≡ resultOf (step segmentEngine (list party (now (requests .entry)) (now (answers .entry)))
         (segmentPool segments (segmentHead next) (now (arena .entry)) (now (table .entry)) (now (index .entry)))) ⌝ }
 {
     let head = segment_check::Head { next };
-    let done = segment_pool::list(head, segments, arena, table, index, requests, answers);
+    let done = segment_pool::list(
+        head,
+        segments,
+        arena,
+        table,
+        index,
+        party,
+        requests,
+        answers,
+    );
     c_segment_outcome(done)
+}
+
+// ---- tables from before parties, of either pool
+
+#[no_mangle]
+pub extern "C" fn lf_copy_table(old: &[u32], table: &mut [u32]) -> u32
+    ensures { λ r. ⌜ (r, now (table .exit)) ≡ copyOf (now (old .entry)) (now (table .entry)) ⌝ }
+{
+    old_tables::copy_table(old, table)
 }

@@ -1,12 +1,16 @@
 -- What a line is read as. Assumes nothing.
 use Prim.Native.Nat.{ℕ, _-_, _≤_}
-use mathlib.Core.Path.{_≡_, sym, ap, _∙_}
-use mathlib.Core.Bool.{true, false}
+use mathlib.Core.Path.{_≡_, refl, sym, ap, _∙_}
+use mathlib.Core.Bool.{Bool, true, false, cond}
 use lib.ListN.{length, take, drop}
 use Rattle.words.proofs.Tests.{and-l, le-of}
+use Rattle.ledger.specs.Records.{isParty}
+use Rattle.calls.specs.Step.{partied}
 use Rattle.call_parts.specs.declared.Request.{Request}
 use Rattle.call_parts.specs.declared.Request.the-variants as request
+use Rattle.call_parts.specs.Parts.{actOf}
 use Rattle.text.specs.declared.Number.{Number}
+use Rattle.text.specs.declared.Number.the-variants as number
 use Rattle.text.specs.declared.Pair.the-variants as pair
 use Rattle.text.specs.declared.Triple.{Triple}
 use Rattle.text.specs.declared.Triple.the-variants as triple
@@ -14,6 +18,25 @@ use Rattle.text.specs.Numbers.{Bytes, valueOf}
 use Rattle.text.specs.Fields.{pairOf, tripleOf}
 use Rattle.text.proofs.FieldLaws.{part-rest}
 use Rattle.pool_text.specs.Meaning.{begins, badFirst, twoNumbers, firstLine, requestOf, askOf, giveOf}
+
+-- every line is the text program's own party's
+pub request-partied : (s : Bytes) → partied (actOf (requestOf s)) ≡ true
+unfolding requestOf isParty
+request-partied s = go (begins s 65) (begins s 82) (valueOf (drop 2 s)) (tripleOf (drop 2 s))
+  where
+    asks : (n : Number) → partied (actOf (askOf n)) ≡ true
+    asks (number.Value n) = refl
+    asks number.Bad = refl
+
+    gives : (t : Triple) → partied (actOf (giveOf t)) ≡ true
+    gives (triple.Three t a n) = refl
+    gives triple.Bad = refl
+
+    go : (a b : Bool) (n : Number) (t : Triple)
+        → partied (actOf (cond a (askOf n) (cond b (giveOf t) request.Bad))) ≡ true
+    go true b n t = asks n
+    go false true n t = gives t
+    go false false n t = refl
 
 -- there is something after the tab to slice
 pub begins-long : (s : Bytes) (letter : ℕ) → begins s letter ≡ true → 2 ≤ length s

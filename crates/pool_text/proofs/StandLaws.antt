@@ -39,7 +39,7 @@ module _ (o : Own) (a t : Words) (l : Lent (Serving o) a t) where
   pub own-sound : sound treeEngine (ownPool o a t) ≡ true
   own-sound = and-r (leb (o .words) (length a) && leb (recordWords * o .slots) (length t)) _ (l .2)
 
-pub lent-own : (o : Own) (a t : Words) → length a ≡ 8192 → length t ≡ 768 → o .words ≤ length a
+pub lent-own : (o : Own) (a t : Words) → length a ≡ 8192 → length t ≡ 1024 → o .words ≤ length a
     → recordWords * o .slots ≤ length t → sound treeEngine (ownPool o a t) ≡ true → Lent (Serving o) a t
 lent-own o a t la lt ha ht ok = (
   la,
@@ -55,7 +55,7 @@ became-as e s a t out left at r b = subst (λ (x : Served Standing). Became s a 
 
 -- stopped, with N and a number
 pub became-stopped : (s : Stage) (a t : Words) (out left : Bytes) (at r n : ℕ) → s ≡ Stopped → length a ≡ 8192
-    → length t ≡ 768 → Wrote out left at r (refusalLine n) → Became s a t (served stopped (refusalLine n)) out left at r
+    → length t ≡ 1024 → Wrote out left at r (refusalLine n) → Became s a t (served stopped (refusalLine n)) out left at r
 became-stopped s a t out left at r n e la lt w = (
   (la, lt, ap (λ (x : Stage). ready x a t) e),
   ap (λ (x : Stage). standingOf x a t) e,

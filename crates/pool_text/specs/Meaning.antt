@@ -32,13 +32,17 @@ unfoldable pub begins : Bytes → ℕ → Bool
 begins s letter =
     leb 2 (length s) && leb (length s) mostBytes && eqb (getD s 0 0) letter && eqb (getD s 1 0) 9
 
+-- "the text program is party 1" (02, ticket 6)
+abbrev pub textParty : ℕ
+textParty = 1
+
 -- "Then A, words or R, ticket, address, words."
 abbrev pub askOf : Number → Request
-askOf (number.Value n) = request.Ask n
+askOf (number.Value n) = request.Ask textParty n
 askOf number.Bad = request.Bad
 
 abbrev pub giveOf : Triple → Request
-giveOf (triple.Three t a n) = request.Give (row t a n)
+giveOf (triple.Three t a n) = request.Give (row t a n textParty)
 giveOf triple.Bad = request.Bad
 
 -- every other line is bad, an empty one and a second P too

@@ -41,7 +41,7 @@ ready Stopped arena table = true
 
 -- What is lent from call to call: 8,192 words ("here at most 8,192 words"), and a table of 256 records.
 abbrev pub Lent : Stage → Words → Words → Type 0
-Lent stage arena table = (length arena ≡ 8192) × (length table ≡ 768) × (ready stage arena table ≡ true)
+Lent stage arena table = (length arena ≡ 8192) × (length table ≡ 1024) × (ready stage arena table ≡ true)
 
 -- the most bytes that a line is answered: K, three tabs, three numbers of ten digits, a line feed
 abbrev pub mostAnswer : ℕ

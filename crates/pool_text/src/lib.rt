@@ -14,7 +14,7 @@ ghost use mathlib.Core.List.{[]};
 ghost use Prim.Native.Nat.{_+_, _*_, _≤_, _<_};
 ghost use lib.ListN.{length, take};
 ghost use Rattle.calls.specs.Pool.{sound};
-ghost use Rattle.calls.specs.Step.{format, step};
+ghost use Rattle.calls.specs.Step.{format, partied, step};
 ghost use Rattle.calls.specs.Engines.{treeEngine};
 ghost use Rattle.call_parts.specs.Parts.{actOf};
 ghost use Rattle.call_parts.specs.Results.{resultOf, acted};
@@ -39,11 +39,14 @@ fn begins(s: &[u8], letter: u8) -> bool
     (n <= 64) & (s[0] == letter) & (s[1] == 9)
 }
 
+// The party of the program's records.
+const PARTY: u32 = 1;
+
 fn ask_of(n: Number) -> Request
     ensures { λ r. ⌜ r ≡ askOf n ⌝ }
 {
     match n {
-        Number::Value(words) => Request::Ask(words),
+        Number::Value(words) => Request::Ask(PARTY, words),
         Number::Bad => Request::Bad,
     }
 }
@@ -56,6 +59,7 @@ fn give_of(t: Triple) -> Request
             ticket,
             address,
             words,
+            party: PARTY,
         }),
         Triple::Bad => Request::Bad,
     }
@@ -159,7 +163,7 @@ fn open_pool(
     first: u32,
     numbers: &[u32],
 ) -> Line
-    requires { ⌜ (length (now arena) ≡ 8192) × (length (now table) ≡ 768)
+    requires { ⌜ (length (now arena) ≡ 8192) × (length (now table) ≡ 1024)
         × (at + mostAnswer ≤ length (now out)) × (length (now numbers) ≤ 3) ⌝ }
     ensures { λ r. ⌜ Became (r .stage) (now (arena .exit)) (now (table .exit))
         (opened words slots first (now (numbers .entry)))
@@ -168,7 +172,7 @@ fn open_pool(
     if (8192 < words) | (256 < slots) {
         return stop(out, at, 8);
     }
-    let done = format_front(arena, words as usize, table, 3 * slots as usize, first);
+    let done = format_front(arena, words as usize, table, 4 * slots as usize, first);
     let number = done.answer.number;
     if number != 0 {
         return stop(out, at, number);
@@ -192,7 +196,7 @@ fn open_three(
     out: &mut [u8],
     at: usize,
 ) -> Line
-    requires { ⌜ (length (now arena) ≡ 8192) × (length (now table) ≡ 768)
+    requires { ⌜ (length (now arena) ≡ 8192) × (length (now table) ≡ 1024)
         × (at + mostAnswer ≤ length (now out)) ⌝ }
     ensures { λ r. ⌜ Became (r .stage) (now (arena .exit)) (now (table .exit))
         (threeNumbers (tripleOf (now (fields .entry))))
@@ -209,7 +213,7 @@ fn open_three(
 
 // The fields of a P line: two numbers, with first ticket 1, or three.
 fn open_two(fields: &[u8], arena: &mut [u32], table: &mut [u32], out: &mut [u8], at: usize) -> Line
-    requires { ⌜ (length (now arena) ≡ 8192) × (length (now table) ≡ 768)
+    requires { ⌜ (length (now arena) ≡ 8192) × (length (now table) ≡ 1024)
         × (at + mostAnswer ≤ length (now out)) ⌝ }
     ensures { λ r. ⌜ Became (r .stage) (now (arena .exit)) (now (table .exit))
         (twoNumbers (pairOf (now (fields .entry))) (tripleOf (now (fields .entry))))
@@ -226,7 +230,7 @@ fn open_two(fields: &[u8], arena: &mut [u32], table: &mut [u32], out: &mut [u8],
 
 // The first line.
 fn serve_first(line: &[u8], arena: &mut [u32], table: &mut [u32], out: &mut [u8], at: usize) -> Line
-    requires { ⌜ (length (now arena) ≡ 8192) × (length (now table) ≡ 768)
+    requires { ⌜ (length (now arena) ≡ 8192) × (length (now table) ≡ 1024)
         × (at + mostAnswer ≤ length (now out)) ⌝ }
     ensures { λ r. ⌜ Became (r .stage) (now (arena .exit)) (now (table .exit))
         (firstLine (now (line .entry)))
@@ -249,7 +253,8 @@ fn serve_front(
     request: Request,
 ) -> Outcome
     requires { ⌜ (n ≤ length (now arena)) × (t ≤ length (now table)) ⌝ }
-    requires { ⌜ sound treeEngine (treePool head (take n (now arena)) (take t (now table))) ≡ true ⌝ }
+    requires { ⌜ (sound treeEngine (treePool head (take n (now arena)) (take t (now table))) ≡ true)
+        × (partied (actOf request) ≡ true) ⌝ }
     ensures { λ r. ⌜ handed r (take n (now (arena .exit))) (take t (now (table .exit))) []
         ≡ acted treeEngine (actOf request) (treePool head (take n (now (arena .entry))) (take t (now (table .entry)))) ⌝ }
 {
@@ -274,7 +279,7 @@ fn serve_request(
 {
     let request = request_of(line);
     let head = own.head;
-    let done = serve_front(head, arena, own.words, table, 3 * own.slots, request);
+    let done = serve_front(head, arena, own.words, table, 4 * own.slots, request);
     let after = done.head;
     let answer = done.answer;
     Line {

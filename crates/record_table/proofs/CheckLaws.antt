@@ -13,7 +13,7 @@ use Rattle.words.proofs.ListLaws.{all-listFrom}
 use Rattle.words.proofs.CountedLaws.{every-at}
 use Rattle.ledger.specs.declared.Row.{Row}
 use Rattle.ledger.specs.declared.Rule.{Rule}
-use Rattle.ledger.specs.Records.{Ledger, recordAt, slots, recordsOf, isEmpty}
+use Rattle.ledger.specs.Records.{Ledger, recordAt, slots, recordsOf, isParty, isEmpty}
 use Rattle.ledger.specs.Units.{span, first, past, fits, apart, valid}
 use Rattle.ledger.proofs.UnitLaws.{Fitted, fits-facts}
 use Rattle.record_table.specs.Checks.{rowOk, differ, beside, AllInside}
@@ -55,7 +55,7 @@ module _ (ρ : Rule) where
   unfolding fits
   low-unfit W next r h =
       second-false
-      (not (eqb (r .ticket) 0) && (eqb next 0 || ltb (r .ticket) next) && leb 1 (r .words))
+      (not (eqb (r .ticket) 0) && (eqb next 0 || ltb (r .ticket) next) && leb 1 (r .words) && isParty (r .party))
       (leb (ρ .lead) (r .address)) (eqb ((r .address - ρ .lead) % ρ .unit) 0) (leb (ρ .unit * past ρ r) W)
       (of-gt (ρ .lead) (r .address) h)
     where

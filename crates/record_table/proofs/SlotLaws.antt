@@ -1,5 +1,5 @@
 -- Laws of the slots that a search finds. Assumes nothing.
-use Prim.Native.Nat.{ℕ, zero, suc, _+_, _-_, _*_, _≤_, _<_}
+use Prim.Native.Nat.{ℕ, zero, suc, _+_, _-_, _≤_, _<_}
 use native.Mathlib.Nat.{sub-zero, not-suc-le-zero, le-of-suc-le-suc}
 use native.Mathlib.Decide.{ℕ-discrete, decLt}
 use native.Mathlib.Omega.{arith}
@@ -117,30 +117,28 @@ module _ (t : Words) (x : ℕ) where
       go (no h) = four j (omega arith) b
 
   -- by the four tests
-  pub without-four : (i : ℕ) → (((eqb (getD t (3 * i) 0) x || eqb (getD t (3 * i + 3) 0) x)
-      || eqb (getD t (3 * i + 6) 0) x) || eqb (getD t (3 * i + 9) 0) x) ≡ false → Without t x i (i + 4)
+  abbrev pub isAt : ℕ → Bool
+  isAt k = eqb (recordAt t k .ticket) x
+
+  pub without-four : (i : ℕ)
+      → (((isAt i || isAt (i + 1)) || isAt (i + 2)) || isAt (i + 3)) ≡ false → Without t x i (i + 4)
   without-four i h j a b e = go (ℕ-discrete j i) (ℕ-discrete j (i + 1)) (ℕ-discrete j (i + 2))
     where
-      at : ℕ → Bool
-      at k = eqb (getD t k 0) x
+      differs : (k : ℕ) → j ≡ k → isAt k ≡ false → ⊥
+      differs k q off = eqb-false (recordAt t k .ticket) x off (ap (λ n. recordAt t n .ticket) (sym q) ∙ e)
 
-      differs : (k : ℕ) → 3 * j ≡ k → at k ≡ false → ⊥
-      differs k q off = eqb-false (getD t k 0) x off (ap (λ n. getD t n 0) (sym q) ∙ e)
+      three : ((isAt i || isAt (i + 1)) || isAt (i + 2)) ≡ false
+      three = or-l ((isAt i || isAt (i + 1)) || isAt (i + 2)) (isAt (i + 3)) h
 
-      three : ((at (3 * i) || at (3 * i + 3)) || at (3 * i + 6)) ≡ false
-      three = or-l ((at (3 * i) || at (3 * i + 3)) || at (3 * i + 6)) (at (3 * i + 9)) h
-
-      two : (at (3 * i) || at (3 * i + 3)) ≡ false
-      two = or-l (at (3 * i) || at (3 * i + 3)) (at (3 * i + 6)) three
+      two : (isAt i || isAt (i + 1)) ≡ false
+      two = or-l (isAt i || isAt (i + 1)) (isAt (i + 2)) three
 
       go : Dec (j ≡ i) → Dec (j ≡ i + 1) → Dec (j ≡ i + 2) → ⊥
-      go (yes q) _ _ = differs (3 * i) (omega arith) (or-l (at (3 * i)) (at (3 * i + 3)) two)
-      go (no _) (yes q) _ = differs (3 * i + 3) (omega arith) (or-r (at (3 * i)) (at (3 * i + 3)) two)
-      go (no _) (no _) (yes q) =
-          differs (3 * i + 6) (omega arith) (or-r (at (3 * i) || at (3 * i + 3)) (at (3 * i + 6)) three)
+      go (yes q) _ _ = differs i q (or-l (isAt i) (isAt (i + 1)) two)
+      go (no _) (yes q) _ = differs (i + 1) q (or-r (isAt i) (isAt (i + 1)) two)
+      go (no _) (no _) (yes q) = differs (i + 2) q (or-r (isAt i || isAt (i + 1)) (isAt (i + 2)) three)
       go (no p) (no q) (no r) =
-          differs (3 * i + 9) (omega arith)
-          (or-r ((at (3 * i) || at (3 * i + 3)) || at (3 * i + 6)) (at (3 * i + 9)) h)
+          differs (i + 3) (omega arith) (or-r ((isAt i || isAt (i + 1)) || isAt (i + 2)) (isAt (i + 3)) h)
 
 pub without-empty : (t : Words) (i e : ℕ) → Without t 0 i e → (j : ℕ) → i ≤ j → j < e → isEmpty (recordAt t j) ≡ false
 without-empty t i e h j a b = rw (eqb-ne (recordAt t j .ticket) 0 (h j a b))

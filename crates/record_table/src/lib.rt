@@ -9,7 +9,7 @@ ghost use Prim.Native.Nat.{_+_, _/_, _-_, _%_, _≤_, _<_};
 ghost use lib.ListN.{length, set};
 ghost use Rattle.words.specs.Lists.{isZero};
 ghost use Rattle.words.specs.Counted.{every};
-ghost use Rattle.ledger.specs.Records.{recordWords, recordAt, slots, recordsOf, tableOf, isEmpty, hasTicket};
+ghost use Rattle.ledger.specs.Records.{recordWords, recordAt, slots, recordsOf, tableOf, isParty, isEmpty, hasTicket};
 ghost use Rattle.ledger.specs.Units.{span, first, past, fits};
 ghost use Rattle.record_table.specs.Slots.{ticketSlot, emptySlot, Without, Reached};
 ghost use Rattle.record_table.specs.Checks.{rowOk, residueOf};
@@ -21,15 +21,31 @@ pub enum Found {
     Nothing,
 }
 
+// The slots of a table, four words to each.
+pub fn slot_count(table: &[u32]) -> usize
+    ensures { λ n. ⌜ n ≡ slots (now (table .entry)) ⌝ }
+{
+    table.len() / 4
+}
+
+// The ticket in slot i.
+fn ticket_at(table: &[u32], i: usize) -> u32
+    requires { ⌜ i < slots (now table) ⌝ }
+    ensures { λ t. ⌜ t ≡ recordAt (now (table .entry)) i .ticket ⌝ }
+{
+    table[4 * i]
+}
+
 // The record in slot i.
 pub fn read_row(table: &[u32], i: usize) -> Row
     requires { ⌜ i < slots (now table) ⌝ }
     ensures { λ r. ⌜ r ≡ recordAt (now (table .entry)) i ⌝ }
 {
     Row {
-        ticket: table[3 * i],
-        address: table[3 * i + 1],
-        words: table[3 * i + 2],
+        ticket: table[4 * i],
+        address: table[4 * i + 1],
+        words: table[4 * i + 2],
+        party: table[4 * i + 3],
     }
 }
 
@@ -39,9 +55,10 @@ pub fn write_row(table: &mut [u32], i: usize, r: Row)
     requires { ⌜ length (now table) % recordWords ≡ 0 ⌝ }
     ensures { λ _. ⌜ now (table .exit) ≡ tableOf (set (recordsOf (now (table .entry))) i r) ⌝ }
 {
-    table[3 * i] = r.ticket;
-    table[3 * i + 1] = r.address;
-    table[3 * i + 2] = r.words;
+    table[4 * i] = r.ticket;
+    table[4 * i + 1] = r.address;
+    table[4 * i + 2] = r.words;
+    table[4 * i + 3] = r.party;
 }
 
 // ---- the searches, four slots at a time
@@ -51,10 +68,10 @@ fn is_met(table: &[u32], x: u32, i: usize) -> bool
     requires { ⌜ i + 4 ≤ slots (now table) ⌝ }
     ensures { λ r. ⌜ (r ≡ false → Without (now (table .entry)) x i (i + 4)) ⌝ }
 {
-    (table[3 * i] == x)
-        | (table[3 * i + 3] == x)
-        | (table[3 * i + 6] == x)
-        | (table[3 * i + 9] == x)
+    (ticket_at(table, i) == x)
+        | (ticket_at(table, i + 1) == x)
+        | (ticket_at(table, i + 2) == x)
+        | (ticket_at(table, i + 3) == x)
 }
 
 // So many slots, from the first on, have another ticket: all of them, or all but the last few, or up to the four
@@ -62,7 +79,7 @@ fn is_met(table: &[u32], x: u32, i: usize) -> bool
 fn passed(table: &[u32], x: u32) -> usize
     ensures { λ r. ⌜ (r ≤ slots (now (table .entry))) × Without (now (table .entry)) x 0 r ⌝ }
 {
-    let n = table.len() / 3;
+    let n = slot_count(table);
     let mut i = 0;
     while n - i >= 4 {
         if is_met(table, x, i) {
@@ -78,9 +95,10 @@ fn ticket_from(table: &[u32], ticket: u32, i: usize) -> usize
     requires { ⌜ (i ≤ slots (now table)) × (ticket ≢ 0) ⌝ }
     ensures { λ r. ⌜ Reached (hasTicket ticket) (now (table .entry)) i r ⌝ }
 {
+    let n = slot_count(table);
     let mut k = i;
-    while k < table.len() / 3 {
-        if table[3 * k] == ticket {
+    while k < n {
+        if ticket_at(table, k) == ticket {
             return k;
         }
         k += 1;
@@ -97,7 +115,7 @@ pub fn find_slot(table: &[u32], ticket: u32) -> Found
     }
     let i = passed(table, ticket);
     let k = ticket_from(table, ticket, i);
-    if k < table.len() / 3 {
+    if k < slot_count(table) {
         return Found::At(k);
     }
     Found::Nothing
@@ -106,7 +124,7 @@ pub fn find_slot(table: &[u32], ticket: u32) -> Found
 pub fn is_empty(r: Row) -> bool
     ensures { λ b. ⌜ b ≡ isEmpty r ⌝ }
 {
-    (r.ticket == 0) & (r.address == 0) & (r.words == 0)
+    (r.ticket == 0) & (r.address == 0) & (r.words == 0) & (r.party == 0)
 }
 
 // The lowest empty slot from slot i on, or the number of slots.
@@ -114,8 +132,9 @@ fn empty_from(table: &[u32], i: usize) -> usize
     requires { ⌜ i ≤ slots (now table) ⌝ }
     ensures { λ r. ⌜ Reached isEmpty (now (table .entry)) i r ⌝ }
 {
+    let n = slot_count(table);
     let mut k = i;
-    while k < table.len() / 3 {
+    while k < n {
         if is_empty(read_row(table, k)) {
             return k;
         }
@@ -130,7 +149,7 @@ pub fn empty_slot(table: &[u32]) -> Found
 {
     let i = passed(table, 0);
     let k = empty_from(table, i);
-    if k < table.len() / 3 {
+    if k < slot_count(table) {
         return Found::At(k);
     }
     Found::Nothing
@@ -216,6 +235,13 @@ pub fn past_unit(rule: Rule, r: Row) -> usize
 
 // ---- the check
 
+// Whether a number is a party's.
+pub fn is_party(party: u32) -> bool
+    ensures { λ b. ⌜ b ≡ isParty party ⌝ }
+{
+    (1 <= party) & (party <= 255)
+}
+
 // A record by itself, in an arena of so many words. Any numbers may stand in it: nothing wraps. An address too low for
 // the words before it goes first, which spares the others a test for that.
 fn live_fits(rule: Rule, words: usize, next: u32, r: Row) -> bool
@@ -230,6 +256,7 @@ fn live_fits(rule: Rule, words: usize, next: u32, r: Row) -> bool
     (r.ticket != 0)
         & ((next == 0) | (r.ticket < next))
         & (1 <= r.words)
+        & is_party(r.party)
         & (rule.lead <= r.address)
         & (rest(begin, rule.unit) == 0)
         & (end <= words)
@@ -266,7 +293,7 @@ fn unlike_earlier(table: &[u32], i: usize, ticket: u32) -> bool
     let mut ok = true;
     let mut j = 0;
     while j < i {
-        ok = ok & (table[3 * j] != ticket);
+        ok = ok & (ticket_at(table, j) != ticket);
         j += 1;
     }
     ok

@@ -1,14 +1,16 @@
 // Runs the script on standard input on a segment pool, and writes each line with what came of it.
 //
 // A line is a command, known by its first two letters, with its numbers; '#' starts a comment.
-//   lend S W T I       S segments, arena of W words, table of T words and index of I words, all zero
+//   lend S W T I       S segments, arena of W words, table of T words and index of I words, all zero; party 1
 //   arena I V..        words written into the arena from word I on, signed
 //   table I V..        words written into the table from word I on
 //   index I V..        words written into the index from word I on
 //   head N             next ticket
+//   party C            the party of the calls that follow
 //   format F           with first ticket F, or 1 if there is no number
 //   allocate N         release T A W      find T A W      look T A W
 //   list N K V..       a list of N words, V over and over, with K words for its answers, which start as sevens
+//   copy N T V..       an old table of N words, V over and over, copied into the first T words of the table
 use ledger::Row;
 use segment_check::Head;
 use segment_requests::Outcome;
@@ -30,10 +32,11 @@ use testing::write;
 use testing::write_list;
 ghost use Prim.Native.Nat.{_<_};
 
-// The head of the pool, the number of segments, and how many words of the three buffers are lent to it.
+// The head of the pool, the number of segments, the party that calls, and how many words of the three buffers are lent.
 struct Pool {
     head: Head,
     segments: u32,
+    party: u32,
     words: usize,
     table_words: usize,
     index_words: usize,
@@ -155,9 +158,10 @@ fn run_allocate(
     arena: &mut [i32],
     table: &mut [u32],
     index: &mut [u32],
+    party: u32,
     words: u32,
 ) -> Head {
-    let done = segment_pool::allocate(head, s, arena, table, index, words);
+    let done = segment_pool::allocate(head, s, arena, table, index, party, words);
     show_answer(done.answer);
     print(b"  places");
     print_number(done.places);
@@ -206,22 +210,24 @@ fn run_list(
     arena: &mut [i32],
     table: &mut [u32],
     index: &mut [u32],
+    party: u32,
     asked: &[u32],
     answers: &mut [u32],
 ) -> Head {
     let k = answers.len();
     put_all(answers, 0, k, 7);
-    let outcome = segment_pool::list(head, s, arena, table, index, asked, answers);
+    let outcome = segment_pool::list(head, s, arena, table, index, party, asked, answers);
     show_answer(outcome.answer);
     show(b"  answers", answers);
     show_memory(outcome.head, arena, table, index);
     outcome.head
 }
 
-// The commands that call the pool but for the list; a line with no command does nothing.
+// The commands that call the pool but for list and copy; a line with no command does nothing.
 fn serve(
     head: Head,
     s: u32,
+    party: u32,
     line: &[u8],
     arena: &mut [i32],
     table: &mut [u32],
@@ -233,13 +239,13 @@ fn serve(
         return run_format(head, s, arena, table, index, first_ticket(given, count));
     }
     if is(line, b'a', b'l') {
-        return run_allocate(head, s, arena, table, index, word(given, 0));
+        return run_allocate(head, s, arena, table, index, party, word(given, 0));
     }
     if is(line, b'r', b'e') {
-        return run_release(head, s, arena, table, index, row(given));
+        return run_release(head, s, arena, table, index, row(given, party));
     }
     if is(line, b'f', b'i') {
-        return run_find(head, s, arena, table, index, row(given));
+        return run_find(head, s, arena, table, index, row(given, party));
     }
     if is(line, b'l', b'o') {
         return run_look(
@@ -249,7 +255,7 @@ fn serve(
             table,
             index,
             &[777777777, 888888888],
-            row(given),
+            row(given, party),
         );
     }
     set(head, line, arena, table, index, given, count)
@@ -285,11 +291,23 @@ fn set(
     head
 }
 
-// A list is made of the given words; any other line goes on.
-fn serve_line(
+// An old table is made of the given words, and copied into the table.
+fn copy_into(table: &mut [u32], given: &[u32], count: usize, old: &mut [u32]) {
+    write_list(old, given, count);
+    let n = least(word(given, 0) as usize, old.len());
+    let t = least(word(given, 1) as usize, table.len());
+    let zero = 0;
+    let number = old_tables::copy_table(&old[zero..n], &mut table[zero..t]);
+    print(b"  number");
+    print_number(number);
+    print(b"\n");
+}
+
+// A list is made of the given words.
+fn make_list(
     head: Head,
     s: u32,
-    line: &[u8],
+    party: u32,
     arena: &mut [i32],
     table: &mut [u32],
     index: &mut [u32],
@@ -298,9 +316,6 @@ fn serve_line(
     asked: &mut [u32],
     answers: &mut [u32],
 ) -> Head {
-    if !is(line, b'l', b'i') {
-        return serve(head, s, line, arena, table, index, given, count);
-    }
     write_list(asked, given, count);
     let n = least(word(given, 0) as usize, asked.len());
     let k = least(word(given, 1) as usize, answers.len());
@@ -311,9 +326,46 @@ fn serve_line(
         arena,
         table,
         index,
+        party,
         &asked[zero..n],
         &mut answers[zero..k],
     )
+}
+
+// A list, a copy, or any other line.
+fn serve_line(
+    head: Head,
+    s: u32,
+    party: u32,
+    line: &[u8],
+    arena: &mut [i32],
+    table: &mut [u32],
+    index: &mut [u32],
+    given: &[u32],
+    count: usize,
+    asked: &mut [u32],
+    answers: &mut [u32],
+) -> Head {
+    if is(line, b'l', b'i') {
+        return make_list(
+            head,
+            s,
+            party,
+            arena,
+            table,
+            index,
+            given,
+            count,
+            asked,
+            answers,
+        );
+    }
+    if is(line, b'c', b'o') {
+        copy_into(table, given, count, asked);
+        show_memory(head, arena, table, index);
+        return head;
+    }
+    serve(head, s, party, line, arena, table, index, given, count)
 }
 
 // Zeros in the three buffers, and so many of their words lent.
@@ -324,6 +376,7 @@ fn lend(arena: &mut [i32], table: &mut [u32], index: &mut [u32], given: &[u32]) 
     Pool {
         head: Head { next: 0 },
         segments: word(given, 0),
+        party: 1,
         words: word(given, 1) as usize,
         table_words: word(given, 2) as usize,
         index_words: word(given, 3) as usize,
@@ -350,6 +403,7 @@ fn serve_lent(
     serve_line(
         pool.head,
         pool.segments,
+        pool.party,
         line,
         a,
         &mut table[zero..t],
@@ -359,6 +413,18 @@ fn serve_lent(
         asked,
         answers,
     )
+}
+
+// The pool with this head and party.
+fn turned(pool: Pool, head: Head, party: u32) -> Pool {
+    Pool {
+        head,
+        segments: pool.segments,
+        party,
+        words: pool.words,
+        table_words: pool.table_words,
+        index_words: pool.index_words,
+    }
 }
 
 fn run_line(
@@ -375,6 +441,9 @@ fn run_line(
     if is(line, b'l', b'e') {
         return lend(arena, table, index, given);
     }
+    if is(line, b'p', b'a') {
+        return turned(pool, pool.head, word(given, 0));
+    }
     let head = serve_lent(
         pool,
         line,
@@ -386,13 +455,7 @@ fn run_line(
         asked,
         answers,
     );
-    Pool {
-        head,
-        segments: pool.segments,
-        words: pool.words,
-        table_words: pool.table_words,
-        index_words: pool.index_words,
-    }
+    turned(pool, head, pool.party)
 }
 
 fn run(
@@ -407,6 +470,7 @@ fn run(
     let mut pool = Pool {
         head: Head { next: 0 },
         segments: 0,
+        party: 1,
         words: 0,
         table_words: 0,
         index_words: 0,
@@ -430,10 +494,10 @@ fn run(
 }
 
 fn main() {
-    let mut text = io::large_buffer();
+    let mut text = [0u8; 131072];
     let n = io::read_full(0, &mut text);
     let mut arena = [0i32; 16400];
-    let mut table = [0u32; 800];
+    let mut table = [0u32; 1100];
     let mut index = [0u32; 1600];
     let mut given = [0u32; 256];
     let mut asked = [0u32; 4200];

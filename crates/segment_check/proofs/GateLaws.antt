@@ -40,12 +40,12 @@ pub record InRange (S : ℕ) (v : List ℤ) (t x : Words) : Type 0 where
   pub some : 2 ≤ length v
   pub most : length v ≤ 16384
   pub power : isPower S depth ≡ true
-  pub threes : length t % 3 ≡ 0
+  pub whole : length t % 4 ≡ 0
   pub few : slots t ≤ 256
   pub indexed : length x ≡ 3 * S
 
 module _ (S : ℕ) (h : Head) (v : List ℤ) (t x : Words) where
-  pub lengths-are : ((((((leb 2 (length v) && leb (length v) 16384) && isPower S depth) && eqb (length t % 3) 0)
+  pub lengths-are : ((((((leb 2 (length v) && leb (length v) 16384) && isPower S depth) && eqb (length t % 4) 0)
       && leb 1 (slots t)) && leb (slots t) 256) && eqb (length x) (3 * S))
       ≡ lengths segmentEngine (segmentPool S h v t x)
   unfolding lengths segmentEngine segmentRange
@@ -58,7 +58,7 @@ module _ (S : ℕ) (h : Head) (v : List ℤ) (t x : Words) where
         some = le-of 2 (length v) (search (and-l, and-r));
         most = le-of (length v) 16384 (search (and-l, and-r));
         power = search (and-l, and-r);
-        threes = eqb-eq (length t % 3) 0 (search (and-l, and-r));
+        whole = eqb-eq (length t % 4) 0 (search (and-l, and-r));
         few = le-of (slots t) 256 (search (and-l, and-r));
         indexed = eqb-eq (length x) (3 * S) (search (and-l, and-r));
       }
@@ -127,7 +127,7 @@ module _ {S : ℕ} {h : Head} {v : List ℤ} {t x : Words} (k : Valid S h v t x)
       let arena : asWords v ≡ stamp (owned segmentRule L) (segmentWord (length (asWords v)) L) (asWords v) =
       ap asWords (same .0) ∙ arena-words L v
       ∙ ap (λ m. stamp (owned segmentRule L) (segmentWord m L) (asWords v)) (sym n) in
-      let table = table-records t (k .fit .threes) in
+      let table = table-records t (k .fit .whole) in
       let index : x ≡ segmentIndex S (length (asWords v)) L = same .1 ∙ ap (λ m. segmentIndex S m L) (sym n) in
       λ i. record {
         head = record { own = []; next = h .next };

@@ -3,6 +3,7 @@
 // Slices are lent on as `&*slice`, which keeps pointer and length in registers (docs/DECISIONS.md, what crosses calls).
 use ledger::Rule;
 use record_table::read_row;
+use record_table::slot_count;
 use segment_index::Segments;
 use segment_index::free_at;
 use segment_index::is_held;
@@ -285,9 +286,10 @@ fn map_rows(
         (slots (now (table .entry))) u) ⌝ }
 {
     let words = v.len();
+    let n = slot_count(&*table);
     let mut held: usize = 0;
     let mut i = 0;
-    while i < table.len() / 3 {
+    while i < n {
         let u = map_row(&*v, next, &*table, i, &mut *map, &mut *seen, m);
         if words < u {
             return words + 1;
@@ -346,7 +348,7 @@ fn is_shown_by(
     ensures { λ r. ⌜ Says r
         (Shown next (now (arena .entry)) (now (table .entry)) (now (index .entry)) (segments .count)) ⌝ }
 {
-    if table.len() / 3 <= 16 {
+    if slot_count(&*table) <= 16 {
         let mut few: [u8; 128] = [0; 128];
         return is_shown_over(
             next,
@@ -401,9 +403,9 @@ pub fn right_lengths(s: u32, arena: &[i32], table: &[u32], index: &[u32]) -> boo
     (2 <= w)
         & (w <= 16384)
         & one
-        & (t % 3 == 0)
-        & (1 <= t / 3)
-        & (t / 3 <= 256)
+        & (t % 4 == 0)
+        & (1 <= t / 4)
+        & (t / 4 <= 256)
         & (index.len() == 3 * (s as usize))
 }
 

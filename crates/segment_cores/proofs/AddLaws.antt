@@ -56,11 +56,11 @@ starts-new new (r ∷ L) u f h n = go (isEmpty r) refl f (λ g. starts-new new L
     go true e f ih = ap (sizeOr new (startsAt L u)) h
     go false e f ih = ap (sizeOr r (startsAt (enter new L) u)) (n 0 (omega arith)) ∙ ih f
 
--- n words are entered under a ticket at unit k, from which enough units are free
-module _ (W next : ℕ) (L : Ledger) (good : valid segmentRule W next L ≡ true) (room : full L ≡ false) (t n k : ℕ)
+-- n words are entered for party c under a ticket at unit k, from which enough units are free
+module _ (W next : ℕ) (L : Ledger) (good : valid segmentRule W next L ≡ true) (room : full L ≡ false) (t n c k : ℕ)
     (some-ticket : t ≢ 0) (asked : 1 ≤ n) (fit : lowestFit (free segmentRule L) W (span segmentRule n) ≡ some k) where
   new : Row
-  new = row t (addressAt segmentRule k) n
+  new = row t (addressAt segmentRule k) n c
 
   abbrev m : ℕ
   m = span segmentRule n
@@ -71,11 +71,11 @@ module _ (W next : ℕ) (L : Ledger) (good : valid segmentRule W next L ≡ true
 
   new-first : first segmentRule new ≡ k
   unfolding new
-  new-first = first-new segmentRule (omega arith) t k n
+  new-first = first-new segmentRule (omega arith) t k n c
 
   new-past : past segmentRule new ≡ k + m
   unfolding new
-  new-past = past-new segmentRule (omega arith) t k n
+  new-past = past-new segmentRule (omega arith) t k n c
 
   some-units : 1 ≤ m
   some-units = span-pos segmentRule (omega arith) n asked
@@ -85,17 +85,17 @@ module _ (W next : ℕ) (L : Ledger) (good : valid segmentRule W next L ≡ true
 
   now-held : (u : ℕ) → k ≤ u → u < k + m → free segmentRule (enter new L) u ≡ false
   now-held u a b =
-      let c = covers-in segmentRule u new new-live (omega (arith, new-first)) (omega (arith, new-past)) in
-      free-enter segmentRule new L room u ∙ ap (λ x. free segmentRule L u && not x) c
+      let here = covers-in segmentRule u new new-live (omega (arith, new-first)) (omega (arith, new-past)) in
+      free-enter segmentRule new L room u ∙ ap (λ x. free segmentRule L u && not x) here
       ∙ and-false (free segmentRule L u)
 
   other : (u : ℕ) → (k ≤ u → u < k + m → ⊥) → free segmentRule (enter new L) u ≡ free segmentRule L u
   other u h =
-      let c = false-of (covers segmentRule u new) (λ x.
+      let off = false-of (covers segmentRule u new) (λ x.
       let (l, a, b) = covers-of segmentRule u new x in h (omega (arith, new-first)) (omega (arith, new-past))) in
-      free-enter segmentRule new L room u ∙ ap (λ x. free segmentRule L u && not x) c ∙ and-true (free segmentRule L u)
+      free-enter segmentRule new L room u ∙ ap (λ x. free segmentRule L u && not x) off ∙ and-true (free segmentRule L u)
 
-  pub grant-adds : Adds L (enter (row t (addressAt segmentRule k) n) L) W k (span segmentRule n)
+  pub grant-adds : Adds L (enter (row t (addressAt segmentRule k) n c) L) W k (span segmentRule n)
   unfolding new
   grant-adds = record {
     some = some-units;

@@ -12,7 +12,7 @@ use lib.Dec.{eqb, ltb}
 use lib.IntN.{ℤ}
 use lib.ListN.{length}
 use Rattle.words.specs.Lists.{Words}
-use Rattle.ledger.specs.Records.{Ledger, row, recordOf, full, enter, vacate, member, settle}
+use Rattle.ledger.specs.Records.{Ledger, row, isParty, recordOf, full, enter, vacate, member, settle}
 use Rattle.ledger.specs.Units.{span, addressAt, first, free, lowestFit}
 use Rattle.ledger.specs.declared.Row.{Row}
 use Rattle.ledger.proofs.FitLaws.{fit-lowest}
@@ -25,18 +25,19 @@ use Rattle.segment_cores.proofs.FitWords.{fit-opens}
 use Rattle.segment_cores.proofs.UnitLaws.{span-words}
 
 module _ (L : Ledger) (v : List ℤ) (t : Words) (s g : ℕ) (S : Sound L v t s g) where
-  -- the lowest fit for n words is at k, a record is empty, and there is a next ticket
-  pub granting : (next′ n k : ℕ) → full L ≡ false → S .next ≢ 0 → (eqb next′ 0 || ltb (S .next) next′) ≡ true → 1 ≤ n
+  -- the lowest fit for n words of party c is at k, a record is empty, and there is a next ticket
+  pub granting : (next′ n c k : ℕ) → full L ≡ false → S .next ≢ 0 → (eqb next′ 0 || ltb (S .next) next′) ≡ true
+      → 1 ≤ n → isParty c ≡ true
       → lowestFit (free segmentRule L) (length v) (span segmentRule n) ≡ some k
-      → Granting L (enter (row (S .next) (addressAt segmentRule k) n) L) v t s g k (span segmentRule n)
-  granting next′ n k room ticket above asked fit =
+      → Granting L (enter (row (S .next) (addressAt segmentRule k) n c) L) v t s g k (span segmentRule n)
+  granting next′ n c k room ticket above asked party fit =
       let at = fit-lowest (free segmentRule L) (length v) (span segmentRule n) k fit in
       record {
         sound = S;
         next = next′;
-        good = valid-enter segmentRule (omega arith) (length v) (S .next) next′ k n L (S .good) ticket above asked
+        good = valid-enter segmentRule (omega arith) (length v) (S .next) next′ k n c L (S .good) ticket above asked party
             (rw (div-one (length v)) (at .room)) (at .passes);
-        adds = grant-adds (length v) (S .next) L (S .good) room (S .next) n k ticket asked fit;
+        adds = grant-adds (length v) (S .next) L (S .good) room (S .next) n c k ticket asked fit;
         opened = fit-opens (free segmentRule L) (startsAt L) (length v) (sound-whole L v t s g S) (span segmentRule n)
             (omega (arith, span-words n)) k fit;
       }

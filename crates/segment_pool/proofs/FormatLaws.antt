@@ -46,4 +46,4 @@ module _ (S : ℕ) (v : List ℤ) (t x : Words) (first : ℕ) (r : Bool) (right 
     blank-pool b u y laid e =
         let L = replicate (slots t) emptyRow in
         stored-pool (lent S v t x) L first v b u y refl (laid L (blank-unheld (slots t) (length v)))
-        (e ∙ zero-table t (fit .threes))
+        (e ∙ zero-table t (fit .whole))

@@ -1,6 +1,7 @@
 // The segment pool: Brent's engine with the six calls of document 01. The number of segments, s, is an argument of
-// every call. No call asks anything of its caller: each checks the pool first, and its promise equates all that it
-// hands back and leaves with the machine's step.
+// every call; every call but format gives its party, in the row that it names or after the buffers. No call asks anything
+// of its caller: each checks the pool first, and its promise equates all that it hands back and leaves with the
+// machine's step.
 // Slices are lent on as `&*slice`, which keeps pointer and length in registers (docs/DECISIONS.md, what crosses calls).
 use call_parts::Named;
 use calls::Answer;
@@ -18,13 +19,14 @@ ghost use Rattle.segment_requests.specs.Outcomes.{handed, outcomeOf, allocated}
 
 // ---- find and look
 
-// Is this ticket, address and words live?
+// Is this ticket, address and words live, and the party's own?
 pub fn find(head: Head, s: u32, arena: &[i32], table: &[u32], index: &[u32], named: Row) -> Answer
     ensures { λ r. ⌜ r
         ≡ step segmentEngine (find named)
         (segmentPool s head (now (arena .entry)) (now (table .entry)) (now (index .entry))) .answer ⌝ }
 {
-    let number = segment_check::gate_number(s, head, &*arena, &*table, &*index);
+    let gate = segment_check::gate_number(s, head, &*arena, &*table, &*index);
+    let number = call_parts::with_party(gate, named.party);
     if number != 0 {
         return call_parts::refused(number);
     }
@@ -105,33 +107,35 @@ fn with_places(done: Outcome, places: u32) -> Allocation
     }
 }
 
-// Words under the next ticket, at the lowest address where enough free words lie together, and the places that the
-// search looked at. What the gate refuses has looked at none.
+// Words for a party under the next ticket, at the lowest address where enough free words lie together, and the places
+// that the search looked at. What is refused before it has looked at none.
 pub fn allocate(
     head: Head,
     s: u32,
     arena: &mut [i32],
     table: &mut [u32],
     index: &mut [u32],
+    party: u32,
     words: u32,
 ) -> Allocation
     ensures { λ r. ⌜
         (handed s (outcomeOf r) (now (arena .exit)) (now (table .exit)) (now (index .exit)) [], r .places)
         ≡ allocated (segmentPool s head (now (arena .entry)) (now (table .entry)) (now (index .entry)))
-        words ⌝ }
+        party words ⌝ }
 {
-    let number = segment_check::gate_number(s, head, &*arena, &*table, &*index);
+    let gate = segment_check::gate_number(s, head, &*arena, &*table, &*index);
+    let number = call_parts::with_party(gate, party);
     if number != 0 {
         let refused = segment_requests::refused_with(head, number);
         return with_places(refused, 0);
     }
-    let done = segment_requests::grant(head, s, arena, table, index, words);
+    let done = segment_requests::grant(head, s, arena, table, index, party, words);
     let outcome = segment_requests::outcome_of_grant(head, words, done);
     with_places(outcome, (done / 4294967296) as u32)
 }
 
-// Frees exactly the block whose live ticket, address and words are named; free blocks that it touches become one with
-// it.
+// Frees exactly the block whose live ticket, address and words its own party names; free blocks that it touches become
+// one with it.
 pub fn release(
     head: Head,
     s: u32,
@@ -144,7 +148,8 @@ pub fn release(
         ≡ resultOf (step segmentEngine (release named)
         (segmentPool s head (now (arena .entry)) (now (table .entry)) (now (index .entry)))) ⌝ }
 {
-    let number = segment_check::gate_number(s, head, &*arena, &*table, &*index);
+    let gate = segment_check::gate_number(s, head, &*arena, &*table, &*index);
+    let number = call_parts::with_party(gate, named.party);
     if number != 0 {
         return segment_requests::refused_with(head, number);
     }
@@ -154,29 +159,31 @@ pub fn release(
 
 // ---- list
 
-// The requests of a list, one after another on a pool that is checked once. A refused request gets its answer and the
-// rest go on; answer words beyond the list stay.
+// The requests of a party's list, one after another on a pool that is checked once. A refused request gets its answer
+// and the rest go on; answer words beyond the list stay.
 pub fn list(
     head: Head,
     s: u32,
     arena: &mut [i32],
     table: &mut [u32],
     index: &mut [u32],
+    party: u32,
     asked: &[u32],
     answers: &mut [u32],
 ) -> Outcome
     ensures { λ r. ⌜ handed s r (now (arena .exit)) (now (table .exit)) (now (index .exit)) (now (answers .exit) ∷ [])
-        ≡ resultOf (step segmentEngine (list (now (asked .entry)) (now (answers .entry)))
+        ≡ resultOf (step segmentEngine (list party (now (asked .entry)) (now (answers .entry)))
         (segmentPool s head (now (arena .entry)) (now (table .entry)) (now (index .entry)))) ⌝ }
 {
     if !call_parts::list_suits(asked, answers) {
         return segment_requests::refused_with(head, 8);
     }
-    let number = segment_check::gate_number(s, head, &*arena, &*table, &*index);
+    let gate = segment_check::gate_number(s, head, &*arena, &*table, &*index);
+    let number = call_parts::with_party(gate, party);
     if number != 0 {
         return segment_requests::refused_with(head, number);
     }
-    let after = segment_requests::serve_all(head, s, arena, table, index, asked, answers);
+    let after = segment_requests::serve_all(head, s, arena, table, index, party, asked, answers);
     Outcome {
         head: after,
         answer: call_parts::succeeded(call_parts::EMPTY_ROW),

@@ -99,7 +99,7 @@ some-words n size = let z = eqb-false n 0 (or-l (eqb n 0) (ltb 16384 n) size) in
 
 -- ---- the grant
 
-module _ (h : Head) (S : ℕ) (v : List ℤ) (t x : Words) (n slot at : ℕ) (f : Grantable h S v t x n slot at) where
+module _ (h : Head) (S : ℕ) (v : List ℤ) (t x : Words) (c n slot at : ℕ) (f : Grantable h S v t x c n slot at) where
   abbrev lent : Pool
   lent = segmentPool S h v t x
 
@@ -107,7 +107,7 @@ module _ (h : Head) (S : ℕ) (v : List ℤ) (t x : Words) (n slot at : ℕ) (f 
   L = recordsOf t
 
   abbrev new : Row
-  new = row (h .next) (addressAt segmentRule at) n
+  new = row (h .next) (addressAt segmentRule at) n c
 
   pub place-range : InRange S v t x
   place-range = sound-range S h v t x (f .ok)
@@ -119,9 +119,10 @@ module _ (h : Head) (S : ℕ) (v : List ℤ) (t x : Words) (n slot at : ℕ) (f 
   place-inside =
       omega (arith, fit-lowest (free segmentRule L) (length v) (span segmentRule n) at (f .fit) .room, span-words n)
 
-  asked : Asked segmentEngine lent n at
+  asked : Asked segmentEngine lent c n at
   unfolding segmentEngine
   asked = record {
+    party = f .party;
     size = f .size;
     slot = empty-found t slot (f .empty) .1;
     ticket = eqb-ne (h .next) 0 (f .ticket);
@@ -133,15 +134,15 @@ module _ (h : Head) (S : ℕ) (v : List ℤ) (t x : Words) (n slot at : ℕ) (f 
   unfolding sound-form
   place-granting {r} d =
       granting L v x (r .count) (r .size) (sound-form S h v t x (f .ok) (f .ranged) d) (nextAfter (h .next)) n
-      at (asked .slot) (f .ticket) (next-above (h .next)) (some-words n (f .size)) (f .fit)
+      c at (asked .slot) (f .ticket) (next-above (h .next)) (some-words n (f .size)) (f .party) (f .fit)
 
-  pub place-answer : success (row (h .next) (at + 1) n) ≡ answerTo segmentEngine lent (ask n)
+  pub place-answer : success (row (h .next) (at + 1) n c) ≡ answerTo segmentEngine lent (ask c n)
   unfolding segmentEngine
   place-answer =
-      ap (λ (y : ℕ). success (row (h .next) y n)) (sym (address-after at))
-      ∙ sym (ask-done segmentEngine lent n at asked .0)
+      ap (λ (y : ℕ). success (row (h .next) y n c)) (sym (address-after at))
+      ∙ sym (ask-done segmentEngine lent c n at asked .0)
 
-  pub place-places : placesTo S (length v) L at ≡ placesAsked lent n
+  pub place-places : placesTo S (length v) L at ≡ placesAsked lent c n
   place-places =
       let size : at ≡ at + 1 - 1 = omega arith in
       ap₂ (λ (m k : ℕ). placesTo S m L k) (sym (length-map v (ofZ w32))) size
@@ -151,20 +152,20 @@ module _ (h : Head) (S : ℕ) (v : List ℤ) (t x : Words) (n slot at : ℕ) (f 
   abbrev ground : List ℤ
   ground = wiped (pos 0) (at + 1) (at + span segmentRule n) v
 
-  ground-words : zeroed segmentEngine lent n at ≡ asWords ground
+  ground-words : zeroed segmentEngine lent c n at ≡ asWords ground
   unfolding zeroed segmentEngine
   ground-words =
-      let e = past-new segmentRule (omega arith) (h .next) at n in
+      let e = past-new segmentRule (omega arith) (h .next) at n c in
       let hi : 1 * past segmentRule new ≡ at + span segmentRule n = omega arith in
       ap₂ (λ (a b : ℕ). wiped 0 a b (asWords v)) (address-after at) hi
       ∙ sym (map-wiped (ofZ w32) (pos 0) (at + 1) (at + span segmentRule n) v)
 
   pub place-pool : (b : List ℤ) (u y : Words) → Becomes (enter new L) ground S b y
-      → u ≡ tableOf (set L slot (row (h .next) (at + 1) n))
-      → segmentPool S (record { next = nextAfter (h .next) }) b u y ≡ poolAfter segmentEngine lent (ask n)
+      → u ≡ tableOf (set L slot (row (h .next) (at + 1) n c))
+      → segmentPool S (record { next = nextAfter (h .next) }) b u y ≡ poolAfter segmentEngine lent (ask c n)
   place-pool b u y becomes e =
-      stored-pool (over lent (zeroed segmentEngine lent n at)) (enter new L) (nextAfter (h .next)) ground b u y
+      stored-pool (over lent (zeroed segmentEngine lent c n at)) (enter new L) (nextAfter (h .next)) ground b u y
       ground-words becomes
-      (e ∙ ap (λ (z : ℕ). tableOf (set L slot (row (h .next) z n))) (sym (address-after at))
+      (e ∙ ap (λ (z : ℕ). tableOf (set L slot (row (h .next) z n c))) (sym (address-after at))
       ∙ ap tableOf (sym (empty-found t slot (f .empty) .2 new)))
-      ∙ unfold segmentEngine in sym (ask-done segmentEngine lent n at asked .1 ∙ grant-store segmentEngine lent n at)
+      ∙ unfold segmentEngine in sym (ask-done segmentEngine lent c n at asked .1 ∙ grant-store segmentEngine lent c n at)

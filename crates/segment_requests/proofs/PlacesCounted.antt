@@ -15,7 +15,7 @@ use mir.Syntax.{w32}
 use mir.Val.{toZ}
 use Rattle.words.proofs.Tests.{and-l, and-r, eqb-eq, eqb-ne, eqb-false, or-l, le-of}
 use Rattle.words.proofs.PlaceLaws.{map-stamp, stamp-same}
-use Rattle.ledger.specs.Records.{Ledger, full}
+use Rattle.ledger.specs.Records.{Ledger, isParty, full}
 use Rattle.ledger.specs.Units.{span, valid, free, owned, lowestFit}
 use Rattle.stored_forms.specs.Segments.{segmentRule, segmentRange, segmentSize, segmentWord, segmentIndex}
 use Rattle.stored_forms.specs.Segments.{controlWord, isPower, depth, mostWords}
@@ -28,13 +28,16 @@ use Rattle.segment_cores.specs.Stores.{Sound, arenaOf}
 use Rattle.segment_cores.proofs.SearchLaws.{search-steps}
 use Rattle.segment_cores.proofs.UnitLaws.{span-words, address-after}
 use Rattle.calls.specs.Pool.{Pool, ledger, wordCount, store, lengths, stored, sound}
-use Rattle.calls.specs.Step.{ask, allocate, accepted, answerTo, fitOf, numberOf, GateIs, refusedBy, actsDone, step}
+use Rattle.calls.specs.Step.{ask, allocate, accepted, refusal, answerTo, fitOf, numberOf, poolNumber, GateIs, refusedBy}
+use Rattle.calls.specs.Step.{actsDone, step}
 use Rattle.calls.specs.Engines.{segmentEngine}
 use Rattle.calls.specs.Search.{placesBy, placesOf, searchOf, PlacesCounted}
 use Rattle.calls.specs.declared.Answer.{Answer}
-use Rattle.calls.proofs.ActLaws.{Asked, ask-zero, ask-done, answer-number}
+use Rattle.calls.proofs.ActLaws.{Asked, act-refused, ask-zero, ask-done, answer-number}
 use Rattle.calls.proofs.Engines.{segment-laws}
-use Rattle.calls.proofs.GateLaws.{is-eight, is-one, gate-refuses, gate-sound, step-sound}
+use Rattle.calls.proofs.GateLaws.{is-eight, is-one, step-stops, gate-partied, gate-refuses, step-sound}
+use Rattle.call_parts.specs.Parts.{withParty}
+use Rattle.call_parts.proofs.ResultLaws.{stopped-step}
 use Rattle.segment_requests.specs.Outcomes.{placesAsked}
 use Rattle.calls.proofs.StoreLaws.{sound-lengths, sound-valid, is-store}
 
@@ -115,62 +118,72 @@ module _ (p : Pool) (ok : sound segmentEngine p ≡ true) where
       ∙ ap (λ (k : ℕ). stepsTo S k L (lowestFit (free segmentRule L) k m)) long
       ∙ ap (λ (k : ℕ). stepsTo S W L (lowestFit (free segmentRule L) k m)) (sym (div-one W))
 
-  answer-is : (n : ℕ) → step segmentEngine (allocate n) p .answer ≡ answerTo segmentEngine p (ask n)
-  unfolding actsDone
-  answer-is n = ap (λ o. o .answer) (step-sound segmentEngine (allocate n) p refl refl ok)
+  -- the call's answer is the act's, also where the party is none
+  answer-is : (c n : ℕ) → step segmentEngine (allocate c n) p .answer ≡ answerTo segmentEngine p (ask c n)
+  unfolding actsDone numberOf
+  answer-is c n = go (isParty c) refl
+    where
+      go : (b : Bool) → isParty c ≡ b → step segmentEngine (allocate c n) p .answer ≡ answerTo segmentEngine p (ask c n)
+      go true h = ap (λ o. o .answer) (step-sound segmentEngine (allocate c n) p refl refl ok h)
+      go false h =
+          let twelve : numberOf segmentEngine p (ask c n) ≡ 12 = rw h in
+          ap (λ o. o .answer) (step-stops segmentEngine (allocate c n) p 12
+          (gate-partied segmentEngine (allocate c n) p refl refl ok h) (λ z. omega arith))
+          ∙ sym (act-refused segmentEngine p (ask c n) (λ z. omega arith) .0 ∙ ap refusal twelve)
 
   -- a grant of the block at k
-  module _ (n k : ℕ) (asked : Asked segmentEngine p n k) where
-    begins-at : step segmentEngine (allocate n) p .answer .address - 1 ≡ k
+  module _ (c n k : ℕ) (asked : Asked segmentEngine p c n k) where
+    begins-at : step segmentEngine (allocate c n) p .answer .address - 1 ≡ k
     unfolding segmentEngine
     begins-at =
-        let e = ap (λ (x : Answer). x .address) (answer-is n ∙ ask-done segmentEngine p n k asked .0) in
-        let a : step segmentEngine (allocate n) p .answer .address ≡ k + 1 = e ∙ address-after k in
+        let e = ap (λ (x : Answer). x .address) (answer-is c n ∙ ask-done segmentEngine p c n k asked .0) in
+        let a : step segmentEngine (allocate c n) p .answer .address ≡ k + 1 = e ∙ address-after k in
         omega arith
 
-    places-are : placesOf p n ≡ placesTo S W L k
+    places-are : placesOf p c n ≡ placesTo S W L k
     unfolding placesOf
     places-are =
-        let e = ap accepted (answer-is n ∙ ask-done segmentEngine p n k asked .0) in
+        let e = ap accepted (answer-is c n ∙ ask-done segmentEngine p c n k asked .0) in
         rw (e, begins-at)
 
-    grant-steps : searchOf p n ≡ steps (step segmentEngine (allocate n) p .answer .address - 1) (placesOf p n)
+    grant-steps : searchOf p n ≡ steps (step segmentEngine (allocate c n) p .answer .address - 1) (placesOf p c n)
     unfolding segmentEngine
     grant-steps =
         let one = eqb-false n 0 (or-l (eqb n 0) (ltb 16384 n) (asked .size)) in
         search-is n (omega arith) ∙ ap (stepsTo S W L) (asked .fit) ∙ ap₂ steps (sym begins-at) (sym places-are)
 
   -- a request that gets 5 has a good size, and no room
-  none-ask : (n : ℕ) → numberOf segmentEngine p (ask n) ≡ 5 → (1 ≤ n) × (fitOf segmentEngine p n ≡ none)
+  none-ask : (c n : ℕ) → numberOf segmentEngine p (ask c n) ≡ 5 → (1 ≤ n) × (fitOf segmentEngine p n ≡ none)
   unfolding numberOf segmentEngine
-  none-ask n e =
-      go (eqb n 0 || ltb mostWords n) refl (full L) (eqb (p .head .next) 0) (fitOf segmentEngine p n) refl e
+  none-ask c n e =
+      go (isParty c) (eqb n 0 || ltb mostWords n) refl (full L) (eqb (p .head .next) 0) (fitOf segmentEngine p n) refl e
     where
-      go : (a : Bool) → (eqb n 0 || ltb mostWords n) ≡ a → (b c : Bool) (o : Option ℕ) → fitOf segmentEngine p n ≡ o
-          → _≡_ {A = ℕ} (cond a 2 (cond b 3 (cond c 4 (elim o [ none ↦ 5 | some k ↦ 0 ])))) 5
+      go : (x a : Bool) → (eqb n 0 || ltb mostWords n) ≡ a → (b d : Bool) (o : Option ℕ) → fitOf segmentEngine p n ≡ o
+          → _≡_ {A = ℕ} (cond x (cond a 2 (cond b 3 (cond d 4 (elim o [ none ↦ 5 | some k ↦ 0 ])))) 12) 5
           → (1 ≤ n) × (fitOf segmentEngine p n ≡ none)
-      go true s b c o f h = absurd (omega arith)
-      go false s true c o f h = absurd (omega arith)
-      go false s false true o f h = absurd (omega arith)
-      go false s false false (some k) f h = absurd (omega arith)
-      go false s false false none f h =
+      go false a s b d o f h = absurd (omega arith)
+      go true true s b d o f h = absurd (omega arith)
+      go true false s true d o f h = absurd (omega arith)
+      go true false s false true o f h = absurd (omega arith)
+      go true false s false false (some k) f h = absurd (omega arith)
+      go true false s false false none f h =
           let z = eqb-false n 0 (or-l (eqb n 0) (ltb mostWords n) s) in
           (omega arith, f)
 
 -- the places of an act are those of its call
-pub act-places : (p : Pool) (n : ℕ) → sound segmentEngine p ≡ true → placesAsked p n ≡ placesOf p n
+pub act-places : (p : Pool) (c n : ℕ) → sound segmentEngine p ≡ true → placesAsked p c n ≡ placesOf p c n
 unfolding placesOf
-act-places p n ok = ap (placesBy p) (sym (answer-is p ok n))
+act-places p c n ok = ap (placesBy p) (sym (answer-is p ok c n))
 
 -- a call that the gate does not refuse is one on a sound pool
-reached : (p : Pool) (n k : ℕ) → k ≢ 8 → k ≢ 1 → step segmentEngine (allocate n) p .answer .number ≡ k
+reached : (p : Pool) (c n k : ℕ) → k ≢ 8 → k ≢ 1 → step segmentEngine (allocate c n) p .answer .number ≡ k
     → sound segmentEngine p ≡ true
 unfolding sound segmentEngine
-reached p n k a b e = go (lengths segmentEngine p) refl (stored segmentEngine p) refl
+reached p c n k a b e = go (lengths segmentEngine p) refl (stored segmentEngine p) refl
   where
     other : (x : ℕ) → GateIs segmentEngine p x → x ≢ 0 → k ≢ x → ⊥
     other x is z differs =
-        let o = gate-refuses segmentEngine p x is z (allocate n) refl refl in
+        let o = gate-refuses segmentEngine p x is z (allocate c n) refl refl in
         differs (sym e ∙ ap (λ o. o .answer .number) o)
 
     go : (l : Bool) → lengths segmentEngine p ≡ l → (s : Bool) → stored segmentEngine p ≡ s
@@ -179,35 +192,43 @@ reached p n k a b e = go (lengths segmentEngine p) refl (stored segmentEngine p)
     go true l false t = absurd (other 1 (is-one segmentEngine p l t) (omega arith) b)
     go true l true t = rw (l, t)
 
--- one that it refuses has looked at no place
-pub gate-places : (p : Pool) (n k : ℕ) → GateIs segmentEngine p k → k ≢ 0 → 0 ≡ placesOf p n
-unfolding placesOf
-gate-places p n k is z =
+-- one that is refused before its act, by the pool's number or the party, has looked at no place
+pub gate-places : (p : Pool) (c n x k : ℕ) → GateIs segmentEngine p x → k ≡ withParty x c → k ≢ 0 → 0 ≡ placesOf p c n
+unfolding placesOf poolNumber
+gate-places p c n x k is e z =
     sym (ap (λ o. placesBy p (o .answer)) refuses ∙ rw (eqb-ne k 0 z, eqb-ne k 5 other))
   where
-    refuses : step segmentEngine (allocate n) p ≡ refusedBy segmentEngine (allocate n) p k
-    refuses = gate-refuses segmentEngine p k is z (allocate n) refl refl
+    refuses : step segmentEngine (allocate c n) p ≡ refusedBy segmentEngine (allocate c n) p k
+    refuses = stopped-step segmentEngine p x c k is e z (allocate c n) refl refl refl
+
+    -- no such number is 5
+    go : (b d f h : Bool) → withParty (cond b (cond d (cond f 0 1) 8) 11) c ≡ 5 → isParty c ≡ h → ⊥
+    go true true true true q y = let w = rw y at q in omega arith
+    go true true true false q y = let w = rw y at q in omega arith
+    go true true false h q y = omega arith
+    go true false f h q y = omega arith
+    go false d f h q y = omega arith
 
     other : k ≢ 5
-    other e =
-        let ok = reached p n 5 (omega arith) (omega arith) (ap (λ o. o .answer .number) refuses ∙ e) in
-        z (is (ask n) ∙ gate-sound segmentEngine (allocate n) p refl refl ok)
+    other q =
+        go (segmentEngine .known (p .shape)) (lengths segmentEngine p) (stored segmentEngine p) (isParty c)
+        (ap (λ y. withParty y c) (sym is) ∙ sym e ∙ q) refl
 
-module _ (p : Pool) (n : ℕ) where
+module _ (p : Pool) (c n : ℕ) where
   abbrev x : Answer
-  x = step segmentEngine (allocate n) p .answer
+  x = step segmentEngine (allocate c n) p .answer
 
-  numbered : (k : ℕ) → sound segmentEngine p ≡ true → x .number ≡ k → numberOf segmentEngine p (ask n) ≡ k
+  numbered : (k : ℕ) → sound segmentEngine p ≡ true → x .number ≡ k → numberOf segmentEngine p (ask c n) ≡ k
   numbered k ok e =
-      sym (answer-number segmentEngine p (ask n)) ∙ sym (ap (λ (y : Answer). y .number) (answer-is p ok n)) ∙ e
+      sym (answer-number segmentEngine p (ask c n)) ∙ sym (ap (λ (y : Answer). y .number) (answer-is p ok c n)) ∙ e
 
-  granted-at : accepted x ≡ true → (sound segmentEngine p ≡ true) × ((k : ℕ) × Asked segmentEngine p n k)
+  granted-at : accepted x ≡ true → (sound segmentEngine p ≡ true) × ((k : ℕ) × Asked segmentEngine p c n k)
   granted-at h =
       let e = eqb-eq (x .number) 0 h in
-      let ok = reached p n 0 (omega arith) (omega arith) e in
-      (ok, ask-zero segmentEngine p n (numbered 0 ok e))
+      let ok = reached p c n 0 (omega arith) (omega arith) e in
+      (ok, ask-zero segmentEngine p c n (numbered 0 ok e))
 
-  places-few : placesOf p n ≤ mostPlaces (p .shape) (wordCount p)
+  places-few : placesOf p c n ≤ mostPlaces (p .shape) (wordCount p)
   unfolding placesOf mostPlaces
   places-few = go (accepted x) refl (eqb (x .number) 5)
     where
@@ -226,13 +247,13 @@ module _ (p : Pool) (n : ℕ) where
 pub places-counted : PlacesCounted
 unfolding placesOf
 places-counted = record {
-  granted = λ p n h. let (ok, (k, asked)) = granted-at p n h in grant-steps p ok n k asked;
-  noRoom = λ p n e.
-      let ok = reached p n 5 (omega arith) (omega arith) e in
-      let (one, fit) = none-ask p ok n (numbered p n 5 ok e) in
-      let five : placesOf p n ≡ 1 = rw e in
+  granted = λ p c n h. let (ok, (k, asked)) = granted-at p c n h in grant-steps p ok c n k asked;
+  noRoom = λ p c n e.
+      let ok = reached p c n 5 (omega arith) (omega arith) e in
+      let (one, fit) = none-ask p ok c n (numbered p c n 5 ok e) in
+      let five : placesOf p c n ≡ 1 = rw e in
       search-is p ok n one ∙ ap (stepsTo (p .shape) (wordCount p) (ledger p)) fit ∙ ap (steps (wordCount p)) (sym five);
   most = places-few;
-  largest = λ p n s w.
-      subst (λ (m : ℕ). placesOf p n ≤ m) (ap₂ mostPlaces s w ∙ most-seventy-three) (places-few p n);
+  largest = λ p c n s w.
+      subst (λ (m : ℕ). placesOf p c n ≤ m) (ap₂ mostPlaces s w ∙ most-seventy-three) (places-few p c n);
 }

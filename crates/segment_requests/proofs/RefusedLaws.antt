@@ -29,19 +29,19 @@ module _ (h : Head) (S : ℕ) (v : List ℤ) (t x : Words) where
   refused-acted act o n e r =
       ap (λ (y : Outcome). handed S y v t x []) e ∙ acted-refused segmentEngine act p n r
 
-  granted-refused : (e n : ℕ) → e / 65536 ≡ n → eqb n 0 ≡ false → (k : ℕ) → RefusedBy segmentEngine p (ask k) n
-      → handed S (grantOutcome h k e) v t x [] ≡ acted segmentEngine (ask k) p
-  granted-refused e n is some k =
+  granted-refused : (e n : ℕ) → e / 65536 ≡ n → eqb n 0 ≡ false → (c k : ℕ) → RefusedBy segmentEngine p (ask c k) n
+      → handed S (grantOutcome h k e) v t x [] ≡ acted segmentEngine (ask c k) p
+  granted-refused e n is some c k =
       let refuses : eqb (e / 65536) 0 ≡ false = ap (λ (m : ℕ). eqb m 0) is ∙ some in
-      refused-acted (ask k) (grantOutcome h k e) n (rw refuses (ap (refusedWith h) is))
+      refused-acted (ask c k) (grantOutcome h k e) n (rw refuses (ap (refusedWith h) is))
 
   -- and its places: 1 for 5, else 0
   pub grant-refused : (r e m n : ℕ) → (effectIn r ≡ e) × (placesIn r ≡ m) → e / 65536 ≡ n → eqb n 0 ≡ false
-      → m ≡ cond (eqb n 5) 1 0 → (k : ℕ) → RefusedBy segmentEngine p (ask k) n
-      → (handed S (grantOutcome h k (effectIn r)) v t x [] ≡ acted segmentEngine (ask k) p)
-      × (placesIn r ≡ placesAsked p k)
-  grant-refused r e m n (low, high) is some places k refused = (
-    ap (λ (y : ℕ). handed S (grantOutcome h k y) v t x []) low ∙ granted-refused e n is some k refused,
+      → m ≡ cond (eqb n 5) 1 0 → (c k : ℕ) → RefusedBy segmentEngine p (ask c k) n
+      → (handed S (grantOutcome h k (effectIn r)) v t x [] ≡ acted segmentEngine (ask c k) p)
+      × (placesIn r ≡ placesAsked p c k)
+  grant-refused r e m n (low, high) is some places c k refused = (
+    ap (λ (y : ℕ). handed S (grantOutcome h k y) v t x []) low ∙ granted-refused e n is some c k refused,
     high ∙ places ∙ sym (ap (placesBy p) (refused .0) ∙ rw some),
   )
 

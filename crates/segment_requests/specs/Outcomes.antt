@@ -6,6 +6,7 @@ use lib.Dec.{eqb}
 use lib.IntN.{ℤ}
 use Rattle.words.specs.Lists.{Words}
 use Rattle.ledger.specs.declared.Row.{Row}
+use Rattle.ledger.specs.Records.{row}
 use Rattle.calls.specs.Pool.{Pool, nextAfter}
 use Rattle.calls.specs.Step.{refusal, success, allocate, ask, answerTo, step}
 use Rattle.calls.specs.Engines.{segmentEngine}
@@ -26,13 +27,13 @@ abbrev pub refusedWith : Head → ℕ → Outcome
 refusedWith h n = record { head = h; answer = refusal n }
 
 -- what an allocation of n words comes to by its effect: a refusal with the number in the upper half, or, if that is 0,
--- the next ticket at the address in the lower half
+-- the next ticket at the address in the lower half; an answer gives no party
 abbrev pub grantOutcome : Head → ℕ → ℕ → Outcome
 grantOutcome h n e =
     cond (eqb (e / 65536) 0)
     (record {
       head = record { next = nextAfter (h .next) };
-      answer = success (record { ticket = h .next; address = e % 65536; words = n });
+      answer = success (row (h .next) (e % 65536) n 0);
     })
     (refusedWith h (e / 65536))
 
@@ -43,17 +44,17 @@ effectIn e = e % 4294967296
 abbrev pub placesIn : ℕ → ℕ
 placesIn e = e / 4294967296
 
--- the places that an allocation of n words on a sound pool reports
-abbrev pub placesAsked : Pool → ℕ → ℕ
-placesAsked p n = placesBy p (answerTo segmentEngine p (ask n))
+-- the places that an allocation of n words for party c on a sound pool reports
+abbrev pub placesAsked : Pool → ℕ → ℕ → ℕ
+placesAsked p c n = placesBy p (answerTo segmentEngine p (ask c n))
 
 -- an allocation's outcome, apart from its places
 abbrev pub outcomeOf : Allocation → Outcome
 outcomeOf r = record { head = r .head; answer = r .answer }
 
--- what an allocation of n words on p comes to: the machine's result, and the places of 02's ticket 5
-abbrev pub allocated : Pool → ℕ → Result × ℕ
-allocated p n = (resultOf (step segmentEngine (allocate n) p), placesOf p n)
+-- what an allocation of n words for party c on p comes to: the machine's result, and the places of 02's ticket 5
+abbrev pub allocated : Pool → ℕ → ℕ → Result × ℕ
+allocated p c n = (resultOf (step segmentEngine (allocate c n) p), placesOf p c n)
 
 -- what a release comes to by its number: a refusal, or the named record once more; no ticket is used up
 abbrev pub releaseOutcome : Head → Row → ℕ → Outcome

@@ -11,8 +11,9 @@ ghost use mathlib.Core.Bool.{true};
 ghost use mathlib.Core.List.{[]};
 ghost use Prim.Native.Nat.{_+_, _*_, _/_, _%_, _<_, _≤_};
 ghost use lib.ListN.{length};
+ghost use Rattle.ledger.specs.Records.{isParty};
 ghost use Rattle.calls.specs.Pool.{sound};
-ghost use Rattle.calls.specs.Step.{ask, give, answerTo, poolAfter};
+ghost use Rattle.calls.specs.Step.{ask, give, answerTo, poolAfter, partied};
 ghost use Rattle.calls.specs.Engines.{segmentEngine};
 ghost use Rattle.call_parts.specs.Parts.{namedIn, actOf, requestAt, withAnswer};
 ghost use Rattle.call_parts.specs.Results.{acted, ran};
@@ -63,14 +64,15 @@ fn place(
     arena: &mut [i32],
     table: &mut [u32],
     index: &mut [u32],
+    party: u32,
     words: u32,
     slot: usize,
     at: usize,
 ) -> u32
-    requires { ⌜ Grantable head s (now arena) (now table) (now index) words slot at ⌝ }
+    requires { ⌜ Grantable head s (now arena) (now table) (now index) party words slot at ⌝ }
     ensures { λ r. ⌜
         handed s (grantOutcome head words r) (now (arena .exit)) (now (table .exit)) (now (index .exit)) []
-        ≡ acted segmentEngine (ask words)
+        ≡ acted segmentEngine (ask party words)
         (segmentPool s head (now (arena .entry)) (now (table .entry)) (now (index .entry))) ⌝ }
 {
     let n = record_table::span_of(segment_check::WORDS, words);
@@ -81,6 +83,7 @@ fn place(
         ticket: head.next,
         address,
         words,
+        party,
     };
     record_table::write_row(table, slot, new);
     address
@@ -94,7 +97,7 @@ fn with_places(effect: u32, places: usize) -> u64
     effect as u64 + 4294967296 * (places as u64)
 }
 
-// An allocation on a sound pool: the tests in the order of their numbers, then the search. What is refused before the
+// A party's allocation on a sound pool: the tests in the order of their numbers, then the search. What is refused before the
 // search has looked at no place.
 pub fn grant(
     head: Head,
@@ -102,16 +105,17 @@ pub fn grant(
     arena: &mut [i32],
     table: &mut [u32],
     index: &mut [u32],
+    party: u32,
     words: u32,
 ) -> u64
-    requires { ⌜ sound segmentEngine (segmentPool s head (now arena) (now table) (now index)) ≡ true ⌝ }
+    requires { ⌜ (sound segmentEngine (segmentPool s head (now arena) (now table) (now index)) ≡ true) × (isParty party ≡ true) ⌝ }
     ensures { λ r. ⌜
         handed s (grantOutcome head words (effectIn r)) (now (arena .exit)) (now (table .exit)) (now (index .exit)) []
-        ≡ acted segmentEngine (ask words)
+        ≡ acted segmentEngine (ask party words)
         (segmentPool s head (now (arena .entry)) (now (table .entry)) (now (index .entry))) ⌝ }
     ensures { λ r. ⌜ placesIn r
         ≡ placesAsked (segmentPool s head (now (arena .entry)) (now (table .entry)) (now (index .entry)))
-        words ⌝ }
+        party words ⌝ }
 {
     if (words == 0) | (16384 < words) {
         return with_places(no_effect(2), 0);
@@ -130,11 +134,11 @@ pub fn grant(
     if at == arena.len() {
         return with_places(no_effect(5), fit.places);
     }
-    let effect = place(head, s, arena, table, index, words, slot, at);
+    let effect = place(head, s, arena, table, index, party, words, slot, at);
     with_places(effect, fit.places)
 }
 
-// The outcome of an allocation with this effect.
+// The outcome of an allocation with this effect. An answer gives no party.
 pub fn outcome_of_grant(head: Head, words: u32, done: u64) -> Outcome
     ensures { λ r. ⌜ r ≡ grantOutcome head words (effectIn done) ⌝ }
 {
@@ -147,6 +151,7 @@ pub fn outcome_of_grant(head: Head, words: u32, done: u64) -> Outcome
         ticket: head.next,
         address: effect % 65536,
         words,
+        party: 0,
     };
     Outcome {
         head: Head {
@@ -220,7 +225,7 @@ pub fn outcome_of_release(head: Head, named: Row, number: u32) -> Outcome
 
 // ---- list
 
-// One request on a sound pool.
+// One request of a party on a sound pool.
 fn serve(
     head: Head,
     s: u32,
@@ -229,14 +234,14 @@ fn serve(
     index: &mut [u32],
     request: Request,
 ) -> Outcome
-    requires { ⌜ sound segmentEngine (segmentPool s head (now arena) (now table) (now index)) ≡ true ⌝ }
+    requires { ⌜ (sound segmentEngine (segmentPool s head (now arena) (now table) (now index)) ≡ true) × (partied (actOf request) ≡ true) ⌝ }
     ensures { λ r. ⌜ handed s r (now (arena .exit)) (now (table .exit)) (now (index .exit)) []
         ≡ acted segmentEngine (actOf request)
         (segmentPool s head (now (arena .entry)) (now (table .entry)) (now (index .entry))) ⌝ }
 {
     match request {
-        Request::Ask(words) => {
-            let done = grant(head, s, arena, table, index, words);
+        Request::Ask(party, words) => {
+            let done = grant(head, s, arena, table, index, party, words);
             outcome_of_grant(head, words, done)
         }
         Request::Give(named) => {
@@ -254,48 +259,50 @@ fn serve_at(
     arena: &mut [i32],
     table: &mut [u32],
     index: &mut [u32],
+    party: u32,
     asked: &[u32],
     answers: &mut [u32],
     i: usize,
 ) -> Head
-    requires { ⌜ sound segmentEngine (segmentPool s head (now arena) (now table) (now index)) ≡ true ⌝ }
+    requires { ⌜ (sound segmentEngine (segmentPool s head (now arena) (now table) (now index)) ≡ true) × (isParty party ≡ true) ⌝ }
     requires { ⌜ (4 * i + 3 < length (now asked)) × (4 * i + 3 < length (now answers)) ⌝ }
     ensures { λ r. ⌜ segmentPool s r (now (arena .exit)) (now (table .exit)) (now (index .exit))
         ≡ poolAfter segmentEngine
         (segmentPool s head (now (arena .entry)) (now (table .entry)) (now (index .entry)))
-        (requestAt (now (asked .entry)) i) ⌝ }
+        (requestAt party (now (asked .entry)) i) ⌝ }
     ensures { λ _. ⌜ now (answers .exit)
         ≡ withAnswer (now (answers .entry)) i (answerTo segmentEngine
         (segmentPool s head (now (arena .entry)) (now (table .entry)) (now (index .entry)))
-        (requestAt (now (asked .entry)) i)) ⌝ }
+        (requestAt party (now (asked .entry)) i)) ⌝ }
 {
-    let request = call_parts::request_at(asked, i);
+    let request = call_parts::request_at(asked, party, i);
     let done = serve(head, s, arena, table, index, request);
     call_parts::put_answer(answers, i, done.answer);
     done.head
 }
 
-// All requests on a sound pool, one after another: the head after them.
+// All requests of a party's list on a sound pool, one after another: the head after them.
 pub fn serve_all(
     head: Head,
     s: u32,
     arena: &mut [i32],
     table: &mut [u32],
     index: &mut [u32],
+    party: u32,
     asked: &[u32],
     answers: &mut [u32],
 ) -> Head
-    requires { ⌜ sound segmentEngine (segmentPool s head (now arena) (now table) (now index)) ≡ true ⌝ }
+    requires { ⌜ (sound segmentEngine (segmentPool s head (now arena) (now table) (now index)) ≡ true) × (isParty party ≡ true) ⌝ }
     requires { ⌜ (length (now asked) % 4 ≡ 0) × (length (now asked) ≤ length (now answers)) ⌝ }
     ensures { λ r. ⌜
         (segmentPool s r (now (arena .exit)) (now (table .exit)) (now (index .exit)), now (answers .exit))
-        ≡ ran segmentEngine (now (asked .entry)) (now (answers .entry))
+        ≡ ran segmentEngine party (now (asked .entry)) (now (answers .entry))
         (segmentPool s head (now (arena .entry)) (now (table .entry)) (now (index .entry))) ⌝ }
 {
     let mut after = head;
     let mut i = 0;
     while i < asked.len() / 4 {
-        after = serve_at(after, s, arena, table, index, asked, answers, i);
+        after = serve_at(after, s, arena, table, index, party, asked, answers, i);
         i += 1;
     }
     after

@@ -1,6 +1,6 @@
-// Random traffic on the segment pool, held to a plain ledger whose units are words. Each holder writes its ticket into
-// all its words, and they and the control word are read again before its release. A round ends with the release of
-// all; the memory must then be as a format leaves it.
+// Random traffic of several parties on the segment pool, held to a plain ledger whose units are words. Each holder
+// writes its ticket into all its words, and they and the control word are read again before its release. A round ends
+// with the release of all; the memory must then be as a format leaves it.
 use calls::Answer;
 use ledger::Row;
 use segment_check::Head;
@@ -132,11 +132,12 @@ fn past(held: Answer) -> usize {
     std::num::wrapping_add_usize(held.address as usize, held.words as usize)
 }
 
-// What an allocation has to answer.
-fn plan(book: &[u32], map: &[u32], slots: usize, next: u32, words: u32) -> Answer {
+// What a party's allocation has to answer.
+fn plan(book: &[u32], map: &[u32], slots: usize, next: u32, party: u32, words: u32) -> Answer {
     let start = first_run(map, span_of(words));
     let address = (start % 65536 + 1) as u32;
-    testing::plan(book, slots, next, 16384, words, start < map.len(), address)
+    let fits = start < map.len();
+    testing::plan(book, slots, next, 16384, party, words, fits, address)
 }
 
 // The record with the address of its control word, and with a word more.
@@ -145,6 +146,7 @@ fn near(row: Row) -> Row {
         ticket: row.ticket,
         address: std::num::wrapping_sub_u32(row.address, 1),
         words: std::num::wrapping_add_u32(row.words, 1),
+        party: row.party,
     }
 }
 
@@ -181,13 +183,15 @@ fn try_allocate(
     book: &mut [u32],
     map: &mut [u32],
     slots: usize,
+    party: u32,
     words: u32,
 ) -> Round {
     let tally = round.tally;
-    let due = plan(book, map, slots, tally.next, words);
-    let outcome = segment_pool::allocate(round.head, round.segments, arena, table, index, words);
+    let due = plan(book, map, slots, tally.next, party, words);
+    let s = round.segments;
+    let outcome = segment_pool::allocate(round.head, s, arena, table, index, party, words);
     let agrees = same(due, outcome.answer);
-    book_grant(due, book, map, slots, control_of(due), past(due));
+    book_grant(due, party, book, map, slots, control_of(due), past(due));
     let clear = hold(due, arena);
     let next = next_after(tally.next, due);
     counted(round, outcome.head, next, outcome.answer, agrees & clear)
@@ -267,7 +271,17 @@ fn turn(
         tally: testing::reseeded(tally, draw.seed),
     };
     if draw.kind < 6 {
-        return try_allocate(on, arena, table, index, book, map, slots, draw.words);
+        return try_allocate(
+            on,
+            arena,
+            table,
+            index,
+            book,
+            map,
+            slots,
+            draw.party,
+            draw.words,
+        );
     }
     let row = entry(book, draw.slot);
     let named = chosen(row, near(row), draw, tally.next);
@@ -367,7 +381,7 @@ fn is_fresh(s: usize, arena: &[i32], table: &[u32], index: &[u32]) -> bool {
 fn report(round: Round, arena: &[i32], table: &[u32], index: &[u32]) {
     print_count(arena.len() as u64, b" words, ");
     print_count(round.segments as u64, b" segments, ");
-    print_count(table.len() as u64 / 3, b" records: ");
+    print_count(table.len() as u64 / 4, b" records: ");
     let fresh = is_fresh(round.segments as usize, arena, table, index);
     testing::report(round.tally, fresh);
 }
@@ -400,7 +414,7 @@ fn played(
     map: &mut [u32],
     count: usize,
 ) {
-    let slots = table.len() / 3;
+    let slots = table.len() / 4;
     let busy = turns(start, arena, table, index, book, map, slots, count);
     let done = release_all(busy, arena, table, index, book, map, slots);
     report(done, arena, table, index);
@@ -429,7 +443,7 @@ fn play_on(
     size: Size,
 ) {
     let w = least(size.words, arena.len());
-    let t = least(size.records % 257 * 3, table.len());
+    let t = least(size.records % 257 * 4, table.len());
     let n = least(size.segments as usize % 257 * 3, index.len());
     let m = least(size.words, map.len());
     let zero = 0;
@@ -454,10 +468,10 @@ fn run(arena: &mut [i32], table: &mut [u32], index: &mut [u32], book: &mut [u32]
 }
 
 fn main() {
-    let mut book = [0u32; 768];
+    let mut book = [0u32; 1024];
     let mut map = [0u32; 16384];
     let mut arena = [0i32; 16384];
-    let mut table = [0u32; 768];
+    let mut table = [0u32; 1024];
     let mut index = [0u32; 768];
     run(&mut arena, &mut table, &mut index, &mut book, &mut map);
 }

@@ -148,12 +148,13 @@ pub fn first_ticket(given: &[u32], count: usize) -> u32 {
     if count == 0 { 1 } else { word(given, 0) }
 }
 
-// The row whose three words are given.
-pub fn row(given: &[u32]) -> Row {
+// The row whose three words are given, as this party names it.
+pub fn row(given: &[u32], party: u32) -> Row {
     Row {
         ticket: word(given, 0),
         address: word(given, 1),
         words: word(given, 2),
+        party,
     }
 }
 
@@ -253,8 +254,8 @@ pub fn show_answer(answer: Answer) {
     print(b"\n");
 }
 
-// ---- the plain ledger that random traffic on a pool is held to: a book of tickets, addresses and words, and a map
-// with a word for each unit, 1 where it is held. The lowest fit is found by scanning the map. It shares no code with
+// ---- the plain ledger that random traffic on a pool is held to: a book of tickets, addresses, words and
+// parties, and a map with a word for each unit, 1 where it is held. The lowest fit is found by scanning the map. It shares no code with
 // the pools; which units a record holds is for the program to say.
 
 // What a round has come to: the ledger's next ticket, the last random number, the number that requested words stay
@@ -268,12 +269,13 @@ pub struct Tally {
     pub differences: u64,
 }
 
-// A call drawn at random: its kind, of sixteen, the words that it asks for or the slot whose record it names, and the
-// random number that the next one is drawn from.
+// A call drawn at random: its kind, of sixteen, the words that it asks for or the slot whose record it names, a party,
+// and the random number that the next one is drawn from.
 pub struct Draw {
     pub kind: u32,
     pub words: u32,
     pub slot: usize,
+    pub party: u32,
     pub seed: u64,
 }
 
@@ -293,20 +295,34 @@ fn pick(seed: u64, n: u64) -> u32 {
     ((seed / 1024) % n % 4294967296) as u32
 }
 
+// One of four parties, the last one that there is among them; or, three times of thirty-two, none.
+fn some_party(n: u32) -> u32 {
+    match n {
+        0 => 0,
+        1 => 256,
+        2 => 4294967295,
+        3 => 255,
+        _ => n % 3 + 1,
+    }
+}
+
 // Kind 0 may ask for more words than any pool has.
 pub fn drawn(tally: Tally, slots: usize) -> Draw {
     let a = stirred(tally.seed);
     let b = stirred(a);
+    let c = stirred(b);
     let kind = pick(a, 16);
     Draw {
         kind,
         words: pick(b, if kind == 0 { 20000 } else { tally.most }),
         slot: pick(b, slots as u64) as usize,
-        seed: stirred(b),
+        party: some_party(pick(c, 32)),
+        seed: stirred(c),
     }
 }
 
-// What a call names: a slot's record as it is, under any ticket, or with the address or the length of a near miss.
+// What a call names: a slot's record as it is, under any ticket, with the address or the length of a near miss, or by
+// any party.
 pub fn chosen(row: Row, near: Row, draw: Draw, next: u32) -> Row {
     let kind = draw.kind;
     if (kind == 9) | (kind == 13) {
@@ -314,6 +330,7 @@ pub fn chosen(row: Row, near: Row, draw: Draw, next: u32) -> Row {
             ticket: pick(draw.seed, next as u64),
             address: row.address,
             words: row.words,
+            party: row.party,
         };
     }
     if kind == 10 {
@@ -321,6 +338,7 @@ pub fn chosen(row: Row, near: Row, draw: Draw, next: u32) -> Row {
             ticket: row.ticket,
             address: near.address,
             words: row.words,
+            party: row.party,
         };
     }
     if (kind == 11) | (kind == 14) {
@@ -328,6 +346,15 @@ pub fn chosen(row: Row, near: Row, draw: Draw, next: u32) -> Row {
             ticket: row.ticket,
             address: row.address,
             words: near.words,
+            party: row.party,
+        };
+    }
+    if (kind == 8) | (kind == 15) {
+        return Row {
+            ticket: row.ticket,
+            address: row.address,
+            words: row.words,
+            party: draw.party,
         };
     }
     row
@@ -335,13 +362,14 @@ pub fn chosen(row: Row, near: Row, draw: Draw, next: u32) -> Row {
 
 // ---- book and map
 
-// The book has 256 tickets, then 256 addresses, then 256 lengths in words.
+// The book has 256 tickets, then 256 addresses, then 256 lengths in words, then 256 parties.
 pub fn entry(book: &[u32], slot: usize) -> Row {
     let s = slot % 256;
     Row {
         ticket: word(book, s),
         address: word(book, 256 + s),
         words: word(book, 512 + s),
+        party: word(book, 768 + s),
     }
 }
 
@@ -350,6 +378,7 @@ fn enter(book: &mut [u32], slot: usize, row: Row) {
     put(book, s, row.ticket);
     put(book, 256 + s, row.address);
     put(book, 512 + s, row.words);
+    put(book, 768 + s, row.party);
 }
 
 // The lowest slot whose ticket is this one, or the number of slots.
@@ -389,9 +418,10 @@ pub fn first_run(map: &[u32], need: usize) -> usize {
     map.len()
 }
 
-// Writes a grant into book and map: its units are those from `from` up to `to`.
+// Writes a party's grant into book and map: its units are those from `from` up to `to`.
 pub fn book_grant(
     granted: Answer,
+    party: u32,
     book: &mut [u32],
     map: &mut [u32],
     slots: usize,
@@ -406,6 +436,7 @@ pub fn book_grant(
         ticket: granted.ticket,
         address: granted.address,
         words: granted.words,
+        party,
     };
     enter(book, slot, row);
     put_all(map, from, to, 1);
@@ -428,6 +459,7 @@ pub fn book_release(
         ticket: 0,
         address: 0,
         words: 0,
+        party: 0,
     };
     enter(book, slot, none);
     put_all(map, from, to, 0);
@@ -444,16 +476,26 @@ fn refusal(number: u32) -> Answer {
     }
 }
 
-// What an allocation of at most `limit` words has to answer, where the lowest fit, if there is one, is at this address.
+// Whether the number is a party's.
+fn is_party(party: u32) -> bool {
+    (party != 0) & (party < 256)
+}
+
+// What a party's allocation of at most `limit` words has to answer, where the lowest fit, if there is one, is at this
+// address.
 pub fn plan(
     book: &[u32],
     slots: usize,
     next: u32,
     limit: u32,
+    party: u32,
     words: u32,
     fits: bool,
     address: u32,
 ) -> Answer {
+    if !is_party(party) {
+        return refusal(12);
+    }
     if (words == 0) | (words > limit) {
         return refusal(2);
     }
@@ -476,11 +518,17 @@ pub fn plan(
 
 // What a release or a find has to answer.
 pub fn verdict(book: &[u32], slots: usize, named: Row) -> Answer {
+    if !is_party(named.party) {
+        return refusal(12);
+    }
     let slot = slot_of(book, slots, named.ticket);
     if (named.ticket == 0) | (slot == slots) {
         return refusal(6);
     }
     let row = entry(book, slot);
+    if row.party != named.party {
+        return refusal(6);
+    }
     if (row.address != named.address) | (row.words != named.words) {
         return refusal(7);
     }

@@ -215,7 +215,7 @@ fn converse(
     piece: usize,
     out: &mut [u8],
 )
-    requires { ⌜ (length (now line) ≡ 65) × (length (now arena) ≡ 8192) × (length (now table) ≡ 768)
+    requires { ⌜ (length (now line) ≡ 65) × (length (now arena) ≡ 8192) × (length (now table) ≡ 1024)
         × (length (now out) ≡ 65536) ⌝ }
     requires { ⌜ (0 < piece) × (piece ≤ 512) ⌝ }
 {
@@ -238,7 +238,7 @@ pub fn run(input: i32, output: i32, piece: usize)
 {
     let mut line = [0u8; 65];
     let mut arena = [0u32; 8192];
-    let mut table = [0u32; 768];
+    let mut table = [0u32; 1024];
     let mut chunk = io::large_buffer();
     let mut out = io::large_buffer();
     converse(

@@ -7,6 +7,7 @@
 //   head R N M         root link, next ticket and form; form 1 if it has two numbers
 //   format M F         of form M with first ticket F; each is 1 if it is not there
 //   words I N          shows N words of the arena from word I on
+//   party P            the party of the calls that follow, 1 after lend
 //   allocate N         release T A W      find T A W      look T A W
 //   list N K V..       a list of N words, V over and over, with K words for its answers, which start as sevens
 use ledger::Row;
@@ -26,9 +27,10 @@ use testing::write_list;
 use tree_check::Head;
 use tree_requests::Outcome;
 
-// The head of the pool, and how many words of the two buffers are lent to it.
+// The head of the pool, the party that calls, and how many words of the two buffers are lent.
 struct Pool {
     head: Head,
+    party: u32,
     words: usize,
     slots: usize,
 }
@@ -81,8 +83,8 @@ fn run_format(head: Head, arena: &mut [u32], table: &mut [u32], form: u32, first
     if answer.number == 0 { new } else { head }
 }
 
-fn run_allocate(head: Head, arena: &mut [u32], table: &mut [u32], words: u32) -> Head {
-    let outcome = tree_pool::allocate(head, arena, table, words);
+fn run_allocate(head: Head, arena: &mut [u32], table: &mut [u32], party: u32, words: u32) -> Head {
+    let outcome = tree_pool::allocate(head, arena, table, party, words);
     show_outcome(outcome, arena, table)
 }
 
@@ -115,12 +117,13 @@ fn run_list(
     head: Head,
     arena: &mut [u32],
     table: &mut [u32],
+    party: u32,
     asked: &[u32],
     answers: &mut [u32],
 ) -> Head {
     let k = answers.len();
     put_all(answers, 0, k, 7);
-    let outcome = tree_pool::list(head, arena, table, asked, answers);
+    let outcome = tree_pool::list(head, arena, table, party, asked, answers);
     show_answer(outcome.answer);
     show(b"  answers", answers);
     show_memory(outcome.head, arena, table);
@@ -130,6 +133,7 @@ fn run_list(
 // The commands that call the pool but for the list; a line with no command does nothing.
 fn serve(
     head: Head,
+    party: u32,
     line: &[u8],
     arena: &mut [u32],
     table: &mut [u32],
@@ -141,16 +145,22 @@ fn serve(
         return run_format(head, arena, table, form, number_or_one(given, count, 1));
     }
     if is(line, b'a', b'l') {
-        return run_allocate(head, arena, table, word(given, 0));
+        return run_allocate(head, arena, table, party, word(given, 0));
     }
     if is(line, b'r', b'e') {
-        return run_release(head, arena, table, row(given));
+        return run_release(head, arena, table, row(given, party));
     }
     if is(line, b'f', b'i') {
-        return run_find(head, arena, table, row(given));
+        return run_find(head, arena, table, row(given, party));
     }
     if is(line, b'l', b'o') {
-        return run_look(head, arena, table, &[777777777, 888888888], row(given));
+        return run_look(
+            head,
+            arena,
+            table,
+            &[777777777, 888888888],
+            row(given, party),
+        );
     }
     set(head, line, arena, table, given, count)
 }
@@ -184,6 +194,7 @@ fn set(
 // A list is made of the given words; any other line goes on.
 fn serve_line(
     head: Head,
+    party: u32,
     line: &[u8],
     arena: &mut [u32],
     table: &mut [u32],
@@ -193,13 +204,20 @@ fn serve_line(
     answers: &mut [u32],
 ) -> Head {
     if !is(line, b'l', b'i') {
-        return serve(head, line, arena, table, given, count);
+        return serve(head, party, line, arena, table, given, count);
     }
     write_list(asked, given, count);
     let n = least(word(given, 0) as usize, asked.len());
     let k = least(word(given, 1) as usize, answers.len());
     let zero = 0;
-    run_list(head, arena, table, &asked[zero..n], &mut answers[zero..k])
+    run_list(
+        head,
+        arena,
+        table,
+        party,
+        &asked[zero..n],
+        &mut answers[zero..k],
+    )
 }
 
 // The head of a pool of form 1 that has no free block and no ticket left.
@@ -215,8 +233,20 @@ fn lend(arena: &mut [u32], table: &mut [u32], given: &[u32]) -> Pool {
     words::wipe(table);
     Pool {
         head: NO_BLOCK,
+        party: 1,
         words: word(given, 0) as usize,
         slots: word(given, 1) as usize,
+    }
+}
+
+// The pool, called by this party.
+fn of_party(pool: Pool, party: u32) -> Pool {
+    let head = pool.head;
+    Pool {
+        head,
+        party,
+        words: pool.words,
+        slots: pool.slots,
     }
 }
 
@@ -233,12 +263,16 @@ fn run_line(
     if is(line, b'l', b'e') {
         return lend(arena, table, given);
     }
+    if is(line, b'p', b'a') {
+        return of_party(pool, word(given, 0));
+    }
     let w = least(pool.words, arena.len());
     let t = least(pool.slots, table.len());
     let zero = 0;
     let a = &mut arena[zero..w];
     let head = serve_line(
         pool.head,
+        pool.party,
         line,
         a,
         &mut table[zero..t],
@@ -249,6 +283,7 @@ fn run_line(
     );
     Pool {
         head,
+        party: pool.party,
         words: w,
         slots: t,
     }
@@ -264,6 +299,7 @@ fn run(
 ) {
     let mut pool = Pool {
         head: NO_BLOCK,
+        party: 1,
         words: 0,
         slots: 0,
     };
@@ -277,10 +313,10 @@ fn run(
 }
 
 fn main() {
-    let mut text = io::large_buffer();
+    let mut text = [0u8; 131072];
     let n = io::read_full(0, &mut text);
     let mut arena = [0u32; 300000];
-    let mut table = [0u32; 800];
+    let mut table = [0u32; 1100];
     let mut given = [0u32; 256];
     let mut asked = [0u32; 4200];
     let mut answers = [0u32; 4200];

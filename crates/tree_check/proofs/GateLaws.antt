@@ -8,7 +8,7 @@ use lib.Dec.{eqb, leb}
 use lib.ListN.{length, getD}
 use Rattle.words.specs.Lists.{Words}
 use Rattle.words.proofs.Tests.{bool-iff, and-l, and-r, eqb-eq, le-of}
-use Rattle.ledger.specs.Records.{Ledger, slots, recordsOf}
+use Rattle.ledger.specs.Records.{Ledger, recordWords, slots, recordsOf}
 use Rattle.ledger.specs.Units.{valid, owned}
 use Rattle.ledger.proofs.RecordLaws.{table-records}
 use Rattle.stored_forms.specs.Tree.{Tree, link, Form, formOne, formTwo, formThree, isForm, formOf}
@@ -32,26 +32,25 @@ pub record InRange (F : Form) (m t : Words) : Type 0 where
   pub whole : length m % F .unit ≡ 0
   pub some : F .unit ≤ length m
   pub most : length m ≤ F .most
-  pub threes : length t % 3 ≡ 0
+  pub fours : length t % recordWords ≡ 0
   pub few : slots t ≤ 256
 
 module _ (h : Head) (m t : Words) where
-  -- x says that the form is known, and y that its range has the arena
-  pub lengths-are : (x y : Bool) → x ≡ isForm (h .form) → y ≡ treeRange (formOf (h .form)) (length m)
-      → ((((x && y) && eqb (length t % 3) 0) && leb 1 (slots t)) && leb (slots t) 256)
-      ≡ lengths treeEngine (treePool h m t)
+  -- x says that the form is known, y that its range has the arena, and the table has n slots
+  pub lengths-are : (x y : Bool) (n : ℕ) → x ≡ isForm (h .form) → y ≡ treeRange (formOf (h .form)) (length m) → n ≡ slots t
+      → ((((x && y) && eqb (length t % 4) 0) && leb 1 n) && leb n 256) ≡ lengths treeEngine (treePool h m t)
   unfolding lengths treeEngine
-  lengths-are x y ex ey = rw (ex, ey) (sym (and-true _))
+  lengths-are x y n ex ey en = rw (ex, ey, en) (sym (and-true _))
 
   pub in-range : lengths treeEngine (treePool h m t) ≡ true → InRange (formOf (h .form)) m t
   in-range right =
-      let e = lengths-are (isForm (h .form)) (treeRange (formOf (h .form)) (length m)) refl refl ∙ right in
+      let e = lengths-are (isForm (h .form)) (treeRange (formOf (h .form)) (length m)) (slots t) refl refl refl ∙ right in
       let range = tree-range (formOf (h .form)) (length m) (search (and-l, and-r)) in
       record {
         whole = range .2;
         some = range .0;
         most = range .1;
-        threes = eqb-eq (length t % 3) 0 (search (and-l, and-r));
+        fours = eqb-eq (length t % recordWords) 0 (search (and-l, and-r));
         few = le-of (slots t) 256 (search (and-l, and-r));
       }
 
@@ -101,7 +100,7 @@ module _ (h : Head) {m t : Words} (k : Valid (formOf (h .form)) (h .next) m t) w
       λ i l o. refl in
       let arena = stamped G (G .links) (readable (h .form)) (length m) (k .fit .whole) L (h .next) (k .good) m m refl
       refl keeps (lies .1) in
-      let table = table-records t (k .fit .threes) in
+      let table = table-records t (k .fit .fours) in
       λ i. record {
         head = record { own = sym (lies .0) i ∷ h .form ∷ []; next = h .next };
         shape = h .form;

@@ -176,11 +176,12 @@ few-cells = each-form (λ F. cellsPerUnit F ≤ 4) (omega arith) (omega arith) (
 pub cells-few : (f held q : ℕ) → held ≤ 1048576 → q ≡ cellsPerUnit (formOf f) → held * q ≤ 4194304
 cells-few f held q low e = mul-le-mul {n₂ = 1048576} {m₂ = 4} low (rw e (few-cells f))
 
--- a limit that was counted
-pub limit-is : {F : Form} {m map : Words} {N l k allowed before next free x y : ℕ} → x ≡ y
-    → Passes F m map N l (x + 1) k allowed before next free → Passes F m map N l (y + 1) k allowed before next free
-limit-is {F} {m} {map} {N} {l} {k} {allowed} {before} {next} {free} e p =
-    subst (λ n. Passes F m map N l (n + 1) k allowed before next free) e p
+-- limits that were counted
+pub limit-is : {F : Form} {m map : Words} {N l k before next free x y u v : ℕ} → x ≡ y → u ≡ v
+    → Passes F m map N l (x + 1) k (u + 1) before next free → Passes F m map N l (y + 1) k (v + 1) before next free
+limit-is {F} {m} {map} {N} {l} {k} {before} {next} {free} {x} {y} {u} {v} e d p =
+    subst (λ n. Passes F m map N l (n + 1) k (v + 1) before next free) e
+    (subst (λ j. Passes F m map N l (x + 1) k (j + 1) before next free) d p)
 
 -- an arena has no more cells than words
 pub cells-low : (F : Form) (m : Words) → Linked F m → cells F m ≤ 1048576

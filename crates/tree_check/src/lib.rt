@@ -6,6 +6,7 @@ pub mod tree_walk;
 
 use record_map::leads_to;
 use record_map::map_rows;
+use record_table::slot_count;
 use tree_nodes::forms::cell_count;
 use tree_nodes::forms::cells_per_unit;
 use tree_nodes::forms::is_form;
@@ -66,7 +67,7 @@ fn is_shown_over(
         return false;
     }
     let count = cell_count(head.form, words);
-    let allowed = table.len() / 3 + 1;
+    let allowed = slot_count(&*table) + 1;
     let mut sum: usize = 0;
     let end = walk_all(
         head.form,
@@ -166,7 +167,7 @@ fn is_shown_other(head: Head, arena: &[u32], table: &[u32]) -> bool
     requires { ⌜ Linked (formOf (head .form)) (now arena) × (slots (now table) ≤ 256) ⌝ }
     ensures { λ r. ⌜ Says r (Shown head (now (arena .entry)) (now (table .entry))) ⌝ }
 {
-    let slots = table.len() / 3;
+    let slots = slot_count(&*table);
     let count = cell_count(head.form, arena.len());
     if count <= 2048 {
         if slots <= 16 {
@@ -188,7 +189,7 @@ fn is_shown(head: Head, arena: &[u32], table: &[u32]) -> bool
     requires { ⌜ Linked (formOf (head .form)) (now arena) × (slots (now table) ≤ 256) ⌝ }
     ensures { λ r. ⌜ Says r (Shown head (now (arena .entry)) (now (table .entry))) ⌝ }
 {
-    if 16 < table.len() / 3 {
+    if 16 < slot_count(&*table) {
         return is_shown_other(head, &*arena, &*table);
     }
     let count = cell_count(head.form, arena.len());
@@ -207,8 +208,12 @@ fn is_shown(head: Head, arena: &[u32], table: &[u32]) -> bool
 pub fn right_lengths(form: u32, arena: &[u32], table: &[u32]) -> bool
     ensures { λ r. ⌜ RightLengths form (now (arena .entry)) (now (table .entry)) r ⌝ }
 {
-    let t = table.len();
-    is_form(form) & is_range(form, arena.len()) & (t % 3 == 0) & (1 <= t / 3) & (t / 3 <= 256)
+    let slots = slot_count(table);
+    is_form(form)
+        & is_range(form, arena.len())
+        & (table.len() % 4 == 0)
+        & (1 <= slots)
+        & (slots <= 256)
 }
 
 // Whether head and lent memory are the stored form of a ledger.

@@ -186,11 +186,12 @@ pub fn map_rows(
         (now (table .entry)) r (now (map .exit))) ⌝ }
     ensures { λ r. ⌜ (valid (formRule (formOf form)) words next (recordsOf (now (table .entry))) ≡ true → r ≤ words) ⌝ }
 {
+    let count = record_table::slot_count(table);
     let rule = rule_of(form);
     let per = cells_per_unit(form);
     let mut held: usize = 0;
     let mut i = 0;
-    while i < table.len() / 3 {
+    while i < count {
         let r = record_table::read_row(table, i);
         let n = record_table::enter_row(rule, words, next, table, i, r, &mut *seen, m);
         if words - held < n {

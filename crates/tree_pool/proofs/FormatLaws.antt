@@ -124,4 +124,4 @@ module _ (form : ℕ) (a t : Words) (first : ℕ) (k : Bool) (known : k ≡ tree
         stored-pool (blankPool form a t) (replicate (slots t) emptyRow) first first 1 b y (fit .whole)
         (valid-blank (formRule (formOf form)) (length a) first (slots t))
         (blank-shows form a b (slots t) (fit .some) (fit .whole) put)
-        (e ∙ zero-table t (fit .threes))
+        (e ∙ zero-table t (fit .fours))

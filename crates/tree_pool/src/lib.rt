@@ -9,20 +9,32 @@ use tree_nodes::forms::is_form;
 use tree_requests::Outcome;
 ghost use mathlib.Core.Path.{_≡_};
 ghost use mathlib.Core.List.{[], _∷_};
-ghost use Rattle.calls.specs.Step.{format, allocate, release, find, look, list, step};
+ghost use Rattle.calls.specs.Step.{format, allocate, release, find, look, list, poolNumber, step};
 ghost use Rattle.calls.specs.Engines.{treeEngine};
+ghost use Rattle.call_parts.specs.Parts.{withParty};
 ghost use Rattle.call_parts.specs.Results.{resultOf, wholeSlice, sliceOf};
 ghost use Rattle.tree_check.specs.Gate.{treePool, noHead};
 ghost use Rattle.tree_requests.specs.Outcomes.{handed, formatted};
 
+// ---- the gate
+
+// The number that stops a call of this party: the pool's own, then 12; 0 lets it pass.
+fn gate_for(head: Head, arena: &[u32], table: &[u32], party: u32) -> u32
+    ensures { λ r. ⌜ r
+        ≡ withParty (poolNumber treeEngine (treePool head (now (arena .entry)) (now (table .entry)))) party ⌝ }
+{
+    let own = tree_check::gate_number(head, &*arena, &*table);
+    call_parts::with_party(own, party)
+}
+
 // ---- find and look
 
-// Is this ticket, address and words live?
+// Is this ticket, address and words live, and this party's?
 pub fn find(head: Head, arena: &[u32], table: &[u32], named: Row) -> Answer
     ensures { λ r. ⌜ r
         ≡ step treeEngine (find named) (treePool head (now (arena .entry)) (now (table .entry))) .answer ⌝ }
 {
-    let number = tree_check::gate_number(head, &*arena, &*table);
+    let number = gate_for(head, &*arena, &*table, named.party);
     if number != 0 {
         return call_parts::refused(number);
     }
@@ -90,26 +102,26 @@ pub fn format(form: u32, arena: &mut [u32], table: &mut [u32], first: u32) -> Ou
 
 // ---- allocate and release
 
-// Words under the next ticket, at the lowest address where enough free cells lie together.
-pub fn allocate(head: Head, arena: &mut [u32], table: &mut [u32], words: u32) -> Outcome
+// Words for a party under the next ticket, at the lowest address where enough free cells lie together.
+pub fn allocate(head: Head, arena: &mut [u32], table: &mut [u32], party: u32, words: u32) -> Outcome
     ensures { λ r. ⌜ handed r (now (arena .exit)) (now (table .exit)) []
-        ≡ resultOf (step treeEngine (allocate words) (treePool head (now (arena .entry)) (now (table .entry)))) ⌝ }
+        ≡ resultOf (step treeEngine (allocate party words) (treePool head (now (arena .entry)) (now (table .entry)))) ⌝ }
 {
-    let number = tree_check::gate_number(head, &*arena, &*table);
+    let number = gate_for(head, &*arena, &*table, party);
     if number != 0 {
         return tree_requests::refused_with(head, number);
     }
-    let done = tree_requests::grant(head, arena, table, words);
+    let done = tree_requests::grant(head, arena, table, party, words);
     tree_requests::outcome_of_grant(head, words, done)
 }
 
-// Frees exactly the block whose live ticket, address and words are named; free blocks that it touches become one with
-// it.
+// Frees exactly the block whose live ticket, address and words are named by its own party; free blocks that it touches
+// become one with it.
 pub fn release(head: Head, arena: &mut [u32], table: &mut [u32], named: Row) -> Outcome
     ensures { λ r. ⌜ handed r (now (arena .exit)) (now (table .exit)) []
         ≡ resultOf (step treeEngine (release named) (treePool head (now (arena .entry)) (now (table .entry)))) ⌝ }
 {
-    let number = tree_check::gate_number(head, &*arena, &*table);
+    let number = gate_for(head, &*arena, &*table, named.party);
     if number != 0 {
         return tree_requests::refused_with(head, number);
     }
@@ -119,17 +131,18 @@ pub fn release(head: Head, arena: &mut [u32], table: &mut [u32], named: Row) -> 
 
 // ---- list
 
-// The requests of a list, one after another on a pool that is checked once. A refused request gets its answer and the
-// rest go on; answer words beyond the list stay.
+// The requests of a party's list, one after another on a pool that is checked once. A refused request gets its answer
+// and the rest go on; answer words beyond the list stay.
 pub fn list(
     head: Head,
     arena: &mut [u32],
     table: &mut [u32],
+    party: u32,
     asked: &[u32],
     answers: &mut [u32],
 ) -> Outcome
     ensures { λ r. ⌜ handed r (now (arena .exit)) (now (table .exit)) (now (answers .exit) ∷ [])
-        ≡ resultOf (step treeEngine (list (now (asked .entry)) (now (answers .entry))) (treePool head
+        ≡ resultOf (step treeEngine (list party (now (asked .entry)) (now (answers .entry))) (treePool head
         (now (arena .entry)) (now (table .entry)))) ⌝ }
 {
     if !is_form(head.form) {
@@ -138,11 +151,11 @@ pub fn list(
     if !call_parts::list_suits(asked, answers) {
         return tree_requests::refused_with(head, 8);
     }
-    let number = tree_check::gate_number(head, &*arena, &*table);
+    let number = gate_for(head, &*arena, &*table, party);
     if number != 0 {
         return tree_requests::refused_with(head, number);
     }
-    let after = tree_requests::serve_all(head, arena, table, asked, answers);
+    let after = tree_requests::serve_all(head, arena, table, party, asked, answers);
     Outcome {
         head: after,
         answer: call_parts::succeeded(call_parts::EMPTY_ROW),

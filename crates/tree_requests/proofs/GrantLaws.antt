@@ -142,25 +142,25 @@ module _ (h : Head) (a t : Words) (ok : sound treeEngine (treePool h a t) ≡ tr
 
   -- ---- the grant
 
-  module _ (n root′ : ℕ) (b u : Words) (r : Run) (asked : Asked treeEngine (treePool h a t) n (r .start))
+  module _ (c n root′ : ℕ) (b u : Words) (r : Run) (asked : Asked treeEngine (treePool h a t) c n (r .start))
       (listed : FirstRun (longEnough (span ρ n)) rs r)
       (taken : TakenFrom F a b (cellSpan F n) root′ (map (cellRun F) (listed .before)) (cellRun F r)
       (map (cellRun F) (listed .after))) where
     abbrev new : Row
-    new = row (h .next) (addressAt ρ (r .start)) n
+    new = row (h .next) (addressAt ρ (r .start)) n c
 
     abbrev ground : Words
-    ground = zeroed treeEngine p n (r .start)
+    ground = zeroed treeEngine p c n (r .start)
 
     next-some : h .next ≢ 0
     next-some = eqb-false (h .next) 0 (asked .ticket)
 
     good : valid ρ (length a) (nextAfter (h .next)) (enter new L) ≡ true
     unfolding treeEngine
-    good = grant-valid treeEngine tree-laws p ok n (r .start) asked
+    good = grant-valid treeEngine tree-laws p ok c n (r .start) asked
 
     long : length ground ≡ length a
-    long = length-zeroed treeEngine p n (r .start)
+    long = length-zeroed treeEngine p c n (r .start)
 
     cells-before : freeCells F (length a) L
         ≡ map (cellRun F) (listed .before) ++ cellRun F r ∷ map (cellRun F) (listed .after)
@@ -170,7 +170,7 @@ module _ (h : Head) (a t : Words) (ok : sound treeEngine (treePool h a t) ≡ tr
         ≡ map (cellRun F) (listed .before) ++ shorten (cellSpan F n) (cellRun F r) (map (cellRun F) (listed .after))
     cells-now =
         ap (map (cellRun F))
-        (freeRuns-enter ρ (form-unit (h .form)) (length a) L (asked .slot) (h .next) n next-some (listed .before) r
+        (freeRuns-enter ρ (form-unit (h .form)) (length a) L (asked .slot) (h .next) n c next-some (listed .before) r
         (listed .after) (listed .split) (le-of (span ρ n) (r .size) (listed .passes)))
         ∙ shorten-scaled per pos (listed .before) (span ρ n) r (listed .after)
 
@@ -181,7 +181,7 @@ module _ (h : Head) (a t : Words) (ok : sound treeEngine (treePool h a t) ≡ tr
         let (low, high) = within-of (new .address) (F .unit * past ρ new) i
         (and-r (isLive new) (within (new .address) (F .unit * past ρ new) i) o) in
         let end : F .unit * past ρ new ≡ F .cell * (r .start * per + cellSpan F n) =
-        ap (λ x. F .unit * x) (past-new ρ (form-unit (h .form)) (h .next) (r .start) n)
+        ap (λ x. F .unit * x) (past-new ρ (form-unit (h .form)) (h .next) (r .start) n c)
         ∙ sym (cell-words (h .form) (r .start + span ρ n))
         ∙ ap (λ x. F .cell * x) (add-mul (r .start) (span ρ n) per) in
         (omega (arith, low, cell-address (h .form) (r .start)), omega (arith, high, end))
@@ -189,8 +189,8 @@ module _ (h : Head) (a t : Words) (ok : sound treeEngine (treePool h a t) ≡ tr
     zero-there : (i : ℕ) → i < length a → owns ρ i new ≡ true → getD ground i 0 ≡ 0
     unfolding owns zeroed treeEngine
     zero-there i l o =
-        let lo = start treeEngine p n (r .start) in
-        let hi = end treeEngine p n (r .start) in
+        let lo = start treeEngine p c n (r .start) in
+        let hi = end treeEngine p c n (r .start) in
         let (x, y) = within-of lo hi i (and-r (isLive new) (within lo hi i) o) in
         wiped-in 0 lo hi a i 0 x y l
 
@@ -210,7 +210,7 @@ module _ (h : Head) (a t : Words) (ok : sound treeEngine (treePool h a t) ≡ tr
             (ap (λ (rs : List Run). covered rs (i / F .cell)) (sym cells-now)
             ∙ held-word (h .form) (length a) (sound-range h a t ok .whole) (enter new L)
             (nextAfter (h .next)) good i inside o)
-            ∙ sym (zeroed-keeps treeEngine tree-laws p ok n (r .start) asked i x)
+            ∙ sym (zeroed-keeps treeEngine tree-laws p ok c n (r .start) asked i x)
         go false x y =
             let (lo, hi) = in-new i (rw x at y) in
             taken .zeros i lo hi ∙ sym (zero-there i inside (rw x at y))
@@ -229,14 +229,14 @@ module _ (h : Head) (a t : Words) (ok : sound treeEngine (treePool h a t) ≡ tr
           root = ap link e ∙ tree .at;
         }
 
-    pub grant-pool : u ≡ tableOf (enter (row (h .next) (addressAt (formRule (formOf (h .form))) (r .start)) n) (recordsOf t))
+    pub grant-pool : u ≡ tableOf (enter (row (h .next) (addressAt (formRule (formOf (h .form))) (r .start)) n c) (recordsOf t))
         → treePool (record { root = root′; next = nextAfter (h .next); form = h .form }) b u
-        ≡ poolAfter treeEngine (treePool h a t) (ask n)
+        ≡ poolAfter treeEngine (treePool h a t) (ask c n)
     grant-pool e =
         stored-pool (over p ground) (enter new L) (nextAfter (h .next)) (nextAfter (h .next)) root′ b u
         (ap (λ (m : ℕ). m % F .unit) long ∙ sound-range h a t ok .whole)
         (subst (λ (m : ℕ). valid ρ m (nextAfter (h .next)) (enter new L) ≡ true) (sym long) good) shows e
-        ∙ unfold treeEngine in sym (ask-done treeEngine p n (r .start) asked .1 ∙ grant-store treeEngine p n (r .start))
+        ∙ unfold treeEngine in sym (ask-done treeEngine p c n (r .start) asked .1 ∙ grant-store treeEngine p c n (r .start))
 
 -- ---- the code's way
 
@@ -245,7 +245,7 @@ some-units f n size =
     span-pos (formRule (formOf f)) (form-unit f) n
     (let z = eqb-false n 0 (or-l (eqb n 0) (ltb (formOf f .limit) n) size) in omega arith)
 
-module _ (h : Head) (a t : Words) (n slot block father : ℕ) (f : Grantable h a t n slot block father) where
+module _ (h : Head) (a t : Words) (c n slot block father : ℕ) (f : Grantable h a t c n slot block father) where
   abbrev lent : Pool
   lent = treePool h a t
 
@@ -274,9 +274,10 @@ module _ (h : Head) (a t : Words) (n slot block father : ℕ) (f : Grantable h a
   abbrev ys : List Run
   ys = map (cellRun G) (fits .3 .after)
 
-  asked : Asked treeEngine lent n (found .start)
+  asked : Asked treeEngine lent c n (found .start)
   unfolding treeEngine
   asked = record {
+    party = f .party;
     size = f .size;
     slot = empty-found t slot (f .empty) .1;
     ticket = eqb-ne (h .next) 0 (f .ticket);
@@ -306,12 +307,12 @@ module _ (h : Head) (a t : Words) (n slot block father : ℕ) (f : Grantable h a
   address : addressAt (formRule G) (found .start) ≡ G .cell * cell
   address = cell-address (h .form) (found .start) ∙ ap (λ x. G .cell * x) (fits .2)
 
-  pub place-answer : success (row (h .next) (formOf (h .form) .cell * (block - 1)) n)
-      ≡ answerTo treeEngine (treePool h a t) (ask n)
+  pub place-answer : success (row (h .next) (formOf (h .form) .cell * (block - 1)) n c)
+      ≡ answerTo treeEngine (treePool h a t) (ask c n)
   unfolding treeEngine
   place-answer =
-      ap (λ (x : ℕ). success (row (h .next) x n)) (sym address)
-      ∙ sym (ask-done treeEngine lent n (found .start) asked .0)
+      ap (λ (x : ℕ). success (row (h .next) x n c)) (sym address)
+      ∙ sym (ask-done treeEngine lent c n (found .start) asked .0)
 
   module _ (b u : Words) (root′ : ℕ) (taken : Taken G a b (h .root) block father (cellSpan G n) root′) where
     done : TakenFrom G a b (cellSpan G n) root′ xs (cellRun G found) ys
@@ -329,13 +330,13 @@ module _ (h : Head) (a t : Words) (n slot block father : ℕ) (f : Grantable h a
           few-links (h .form),
         )
 
-    pub place-pool : u ≡ tableOf (set (recordsOf t) slot (row (h .next) (formOf (h .form) .cell * (block - 1)) n))
+    pub place-pool : u ≡ tableOf (set (recordsOf t) slot (row (h .next) (formOf (h .form) .cell * (block - 1)) n c))
         → treePool (record { root = root′; next = nextAfter (h .next); form = h .form }) b u
-        ≡ poolAfter treeEngine (treePool h a t) (ask n)
+        ≡ poolAfter treeEngine (treePool h a t) (ask c n)
     place-pool e =
-        let new = row (h .next) (addressAt (formRule G) (found .start)) n in
-        grant-pool h a t (f .ok) n root′ b u found asked (fits .3) done
-        (e ∙ ap (λ (x : ℕ). tableOf (set (recordsOf t) slot (row (h .next) x n))) (sym address)
+        let new = row (h .next) (addressAt (formRule G) (found .start)) n c in
+        grant-pool h a t (f .ok) c n root′ b u found asked (fits .3) done
+        (e ∙ ap (λ (x : ℕ). tableOf (set (recordsOf t) slot (row (h .next) x n c))) (sym address)
         ∙ ap tableOf (sym (empty-found t slot (f .empty) .2 new)))
 
   pub place-range : InRange (formOf (h .form)) a t

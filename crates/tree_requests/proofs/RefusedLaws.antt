@@ -8,7 +8,7 @@ use native.Mathlib.Omega.{arith}
 use lib.Dec.{eqb}
 use Rattle.words.specs.Lists.{Words}
 use Rattle.ledger.specs.declared.Row.{Row}
-use Rattle.ledger.specs.Records.{Ledger, row, recordOf, sameBlock}
+use Rattle.ledger.specs.Records.{Ledger, recordOf, sameBlock}
 use Rattle.calls.specs.Pool.{Pool, nextAfter, ledger}
 use Rattle.calls.specs.Step.{Act, ask, give, success, named}
 use Rattle.calls.specs.Engines.{treeEngine}
@@ -29,13 +29,15 @@ named-few : (L : Ledger) (r : Row) → named L r < 16
 unfolding named
 named-few L r = go (recordOf (r .ticket) L)
   where
-    wrong : (b : Bool) → cond {A = ℕ} b 0 7 < 16
-    wrong true = omega arith
-    wrong false = omega arith
+    wrong : (a b : Bool) → cond {A = ℕ} a (cond b 0 7) 6 < 16
+    wrong true true = omega arith
+    wrong true false = omega arith
+    wrong false b = omega arith
 
-    go : (o : Option Row) → elim o [ none ↦ 6 | some s ↦ cond (sameBlock s r) 0 7 ] < 16
+    go : (o : Option Row)
+        → elim o [ none ↦ 6 | some s ↦ cond (eqb (s .party) (r .party)) (cond (sameBlock s r) 0 7) 6 ] < 16
     go none = omega arith
-    go (some s) = wrong (sameBlock s r)
+    go (some s) = wrong (eqb (s .party) (r .party)) (sameBlock s r)
 
 pub refused-few : (p : Pool) (r : Row) (n : ℕ) → namedIn (p .table) r ≡ Refused n → n < 16
 refused-few p r n e = subst (λ (x : ℕ). x < 16) (refused-number p r n e) (named-few (ledger p) r)
@@ -46,7 +48,7 @@ module _ (h : Head) (e root : ℕ) (number : effectNumber e ≡ 0) (rooted : eff
       → grantOutcome h n e
       ≡ record {
         head = record { root = root; next = nextAfter (h .next); form = h .form };
-        answer = success (row (h .next) address n);
+        answer = record { number = 0; ticket = h .next; address = address; words = n };
       }
   granted n address at = rw (number, rooted, at)
 
@@ -65,9 +67,9 @@ module _ (h : Head) (a t : Words) where
     refuses : eqb (effectNumber e) 0 ≡ false
     refuses = ap (λ (k : ℕ). eqb k 0) is ∙ some
 
-    pub grant-refused : (n : ℕ) → RefusedBy treeEngine (treePool h a t) (ask n) x
-        → handed (grantOutcome h n e) a t [] ≡ acted treeEngine (ask n) (treePool h a t)
-    grant-refused n = refused-acted (ask n) (grantOutcome h n e) x (rw refuses (ap (refusedWith h) is))
+    pub grant-refused : (c n : ℕ) → RefusedBy treeEngine (treePool h a t) (ask c n) x
+        → handed (grantOutcome h n e) a t [] ≡ acted treeEngine (ask c n) (treePool h a t)
+    grant-refused c n = refused-acted (ask c n) (grantOutcome h n e) x (rw refuses (ap (refusedWith h) is))
 
     pub release-refused : (r : Row) → RefusedBy treeEngine (treePool h a t) (give r) x
         → handed (releaseOutcome h r e) a t [] ≡ acted treeEngine (give r) (treePool h a t)

@@ -46,7 +46,7 @@ grantOutcome h n e =
     cond (eqb (effectNumber e) 0)
     (record {
       head = record { root = effectRoot e; next = nextAfter (h .next); form = h .form };
-      answer = success (record { ticket = h .next; address = effectAddress e; words = n });
+      answer = record { number = 0; ticket = h .next; address = effectAddress e; words = n };
     })
     (refusedWith h (effectNumber e))
 

@@ -16,7 +16,8 @@ ghost use Prim.Native.Nat.{_+_, _*_, _%_, _<_, _≤_};
 ghost use lib.ListN.{length};
 ghost use mathlib.Core.Bool.{true};
 ghost use Rattle.calls.specs.Pool.{sound};
-ghost use Rattle.calls.specs.Step.{ask, give, answerTo, poolAfter};
+ghost use Rattle.ledger.specs.Records.{isParty};
+ghost use Rattle.calls.specs.Step.{ask, give, answerTo, poolAfter, partied};
 ghost use Rattle.calls.specs.Engines.{treeEngine};
 ghost use Rattle.call_parts.specs.Parts.{namedIn, actOf, requestAt, withAnswer};
 ghost use Rattle.call_parts.specs.Results.{acted, ran};
@@ -65,19 +66,21 @@ fn effect(root: usize, address: u32) -> u64
 
 // ---- allocate
 
-// Takes the first cells of the block that was found, under the next ticket. The block's father was found with it.
+// Takes the first cells of the block that was found for the party, under the next ticket. The block's father was found
+// with it.
 fn place(
     head: Head,
     arena: &mut [u32],
     table: &mut [u32],
+    party: u32,
     words: u32,
     slot: usize,
     block: usize,
     father: usize,
 ) -> u64
-    requires { ⌜ Grantable head (now arena) (now table) words slot block father ⌝ }
+    requires { ⌜ Grantable head (now arena) (now table) party words slot block father ⌝ }
     ensures { λ r. ⌜ handed (grantOutcome head words r) (now (arena .exit)) (now (table .exit)) []
-        ≡ acted treeEngine (ask words) (treePool head (now (arena .entry)) (now (table .entry))) ⌝ }
+        ≡ acted treeEngine (ask party words) (treePool head (now (arena .entry)) (now (table .entry))) ⌝ }
 {
     let form = head.form;
     let cells = cells_of(form, words);
@@ -87,16 +90,17 @@ fn place(
         ticket: head.next,
         address,
         words,
+        party,
     };
     record_table::write_row(table, slot, new);
     effect(root, address)
 }
 
-// An allocation on a sound pool: the tests in the order of their numbers, then the leftmost fit.
-pub fn grant(head: Head, arena: &mut [u32], table: &mut [u32], words: u32) -> u64
-    requires { ⌜ sound treeEngine (treePool head (now arena) (now table)) ≡ true ⌝ }
+// A party's allocation on a sound pool: the tests in the order of their numbers, then the leftmost fit.
+pub fn grant(head: Head, arena: &mut [u32], table: &mut [u32], party: u32, words: u32) -> u64
+    requires { ⌜ (sound treeEngine (treePool head (now arena) (now table)) ≡ true) × (isParty party ≡ true) ⌝ }
     ensures { λ r. ⌜ handed (grantOutcome head words r) (now (arena .exit)) (now (table .exit)) []
-        ≡ acted treeEngine (ask words) (treePool head (now (arena .entry)) (now (table .entry))) ⌝ }
+        ≡ acted treeEngine (ask party words) (treePool head (now (arena .entry)) (now (table .entry))) ⌝ }
 {
     let form = head.form;
     if (words == 0) | (sizes::limit_of(form) < words) {
@@ -116,7 +120,7 @@ pub fn grant(head: Head, arena: &mut [u32], table: &mut [u32], words: u32) -> u6
     if block == 0 {
         return no_effect(5);
     }
-    place(head, arena, table, words, slot, block, father)
+    place(head, arena, table, party, words, slot, block, father)
 }
 
 // The outcome of an allocation with this effect.
@@ -127,18 +131,18 @@ pub fn outcome_of_grant(head: Head, words: u32, done: u64) -> Outcome
     if number != 0 {
         return refused_with(head, number);
     }
-    let new = Row {
-        ticket: head.next,
-        address: (done / 68719476736) as u32,
-        words,
-    };
     Outcome {
         head: Head {
             root: (done / 16 % 4294967296) as u32,
             next: call_parts::next_after(head.next),
             form: head.form,
         },
-        answer: call_parts::succeeded(new),
+        answer: Answer {
+            number: 0,
+            ticket: head.next,
+            address: (done / 68719476736) as u32,
+            words,
+        },
     }
 }
 
@@ -192,15 +196,15 @@ pub fn outcome_of_release(head: Head, named: Row, done: u64) -> Outcome
 
 // ---- requests
 
-// One request on a sound pool.
+// One request on a sound pool, of a party.
 pub fn serve(head: Head, arena: &mut [u32], table: &mut [u32], request: Request) -> Outcome
-    requires { ⌜ sound treeEngine (treePool head (now arena) (now table)) ≡ true ⌝ }
+    requires { ⌜ (sound treeEngine (treePool head (now arena) (now table)) ≡ true) × (partied (actOf request) ≡ true) ⌝ }
     ensures { λ r. ⌜ handed r (now (arena .exit)) (now (table .exit)) []
         ≡ acted treeEngine (actOf request) (treePool head (now (arena .entry)) (now (table .entry))) ⌝ }
 {
     match request {
-        Request::Ask(words) => {
-            let done = grant(head, arena, table, words);
+        Request::Ask(party, words) => {
+            let done = grant(head, arena, table, party, words);
             outcome_of_grant(head, words, done)
         }
         Request::Give(named) => {
@@ -211,47 +215,49 @@ pub fn serve(head: Head, arena: &mut [u32], table: &mut [u32], request: Request)
     }
 }
 
-// Request i, with its answer written: the head after it.
+// Request i of a party's list, with its answer written: the head after it.
 fn serve_at(
     head: Head,
     arena: &mut [u32],
     table: &mut [u32],
+    party: u32,
     asked: &[u32],
     answers: &mut [u32],
     i: usize,
 ) -> Head
-    requires { ⌜ sound treeEngine (treePool head (now arena) (now table)) ≡ true ⌝ }
+    requires { ⌜ (sound treeEngine (treePool head (now arena) (now table)) ≡ true) × (isParty party ≡ true) ⌝ }
     requires { ⌜ (4 * i + 3 < length (now asked)) × (4 * i + 3 < length (now answers)) ⌝ }
     ensures { λ r. ⌜ treePool r (now (arena .exit)) (now (table .exit))
         ≡ poolAfter treeEngine (treePool head (now (arena .entry)) (now (table .entry)))
-        (requestAt (now (asked .entry)) i) ⌝ }
+        (requestAt party (now (asked .entry)) i) ⌝ }
     ensures { λ _. ⌜ now (answers .exit)
         ≡ withAnswer (now (answers .entry)) i (answerTo treeEngine (treePool head
-        (now (arena .entry)) (now (table .entry))) (requestAt (now (asked .entry)) i)) ⌝ }
+        (now (arena .entry)) (now (table .entry))) (requestAt party (now (asked .entry)) i)) ⌝ }
 {
-    let request = call_parts::request_at(asked, i);
+    let request = call_parts::request_at(asked, party, i);
     let done = serve(head, arena, table, request);
     call_parts::put_answer(answers, i, done.answer);
     done.head
 }
 
-// All requests on a sound pool, one after another: the head after them.
+// All requests of a party's list on a sound pool, one after another: the head after them.
 pub fn serve_all(
     head: Head,
     arena: &mut [u32],
     table: &mut [u32],
+    party: u32,
     asked: &[u32],
     answers: &mut [u32],
 ) -> Head
-    requires { ⌜ sound treeEngine (treePool head (now arena) (now table)) ≡ true ⌝ }
+    requires { ⌜ (sound treeEngine (treePool head (now arena) (now table)) ≡ true) × (isParty party ≡ true) ⌝ }
     requires { ⌜ (length (now asked) % 4 ≡ 0) × (length (now asked) ≤ length (now answers)) ⌝ }
     ensures { λ r. ⌜ (treePool r (now (arena .exit)) (now (table .exit)), now (answers .exit))
-        ≡ ran treeEngine (now (asked .entry)) (now (answers .entry)) (treePool head (now (arena .entry)) (now (table .entry))) ⌝ }
+        ≡ ran treeEngine party (now (asked .entry)) (now (answers .entry)) (treePool head (now (arena .entry)) (now (table .entry))) ⌝ }
 {
     let mut after = head;
     let mut i = 0;
     while i < asked.len() / 4 {
-        after = serve_at(after, arena, table, asked, answers, i);
+        after = serve_at(after, arena, table, party, asked, answers, i);
         i += 1;
     }
     after

@@ -1,7 +1,7 @@
 // Random traffic on the tree pool, held to a plain ledger of cells of two words, or of four in form 2. In form 3 requests
 // take them by fours.
 // Each holder writes its ticket into all words of its cells, and they are read again before its release. A round ends
-// with the release of all; the memory must then be as a format leaves it.
+// with the release of all; the memory must then be as a format leaves it. Several parties share the pool.
 use calls::Answer;
 use ledger::Row;
 use testing::Tally;
@@ -137,12 +137,29 @@ fn past_cell(form: u32, held: Answer) -> usize {
     std::num::wrapping_add_usize(first_cell(form, held), cells_of(form, held.words))
 }
 
-// What an allocation has to answer.
-fn plan(form: u32, book: &[u32], map: &[u32], slots: usize, next: u32, words: u32) -> Answer {
+// What a party's allocation has to answer.
+fn plan(
+    form: u32,
+    book: &[u32],
+    map: &[u32],
+    slots: usize,
+    next: u32,
+    party: u32,
+    words: u32,
+) -> Answer {
     let start = first_run(map, cells_of(form, words));
     let address = word_of(form, start);
     let limit = limit_of(form);
-    testing::plan(book, slots, next, limit, words, start < map.len(), address)
+    testing::plan(
+        book,
+        slots,
+        next,
+        limit,
+        party,
+        words,
+        start < map.len(),
+        address,
+    )
 }
 
 // The record with the address of the next cell, and with a word less.
@@ -151,6 +168,7 @@ fn near(form: u32, row: Row) -> Row {
         ticket: row.ticket,
         address: std::num::wrapping_add_u32(row.address, word_of(form, 1)),
         words: std::num::wrapping_sub_u32(row.words, 1),
+        party: row.party,
     }
 }
 
@@ -178,6 +196,29 @@ fn hold(form: u32, granted: Answer, arena: &mut [u32]) -> bool {
     clear
 }
 
+// A party's grant in book and map, and held: whether its words were zero.
+fn booked(
+    form: u32,
+    granted: Answer,
+    party: u32,
+    arena: &mut [u32],
+    book: &mut [u32],
+    map: &mut [u32],
+    slots: usize,
+) -> bool {
+    let from = first_cell(form, granted);
+    book_grant(
+        granted,
+        party,
+        book,
+        map,
+        slots,
+        from,
+        past_cell(form, granted),
+    );
+    hold(form, granted, arena)
+}
+
 fn try_allocate(
     round: Round,
     arena: &mut [u32],
@@ -185,17 +226,16 @@ fn try_allocate(
     book: &mut [u32],
     map: &mut [u32],
     slots: usize,
+    party: u32,
     words: u32,
 ) -> Round {
     let tally = round.tally;
     let head = round.head;
     let form = head.form;
-    let due = plan(form, book, map, slots, tally.next, words);
-    let outcome = tree_pool::allocate(head, arena, table, words);
+    let due = plan(form, book, map, slots, tally.next, party, words);
+    let outcome = tree_pool::allocate(head, arena, table, party, words);
     let agrees = same(due, outcome.answer);
-    let from = first_cell(form, due);
-    book_grant(due, book, map, slots, from, past_cell(form, due));
-    let clear = hold(form, due, arena);
+    let clear = booked(form, due, party, arena, book, map, slots);
     let next = next_after(tally.next, due);
     counted(round, outcome.head, next, outcome.answer, agrees & clear)
 }
@@ -274,7 +314,7 @@ fn turn(
         tally: testing::reseeded(tally, draw.seed),
     };
     if draw.kind < 6 {
-        return try_allocate(on, arena, table, book, map, slots, draw.words);
+        return try_allocate(on, arena, table, book, map, slots, draw.party, draw.words);
     }
     let row = entry(book, draw.slot);
     let named = chosen(row, near(head.form, row), draw, tally.next);
@@ -346,7 +386,7 @@ fn report(round: Round, arena: &[u32], table: &[u32]) {
     print(b"form ");
     print_count(head.form as u64, b", ");
     print_count(arena.len() as u64, b" words, ");
-    print_count(table.len() as u64 / 3, b" records: ");
+    print_count(table.len() as u64 / 4, b" records: ");
     testing::report(round.tally, is_fresh(head, arena, table));
 }
 
@@ -369,7 +409,7 @@ fn played(
     map: &mut [u32],
     count: usize,
 ) {
-    let slots = table.len() / 3;
+    let slots = table.len() / 4;
     let busy = turns(start, arena, table, book, map, slots, count);
     let done = release_all(busy, arena, table, book, map, slots);
     report(done, arena, table);
@@ -384,7 +424,7 @@ fn play(arena: &mut [u32], table: &mut [u32], book: &mut [u32], map: &mut [u32],
 // A round on the first words of arena and table.
 fn play_on(arena: &mut [u32], table: &mut [u32], book: &mut [u32], map: &mut [u32], size: Size) {
     let w = least(size.words, arena.len());
-    let t = least(size.records % 257 * 3, table.len());
+    let t = least(size.records % 257 * 4, table.len());
     let m = least(cell_count(size.form, size.words), map.len());
     let zero = 0;
     let lent = &mut arena[zero..w];
@@ -400,9 +440,9 @@ fn run(arena: &mut [u32], table: &mut [u32], book: &mut [u32], map: &mut [u32]) 
 }
 
 fn main() {
-    let mut book = [0u32; 768];
+    let mut book = [0u32; 1024];
     let mut map = [0u32; 75000];
     let mut arena = [0u32; 300000];
-    let mut table = [0u32; 768];
+    let mut table = [0u32; 1024];
     run(&mut arena, &mut table, &mut book, &mut map);
 }

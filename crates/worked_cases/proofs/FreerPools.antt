@@ -28,11 +28,11 @@ all-free E p q ok slot ticket form size units = record {
   units = λ u l h. units u;
 }
 
-pub tree-freer : Freer treeEngine treeHeld treeFree × (accepted (step treeEngine (allocate 4) treeHeld .answer) ≡ true)
+pub tree-freer : Freer treeEngine treeHeld treeFree × (accepted (step treeEngine (allocate 1 4) treeHeld .answer) ≡ true)
 unfolding treeMachine
 tree-freer = (all-free treeEngine treeHeld treeFree refl refl refl refl refl (λ u. refl), refl)
 
 pub segment-freer : Freer segmentEngine segmentHeld segmentFree
-    × (accepted (step segmentEngine (allocate 11) segmentHeld .answer) ≡ true)
+    × (accepted (step segmentEngine (allocate 1 11) segmentHeld .answer) ≡ true)
 unfolding segmentMachine
 segment-freer = (all-free segmentEngine segmentHeld segmentFree refl refl refl refl refl (λ u. refl), refl)

@@ -4,3 +4,4 @@ pub mod FormThree
 pub mod FreerPools
 pub mod Sequences
 pub mod Restarts
+pub mod SharedPool

@@ -1,5 +1,5 @@
 -- The bench sheet of document 01: the calls of T1 to T14, and every answer, head, arena, table and index along the
--- way. Between T13 and T14 stands the sheet's A 12, which is refused. The first ticket is 1. Assumes nothing.
+-- way. Between T13 and T14 stands the sheet's A 12, which is refused. The first ticket is 1, and the party. Assumes nothing.
 use Prim.Native.Nat.{ℕ}
 use mathlib.Core.List.{List, [], _∷_}
 use lib.ListN.{replicate}
@@ -35,7 +35,7 @@ trace E p (c ∷ cs) = let o = step E c p in stateOf o ∷ trace E (o .pool) cs
 -- the places that allocations report, each on the pool that the one before left (02, ticket 5)
 abbrev pub placesReported : Pool → List ℕ → List ℕ
 placesReported p [] = []
-placesReported p (n ∷ ns) = placesOf p n ∷ placesReported (step segmentEngine (allocate n) p .pool) ns
+placesReported p (n ∷ ns) = placesOf p 1 n ∷ placesReported (step segmentEngine (allocate 1 n) p .pool) ns
 
 -- memory before the format, with any contents: 24 words of form 1, or 16 and S 4; 4 records
 abbrev pub treeMemory : Pool
@@ -43,7 +43,7 @@ treeMemory = record {
   head = record { own = 0 ∷ 1 ∷ []; next = 0 };
   shape = 1;
   arena = replicate 24 7;
-  table = replicate 12 9;
+  table = replicate 16 9;
   index = [];
 }
 
@@ -52,70 +52,70 @@ segmentMemory = record {
   head = record { own = []; next = 0 };
   shape = 4;
   arena = replicate 16 7;
-  table = replicate 12 9;
+  table = replicate 16 9;
   index = replicate 12 5;
 }
 
 -- T1 to T11, and T12 to T14
 abbrev pub treeCalls : List (Call Words)
 treeCalls =
-    format 1 ∷ allocate 5 ∷ allocate 4 ∷ allocate 6 ∷ release (row 1 0 5) ∷ release (row 1 0 5) ∷ allocate 7
-    ∷ release (row 3 10 6) ∷ allocate 8 ∷ release (row 2 6 5) ∷ release (row 2 6 4) ∷ []
+    format 1 ∷ allocate 1 5 ∷ allocate 1 4 ∷ allocate 1 6 ∷ release (row 1 0 5 1) ∷ release (row 1 0 5 1) ∷ allocate 1 7
+    ∷ release (row 3 10 6 1) ∷ allocate 1 8 ∷ release (row 2 6 5 1) ∷ release (row 2 6 4 1) ∷ []
 
 abbrev pub segmentCalls : List (Call Words)
-segmentCalls = format 1 ∷ allocate 3 ∷ allocate 12 ∷ allocate 11 ∷ []
+segmentCalls = format 1 ∷ allocate 1 3 ∷ allocate 1 12 ∷ allocate 1 11 ∷ []
 
 abbrev pub treeStates : List State
 treeStates =
     (state (zeroAnswer) (1 ∷ 1 ∷ []) 1
     (12 ∷ 0 ∷ 0 ∷ 0 ∷ 0 ∷ 0 ∷ 0 ∷ 0 ∷ 0 ∷ 0 ∷ 0 ∷ 0 ∷ 0 ∷ 0 ∷ 0 ∷ 0 ∷ 0 ∷ 0 ∷ 0 ∷ 0 ∷ 0 ∷ 0 ∷ 0 ∷ 0 ∷ [])
-    (0 ∷ 0 ∷ 0 ∷ 0 ∷ 0 ∷ 0 ∷ 0 ∷ 0 ∷ 0 ∷ 0 ∷ 0 ∷ 0 ∷ []) ([])) ∷
-    (state (success (row 1 0 5)) (4 ∷ 1 ∷ []) 2
+    (0 ∷ 0 ∷ 0 ∷ 0 ∷ 0 ∷ 0 ∷ 0 ∷ 0 ∷ 0 ∷ 0 ∷ 0 ∷ 0 ∷ 0 ∷ 0 ∷ 0 ∷ 0 ∷ []) ([])) ∷
+    (state (success (row 1 0 5 1)) (4 ∷ 1 ∷ []) 2
     (0 ∷ 0 ∷ 0 ∷ 0 ∷ 0 ∷ 0 ∷ 9 ∷ 0 ∷ 0 ∷ 0 ∷ 0 ∷ 0 ∷ 0 ∷ 0 ∷ 0 ∷ 0 ∷ 0 ∷ 0 ∷ 0 ∷ 0 ∷ 0 ∷ 0 ∷ 0 ∷ 0 ∷ [])
-    (1 ∷ 0 ∷ 5 ∷ 0 ∷ 0 ∷ 0 ∷ 0 ∷ 0 ∷ 0 ∷ 0 ∷ 0 ∷ 0 ∷ []) ([])) ∷
-    (state (success (row 2 6 4)) (6 ∷ 1 ∷ []) 3
+    (1 ∷ 0 ∷ 5 ∷ 1 ∷ 0 ∷ 0 ∷ 0 ∷ 0 ∷ 0 ∷ 0 ∷ 0 ∷ 0 ∷ 0 ∷ 0 ∷ 0 ∷ 0 ∷ []) ([])) ∷
+    (state (success (row 2 6 4 1)) (6 ∷ 1 ∷ []) 3
     (0 ∷ 0 ∷ 0 ∷ 0 ∷ 0 ∷ 0 ∷ 0 ∷ 0 ∷ 0 ∷ 0 ∷ 7 ∷ 0 ∷ 0 ∷ 0 ∷ 0 ∷ 0 ∷ 0 ∷ 0 ∷ 0 ∷ 0 ∷ 0 ∷ 0 ∷ 0 ∷ 0 ∷ [])
-    (1 ∷ 0 ∷ 5 ∷ 2 ∷ 6 ∷ 4 ∷ 0 ∷ 0 ∷ 0 ∷ 0 ∷ 0 ∷ 0 ∷ []) ([])) ∷
-    (state (success (row 3 10 6)) (9 ∷ 1 ∷ []) 4
+    (1 ∷ 0 ∷ 5 ∷ 1 ∷ 2 ∷ 6 ∷ 4 ∷ 1 ∷ 0 ∷ 0 ∷ 0 ∷ 0 ∷ 0 ∷ 0 ∷ 0 ∷ 0 ∷ []) ([])) ∷
+    (state (success (row 3 10 6 1)) (9 ∷ 1 ∷ []) 4
     (0 ∷ 0 ∷ 0 ∷ 0 ∷ 0 ∷ 0 ∷ 0 ∷ 0 ∷ 0 ∷ 0 ∷ 0 ∷ 0 ∷ 0 ∷ 0 ∷ 0 ∷ 0 ∷ 4 ∷ 0 ∷ 0 ∷ 0 ∷ 0 ∷ 0 ∷ 0 ∷ 0 ∷ [])
-    (1 ∷ 0 ∷ 5 ∷ 2 ∷ 6 ∷ 4 ∷ 3 ∷ 10 ∷ 6 ∷ 0 ∷ 0 ∷ 0 ∷ []) ([])) ∷
-    (state (success (row 1 0 5)) (9 ∷ 1 ∷ []) 4
+    (1 ∷ 0 ∷ 5 ∷ 1 ∷ 2 ∷ 6 ∷ 4 ∷ 1 ∷ 3 ∷ 10 ∷ 6 ∷ 1 ∷ 0 ∷ 0 ∷ 0 ∷ 0 ∷ []) ([])) ∷
+    (state (success (row 1 0 5 1)) (9 ∷ 1 ∷ []) 4
     (3 ∷ 0 ∷ 0 ∷ 0 ∷ 0 ∷ 0 ∷ 0 ∷ 0 ∷ 0 ∷ 0 ∷ 0 ∷ 0 ∷ 0 ∷ 0 ∷ 0 ∷ 0 ∷ 4 ∷ 1 ∷ 0 ∷ 0 ∷ 0 ∷ 0 ∷ 0 ∷ 0 ∷ [])
-    (0 ∷ 0 ∷ 0 ∷ 2 ∷ 6 ∷ 4 ∷ 3 ∷ 10 ∷ 6 ∷ 0 ∷ 0 ∷ 0 ∷ []) ([])) ∷
+    (0 ∷ 0 ∷ 0 ∷ 0 ∷ 2 ∷ 6 ∷ 4 ∷ 1 ∷ 3 ∷ 10 ∷ 6 ∷ 1 ∷ 0 ∷ 0 ∷ 0 ∷ 0 ∷ []) ([])) ∷
     (state (refusal 6) (9 ∷ 1 ∷ []) 4
     (3 ∷ 0 ∷ 0 ∷ 0 ∷ 0 ∷ 0 ∷ 0 ∷ 0 ∷ 0 ∷ 0 ∷ 0 ∷ 0 ∷ 0 ∷ 0 ∷ 0 ∷ 0 ∷ 4 ∷ 1 ∷ 0 ∷ 0 ∷ 0 ∷ 0 ∷ 0 ∷ 0 ∷ [])
-    (0 ∷ 0 ∷ 0 ∷ 2 ∷ 6 ∷ 4 ∷ 3 ∷ 10 ∷ 6 ∷ 0 ∷ 0 ∷ 0 ∷ []) ([])) ∷
-    (state (success (row 4 16 7)) (1 ∷ 1 ∷ []) 5
+    (0 ∷ 0 ∷ 0 ∷ 0 ∷ 2 ∷ 6 ∷ 4 ∷ 1 ∷ 3 ∷ 10 ∷ 6 ∷ 1 ∷ 0 ∷ 0 ∷ 0 ∷ 0 ∷ []) ([])) ∷
+    (state (success (row 4 16 7 1)) (1 ∷ 1 ∷ []) 5
     (3 ∷ 0 ∷ 0 ∷ 0 ∷ 0 ∷ 0 ∷ 0 ∷ 0 ∷ 0 ∷ 0 ∷ 0 ∷ 0 ∷ 0 ∷ 0 ∷ 0 ∷ 0 ∷ 0 ∷ 0 ∷ 0 ∷ 0 ∷ 0 ∷ 0 ∷ 0 ∷ 0 ∷ [])
-    (4 ∷ 16 ∷ 7 ∷ 2 ∷ 6 ∷ 4 ∷ 3 ∷ 10 ∷ 6 ∷ 0 ∷ 0 ∷ 0 ∷ []) ([])) ∷
-    (state (success (row 3 10 6)) (1 ∷ 1 ∷ []) 5
+    (4 ∷ 16 ∷ 7 ∷ 1 ∷ 2 ∷ 6 ∷ 4 ∷ 1 ∷ 3 ∷ 10 ∷ 6 ∷ 1 ∷ 0 ∷ 0 ∷ 0 ∷ 0 ∷ []) ([])) ∷
+    (state (success (row 3 10 6 1)) (1 ∷ 1 ∷ []) 5
     (3 ∷ 393216 ∷ 0 ∷ 0 ∷ 0 ∷ 0 ∷ 0 ∷ 0 ∷ 0 ∷ 0 ∷ 3 ∷ 0 ∷ 0 ∷ 0 ∷ 0 ∷ 0 ∷ 0 ∷ 0 ∷ 0 ∷ 0 ∷ 0 ∷ 0 ∷ 0 ∷ 0 ∷ [])
-    (4 ∷ 16 ∷ 7 ∷ 2 ∷ 6 ∷ 4 ∷ 0 ∷ 0 ∷ 0 ∷ 0 ∷ 0 ∷ 0 ∷ []) ([])) ∷
+    (4 ∷ 16 ∷ 7 ∷ 1 ∷ 2 ∷ 6 ∷ 4 ∷ 1 ∷ 0 ∷ 0 ∷ 0 ∷ 0 ∷ 0 ∷ 0 ∷ 0 ∷ 0 ∷ []) ([])) ∷
     (state (refusal 5) (1 ∷ 1 ∷ []) 5
     (3 ∷ 393216 ∷ 0 ∷ 0 ∷ 0 ∷ 0 ∷ 0 ∷ 0 ∷ 0 ∷ 0 ∷ 3 ∷ 0 ∷ 0 ∷ 0 ∷ 0 ∷ 0 ∷ 0 ∷ 0 ∷ 0 ∷ 0 ∷ 0 ∷ 0 ∷ 0 ∷ 0 ∷ [])
-    (4 ∷ 16 ∷ 7 ∷ 2 ∷ 6 ∷ 4 ∷ 0 ∷ 0 ∷ 0 ∷ 0 ∷ 0 ∷ 0 ∷ []) ([])) ∷
+    (4 ∷ 16 ∷ 7 ∷ 1 ∷ 2 ∷ 6 ∷ 4 ∷ 1 ∷ 0 ∷ 0 ∷ 0 ∷ 0 ∷ 0 ∷ 0 ∷ 0 ∷ 0 ∷ []) ([])) ∷
     (state (refusal 7) (1 ∷ 1 ∷ []) 5
     (3 ∷ 393216 ∷ 0 ∷ 0 ∷ 0 ∷ 0 ∷ 0 ∷ 0 ∷ 0 ∷ 0 ∷ 3 ∷ 0 ∷ 0 ∷ 0 ∷ 0 ∷ 0 ∷ 0 ∷ 0 ∷ 0 ∷ 0 ∷ 0 ∷ 0 ∷ 0 ∷ 0 ∷ [])
-    (4 ∷ 16 ∷ 7 ∷ 2 ∷ 6 ∷ 4 ∷ 0 ∷ 0 ∷ 0 ∷ 0 ∷ 0 ∷ 0 ∷ []) ([])) ∷
-    (state (success (row 2 6 4)) (1 ∷ 1 ∷ []) 5
+    (4 ∷ 16 ∷ 7 ∷ 1 ∷ 2 ∷ 6 ∷ 4 ∷ 1 ∷ 0 ∷ 0 ∷ 0 ∷ 0 ∷ 0 ∷ 0 ∷ 0 ∷ 0 ∷ []) ([])) ∷
+    (state (success (row 2 6 4 1)) (1 ∷ 1 ∷ []) 5
     (8 ∷ 0 ∷ 0 ∷ 0 ∷ 0 ∷ 0 ∷ 0 ∷ 0 ∷ 0 ∷ 0 ∷ 0 ∷ 0 ∷ 0 ∷ 0 ∷ 0 ∷ 0 ∷ 0 ∷ 0 ∷ 0 ∷ 0 ∷ 0 ∷ 0 ∷ 0 ∷ 0 ∷ [])
-    (4 ∷ 16 ∷ 7 ∷ 0 ∷ 0 ∷ 0 ∷ 0 ∷ 0 ∷ 0 ∷ 0 ∷ 0 ∷ 0 ∷ []) ([]))
+    (4 ∷ 16 ∷ 7 ∷ 1 ∷ 0 ∷ 0 ∷ 0 ∷ 0 ∷ 0 ∷ 0 ∷ 0 ∷ 0 ∷ 0 ∷ 0 ∷ 0 ∷ 0 ∷ []) ([]))
     ∷ []
 
 abbrev pub segmentStates : List State
 segmentStates =
     (state (zeroAnswer) ([]) 1
     (16 ∷ 0 ∷ 0 ∷ 0 ∷ 0 ∷ 0 ∷ 0 ∷ 0 ∷ 0 ∷ 0 ∷ 0 ∷ 0 ∷ 0 ∷ 0 ∷ 0 ∷ 0 ∷ [])
-    (0 ∷ 0 ∷ 0 ∷ 0 ∷ 0 ∷ 0 ∷ 0 ∷ 0 ∷ 0 ∷ 0 ∷ 0 ∷ 0 ∷ []) (0 ∷ 16 ∷ 16 ∷ 0 ∷ 16 ∷ 0 ∷ 0 ∷ 0 ∷ 0 ∷ 16 ∷ 16 ∷ 16 ∷ [])) ∷
-    (state (success (row 1 1 3)) ([]) 2
+    (0 ∷ 0 ∷ 0 ∷ 0 ∷ 0 ∷ 0 ∷ 0 ∷ 0 ∷ 0 ∷ 0 ∷ 0 ∷ 0 ∷ 0 ∷ 0 ∷ 0 ∷ 0 ∷ []) (0 ∷ 16 ∷ 16 ∷ 0 ∷ 16 ∷ 0 ∷ 0 ∷ 0 ∷ 0 ∷ 16 ∷ 16 ∷ 16 ∷ [])) ∷
+    (state (success (row 1 1 3 1)) ([]) 2
     (4294967292 ∷ 0 ∷ 0 ∷ 0 ∷ 12 ∷ 0 ∷ 0 ∷ 0 ∷ 0 ∷ 0 ∷ 0 ∷ 0 ∷ 0 ∷ 0 ∷ 0 ∷ 0 ∷ [])
-    (1 ∷ 1 ∷ 3 ∷ 0 ∷ 0 ∷ 0 ∷ 0 ∷ 0 ∷ 0 ∷ 0 ∷ 0 ∷ 0 ∷ []) (0 ∷ 12 ∷ 12 ∷ 0 ∷ 1 ∷ 12 ∷ 0 ∷ 0 ∷ 0 ∷ 4 ∷ 16 ∷ 16 ∷ [])) ∷
+    (1 ∷ 1 ∷ 3 ∷ 1 ∷ 0 ∷ 0 ∷ 0 ∷ 0 ∷ 0 ∷ 0 ∷ 0 ∷ 0 ∷ 0 ∷ 0 ∷ 0 ∷ 0 ∷ []) (0 ∷ 12 ∷ 12 ∷ 0 ∷ 1 ∷ 12 ∷ 0 ∷ 0 ∷ 0 ∷ 4 ∷ 16 ∷ 16 ∷ [])) ∷
     (state (refusal 5) ([]) 2
     (4294967292 ∷ 0 ∷ 0 ∷ 0 ∷ 12 ∷ 0 ∷ 0 ∷ 0 ∷ 0 ∷ 0 ∷ 0 ∷ 0 ∷ 0 ∷ 0 ∷ 0 ∷ 0 ∷ [])
-    (1 ∷ 1 ∷ 3 ∷ 0 ∷ 0 ∷ 0 ∷ 0 ∷ 0 ∷ 0 ∷ 0 ∷ 0 ∷ 0 ∷ []) (0 ∷ 12 ∷ 12 ∷ 0 ∷ 1 ∷ 12 ∷ 0 ∷ 0 ∷ 0 ∷ 4 ∷ 16 ∷ 16 ∷ [])) ∷
-    (state (success (row 2 5 11)) ([]) 3
+    (1 ∷ 1 ∷ 3 ∷ 1 ∷ 0 ∷ 0 ∷ 0 ∷ 0 ∷ 0 ∷ 0 ∷ 0 ∷ 0 ∷ 0 ∷ 0 ∷ 0 ∷ 0 ∷ []) (0 ∷ 12 ∷ 12 ∷ 0 ∷ 1 ∷ 12 ∷ 0 ∷ 0 ∷ 0 ∷ 4 ∷ 16 ∷ 16 ∷ [])) ∷
+    (state (success (row 2 5 11 1)) ([]) 3
     (4294967292 ∷ 0 ∷ 0 ∷ 0 ∷ 4294967284 ∷ 0 ∷ 0 ∷ 0 ∷ 0 ∷ 0 ∷ 0 ∷ 0 ∷ 0 ∷ 0 ∷ 0 ∷ 0 ∷ [])
-    (1 ∷ 1 ∷ 3 ∷ 2 ∷ 5 ∷ 11 ∷ 0 ∷ 0 ∷ 0 ∷ 0 ∷ 0 ∷ 0 ∷ []) (0 ∷ 1 ∷ 1 ∷ 0 ∷ 1 ∷ 1 ∷ 0 ∷ 0 ∷ 0 ∷ 4 ∷ 16 ∷ 16 ∷ []))
+    (1 ∷ 1 ∷ 3 ∷ 1 ∷ 2 ∷ 5 ∷ 11 ∷ 1 ∷ 0 ∷ 0 ∷ 0 ∷ 0 ∷ 0 ∷ 0 ∷ 0 ∷ 0 ∷ []) (0 ∷ 1 ∷ 1 ∷ 0 ∷ 1 ∷ 1 ∷ 0 ∷ 0 ∷ 0 ∷ 4 ∷ 16 ∷ 16 ∷ []))
     ∷ []
 
 -- T13, the refused A 12, and T14

@@ -24,28 +24,28 @@ poolIn form root next arena table = record {
 
 -- memory before the format, with any contents
 abbrev pub memory : ℕ → ℕ → Pool
-memory form words = poolIn form 0 0 (replicate words 7) (replicate 12 9)
+memory form words = poolIn form 0 0 (replicate words 7) (replicate 16 9)
 
 abbrev pub requests : List (Call Words)
-requests = format 1 ∷ allocate 5 ∷ allocate 4 ∷ allocate 6 ∷ allocate 1 ∷ []
+requests = format 1 ∷ allocate 1 5 ∷ allocate 1 4 ∷ allocate 1 6 ∷ allocate 1 1 ∷ []
 
 abbrev pub granted : List State
 granted =
     (state (zeroAnswer) (1 ∷ 3 ∷ []) 1
     (12 ∷ 0 ∷ 0 ∷ 0 ∷ 0 ∷ 0 ∷ 0 ∷ 0 ∷ 0 ∷ 0 ∷ 0 ∷ 0 ∷ 0 ∷ 0 ∷ 0 ∷ 0 ∷ 0 ∷ 0 ∷ 0 ∷ 0 ∷ 0 ∷ 0 ∷ 0 ∷ 0 ∷ [])
-    (0 ∷ 0 ∷ 0 ∷ 0 ∷ 0 ∷ 0 ∷ 0 ∷ 0 ∷ 0 ∷ 0 ∷ 0 ∷ 0 ∷ []) ([])) ∷
-    (state (success (row 1 0 5)) (5 ∷ 3 ∷ []) 2
+    (0 ∷ 0 ∷ 0 ∷ 0 ∷ 0 ∷ 0 ∷ 0 ∷ 0 ∷ 0 ∷ 0 ∷ 0 ∷ 0 ∷ 0 ∷ 0 ∷ 0 ∷ 0 ∷ []) ([])) ∷
+    (state (success (row 1 0 5 1)) (5 ∷ 3 ∷ []) 2
     (0 ∷ 0 ∷ 0 ∷ 0 ∷ 0 ∷ 0 ∷ 0 ∷ 0 ∷ 8 ∷ 0 ∷ 0 ∷ 0 ∷ 0 ∷ 0 ∷ 0 ∷ 0 ∷ 0 ∷ 0 ∷ 0 ∷ 0 ∷ 0 ∷ 0 ∷ 0 ∷ 0 ∷ [])
-    (1 ∷ 0 ∷ 5 ∷ 0 ∷ 0 ∷ 0 ∷ 0 ∷ 0 ∷ 0 ∷ 0 ∷ 0 ∷ 0 ∷ []) ([])) ∷
-    (state (success (row 2 8 4)) (9 ∷ 3 ∷ []) 3
+    (1 ∷ 0 ∷ 5 ∷ 1 ∷ 0 ∷ 0 ∷ 0 ∷ 0 ∷ 0 ∷ 0 ∷ 0 ∷ 0 ∷ 0 ∷ 0 ∷ 0 ∷ 0 ∷ []) ([])) ∷
+    (state (success (row 2 8 4 1)) (9 ∷ 3 ∷ []) 3
     (0 ∷ 0 ∷ 0 ∷ 0 ∷ 0 ∷ 0 ∷ 0 ∷ 0 ∷ 0 ∷ 0 ∷ 0 ∷ 0 ∷ 0 ∷ 0 ∷ 0 ∷ 0 ∷ 4 ∷ 0 ∷ 0 ∷ 0 ∷ 0 ∷ 0 ∷ 0 ∷ 0 ∷ [])
-    (1 ∷ 0 ∷ 5 ∷ 2 ∷ 8 ∷ 4 ∷ 0 ∷ 0 ∷ 0 ∷ 0 ∷ 0 ∷ 0 ∷ []) ([])) ∷
-    (state (success (row 3 16 6)) (0 ∷ 3 ∷ []) 4
+    (1 ∷ 0 ∷ 5 ∷ 1 ∷ 2 ∷ 8 ∷ 4 ∷ 1 ∷ 0 ∷ 0 ∷ 0 ∷ 0 ∷ 0 ∷ 0 ∷ 0 ∷ 0 ∷ []) ([])) ∷
+    (state (success (row 3 16 6 1)) (0 ∷ 3 ∷ []) 4
     (0 ∷ 0 ∷ 0 ∷ 0 ∷ 0 ∷ 0 ∷ 0 ∷ 0 ∷ 0 ∷ 0 ∷ 0 ∷ 0 ∷ 0 ∷ 0 ∷ 0 ∷ 0 ∷ 0 ∷ 0 ∷ 0 ∷ 0 ∷ 0 ∷ 0 ∷ 0 ∷ 0 ∷ [])
-    (1 ∷ 0 ∷ 5 ∷ 2 ∷ 8 ∷ 4 ∷ 3 ∷ 16 ∷ 6 ∷ 0 ∷ 0 ∷ 0 ∷ []) ([])) ∷
+    (1 ∷ 0 ∷ 5 ∷ 1 ∷ 2 ∷ 8 ∷ 4 ∷ 1 ∷ 3 ∷ 16 ∷ 6 ∷ 1 ∷ 0 ∷ 0 ∷ 0 ∷ 0 ∷ []) ([])) ∷
     (state (refusal 5) (0 ∷ 3 ∷ []) 4
     (0 ∷ 0 ∷ 0 ∷ 0 ∷ 0 ∷ 0 ∷ 0 ∷ 0 ∷ 0 ∷ 0 ∷ 0 ∷ 0 ∷ 0 ∷ 0 ∷ 0 ∷ 0 ∷ 0 ∷ 0 ∷ 0 ∷ 0 ∷ 0 ∷ 0 ∷ 0 ∷ 0 ∷ [])
-    (1 ∷ 0 ∷ 5 ∷ 2 ∷ 8 ∷ 4 ∷ 3 ∷ 16 ∷ 6 ∷ 0 ∷ 0 ∷ 0 ∷ []) ([]))
+    (1 ∷ 0 ∷ 5 ∷ 1 ∷ 2 ∷ 8 ∷ 4 ∷ 1 ∷ 3 ∷ 16 ∷ 6 ∷ 1 ∷ 0 ∷ 0 ∷ 0 ∷ 0 ∷ []) ([]))
     ∷ []
 
 -- ---- the releases
@@ -55,29 +55,29 @@ abbrev pub written : Pool
 written =
     poolIn 3 0 4
     (1 ∷ 2 ∷ 3 ∷ 4 ∷ 5 ∷ 6 ∷ 7 ∷ 8 ∷ 9 ∷ 10 ∷ 11 ∷ 12 ∷ 13 ∷ 14 ∷ 15 ∷ 16 ∷ 17 ∷ 18 ∷ 19 ∷ 20 ∷ 21 ∷ 22 ∷ 23 ∷ 24 ∷ [])
-    (1 ∷ 0 ∷ 5 ∷ 2 ∷ 8 ∷ 4 ∷ 3 ∷ 16 ∷ 6 ∷ 0 ∷ 0 ∷ 0 ∷ [])
+    (1 ∷ 0 ∷ 5 ∷ 1 ∷ 2 ∷ 8 ∷ 4 ∷ 1 ∷ 3 ∷ 16 ∷ 6 ∷ 1 ∷ 0 ∷ 0 ∷ 0 ∷ 0 ∷ [])
 
 abbrev pub r₁ : Call Words
-r₁ = release (row 1 0 5)
+r₁ = release (row 1 0 5 1)
 
 abbrev pub r₂ : Call Words
-r₂ = release (row 2 8 4)
+r₂ = release (row 2 8 4 1)
 
 abbrev pub r₃ : Call Words
-r₃ = release (row 3 16 6)
+r₃ = release (row 3 16 6 1)
 
 -- the other holders' spare words stay
 abbrev pub released : List State
 released =
-    (state (success (row 1 0 5)) (1 ∷ 3 ∷ []) 4
+    (state (success (row 1 0 5 1)) (1 ∷ 3 ∷ []) 4
     (4 ∷ 0 ∷ 0 ∷ 0 ∷ 0 ∷ 0 ∷ 0 ∷ 0 ∷ 9 ∷ 10 ∷ 11 ∷ 12 ∷ 13 ∷ 14 ∷ 15 ∷ 16 ∷ 17 ∷ 18 ∷ 19 ∷ 20 ∷ 21 ∷ 22 ∷ 23 ∷ 24 ∷ [])
-    (0 ∷ 0 ∷ 0 ∷ 2 ∷ 8 ∷ 4 ∷ 3 ∷ 16 ∷ 6 ∷ 0 ∷ 0 ∷ 0 ∷ []) ([])) ∷
-    (state (success (row 3 16 6)) (1 ∷ 3 ∷ []) 4
+    (0 ∷ 0 ∷ 0 ∷ 0 ∷ 2 ∷ 8 ∷ 4 ∷ 1 ∷ 3 ∷ 16 ∷ 6 ∷ 1 ∷ 0 ∷ 0 ∷ 0 ∷ 0 ∷ []) ([])) ∷
+    (state (success (row 3 16 6 1)) (1 ∷ 3 ∷ []) 4
     (4 ∷ 589824 ∷ 0 ∷ 0 ∷ 0 ∷ 0 ∷ 0 ∷ 0 ∷ 9 ∷ 10 ∷ 11 ∷ 12 ∷ 13 ∷ 14 ∷ 15 ∷ 16 ∷ 4 ∷ 0 ∷ 0 ∷ 0 ∷ 0 ∷ 0 ∷ 0 ∷ 0 ∷ [])
-    (0 ∷ 0 ∷ 0 ∷ 2 ∷ 8 ∷ 4 ∷ 0 ∷ 0 ∷ 0 ∷ 0 ∷ 0 ∷ 0 ∷ []) ([])) ∷
-    (state (success (row 2 8 4)) (1 ∷ 3 ∷ []) 4
+    (0 ∷ 0 ∷ 0 ∷ 0 ∷ 2 ∷ 8 ∷ 4 ∷ 1 ∷ 0 ∷ 0 ∷ 0 ∷ 0 ∷ 0 ∷ 0 ∷ 0 ∷ 0 ∷ []) ([])) ∷
+    (state (success (row 2 8 4 1)) (1 ∷ 3 ∷ []) 4
     (12 ∷ 0 ∷ 0 ∷ 0 ∷ 0 ∷ 0 ∷ 0 ∷ 0 ∷ 0 ∷ 0 ∷ 0 ∷ 0 ∷ 0 ∷ 0 ∷ 0 ∷ 0 ∷ 0 ∷ 0 ∷ 0 ∷ 0 ∷ 0 ∷ 0 ∷ 0 ∷ 0 ∷ [])
-    (0 ∷ 0 ∷ 0 ∷ 0 ∷ 0 ∷ 0 ∷ 0 ∷ 0 ∷ 0 ∷ 0 ∷ 0 ∷ 0 ∷ []) ([]))
+    (0 ∷ 0 ∷ 0 ∷ 0 ∷ 0 ∷ 0 ∷ 0 ∷ 0 ∷ 0 ∷ 0 ∷ 0 ∷ 0 ∷ 0 ∷ 0 ∷ 0 ∷ 0 ∷ []) ([]))
     ∷ []
 
 -- the pool after some calls
@@ -91,7 +91,7 @@ orders =
     ∷ (r₃ ∷ r₂ ∷ r₁ ∷ []) ∷ []
 
 abbrev pub emptied : Pool
-emptied = poolIn 3 1 4 (12 ∷ replicate 23 0) (replicate 12 0)
+emptied = poolIn 3 1 4 (12 ∷ replicate 23 0) (replicate 16 0)
 
 -- ---- the rule in the soundness check
 
@@ -102,13 +102,13 @@ soundIn p = sound treeEngine (p 1) ∷ sound treeEngine (p 3) ∷ []
 -- a record on a cell but no unit; a free block that is no whole number of units; 12 words, all free; and a pool whose
 -- memory does not say its form
 abbrev pub offUnit : ℕ → Pool
-offUnit form = poolIn form 4 2 (1 ∷ 0 ∷ 7 ∷ 7 ∷ 7 ∷ 7 ∷ 9 ∷ 1 ∷ replicate 16 0) (1 ∷ 2 ∷ 4 ∷ [])
+offUnit form = poolIn form 4 2 (1 ∷ 0 ∷ 7 ∷ 7 ∷ 7 ∷ 7 ∷ 9 ∷ 1 ∷ replicate 16 0) (1 ∷ 2 ∷ 4 ∷ 1 ∷ [])
 
 abbrev pub partUnit : ℕ → Pool
-partUnit form = poolIn form 4 2 (7 ∷ 7 ∷ 7 ∷ 7 ∷ 7 ∷ 7 ∷ 9 ∷ 0 ∷ replicate 16 0) (1 ∷ 0 ∷ 5 ∷ [])
+partUnit form = poolIn form 4 2 (7 ∷ 7 ∷ 7 ∷ 7 ∷ 7 ∷ 7 ∷ 9 ∷ 0 ∷ replicate 16 0) (1 ∷ 0 ∷ 5 ∷ 1 ∷ [])
 
 abbrev pub twelveWords : ℕ → Pool
-twelveWords form = poolIn form 1 2 (6 ∷ replicate 11 0) (0 ∷ 0 ∷ 0 ∷ [])
+twelveWords form = poolIn form 1 2 (6 ∷ replicate 11 0) (0 ∷ 0 ∷ 0 ∷ 0 ∷ [])
 
 abbrev pub either : ℕ → Pool
-either form = poolIn form 5 2 (7 ∷ 7 ∷ 7 ∷ 7 ∷ 7 ∷ 7 ∷ 7 ∷ 7 ∷ 8 ∷ 0 ∷ replicate 14 0) (1 ∷ 0 ∷ 8 ∷ [])
+either form = poolIn form 5 2 (7 ∷ 7 ∷ 7 ∷ 7 ∷ 7 ∷ 7 ∷ 7 ∷ 7 ∷ 8 ∷ 0 ∷ replicate 14 0) (1 ∷ 0 ∷ 8 ∷ 1 ∷ [])

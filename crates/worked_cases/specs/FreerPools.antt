@@ -11,7 +11,7 @@ treeHeld = record {
   head = record { own = 3 ∷ 1 ∷ []; next = 3 };
   shape = 1;
   arena = 1 ∷ 0 ∷ 7 ∷ 7 ∷ 3 ∷ 1 ∷ 0 ∷ 0 ∷ 0 ∷ 0 ∷ [];
-  table = 0 ∷ 0 ∷ 0 ∷ 2 ∷ 2 ∷ 2 ∷ 0 ∷ 0 ∷ 0 ∷ [];
+  table = 0 ∷ 0 ∷ 0 ∷ 0 ∷ 2 ∷ 2 ∷ 2 ∷ 1 ∷ 0 ∷ 0 ∷ 0 ∷ 0 ∷ [];
   index = [];
 }
 
@@ -20,7 +20,7 @@ treeFree = record {
   head = record { own = 1 ∷ 1 ∷ []; next = 3 };
   shape = 1;
   arena = 5 ∷ replicate 9 0;
-  table = replicate 9 0;
+  table = replicate 12 0;
   index = [];
 }
 
@@ -31,7 +31,7 @@ segmentHeld = record {
   head = record { own = []; next = 2 };
   shape = 4;
   arena = 4294967292 ∷ 7 ∷ 7 ∷ 7 ∷ 12 ∷ replicate 11 0;
-  table = 1 ∷ 1 ∷ 3 ∷ 0 ∷ 0 ∷ 0 ∷ [];
+  table = 1 ∷ 1 ∷ 3 ∷ 1 ∷ 0 ∷ 0 ∷ 0 ∷ 0 ∷ [];
   index = 0 ∷ 12 ∷ 12 ∷ 0 ∷ 1 ∷ 12 ∷ 0 ∷ 0 ∷ 0 ∷ 4 ∷ 16 ∷ 16 ∷ [];
 }
 
@@ -40,6 +40,6 @@ segmentFree = record {
   head = record { own = []; next = 9 };
   shape = 2;
   arena = 16 ∷ replicate 15 0;
-  table = replicate 3 0;
+  table = replicate 4 0;
   index = 0 ∷ 16 ∷ 16 ∷ 0 ∷ 0 ∷ 16 ∷ [];
 }

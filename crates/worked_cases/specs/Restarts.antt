@@ -35,10 +35,10 @@ Runs E m ls xs =
 abbrev pub treeLater : List Later
 treeLater =
     -- a grant, into which its holder writes, and releases and finds of yesterday
-    calls (onWhole treeMemory (allocate 5)) ∷ writes inArena 0 9
-    ∷ calls (onWhole treeMemory (release (row 1 0 5))) ∷ calls (onWhole treeMemory (find (row 99 0 5)))
+    calls (onWhole treeMemory (allocate 1 5)) ∷ writes inArena 0 9
+    ∷ calls (onWhole treeMemory (release (row 1 0 5 1))) ∷ calls (onWhole treeMemory (find (row 99 0 5 1)))
     -- a list with a release of yesterday and one of today
-    ∷ calls (onWhole treeMemory (list
+    ∷ calls (onWhole treeMemory (list 1
     (otherWords (2 ∷ 1 ∷ 0 ∷ 5 ∷ 2 ∷ 100 ∷ 0 ∷ 5 ∷ [])) (otherWords (replicate 8 8))))
     -- formats that are refused: by 6, by 11 for form 0, and by 8 for a word beside the arena
     ∷ calls (onWhole treeMemory (format 0))
@@ -46,35 +46,35 @@ treeLater =
     ∷ calls (otherArena treeMemory 1 (allOf inArena treeMemory ++ (other 5 ∷ [])) [] (format 200))
     -- accepted on another arena of 8 words: a grant and its release
     ∷ calls (otherArena treeMemory 1 (otherWords (4 ∷ 0 ∷ 0 ∷ 0 ∷ 0 ∷ 0 ∷ 0 ∷ 0 ∷ [])) []
-    (list (otherWords (1 ∷ 3 ∷ 0 ∷ 0 ∷ 2 ∷ 101 ∷ 0 ∷ 3 ∷ [])) (otherWords (replicate 8 8))))
+    (list 1 (otherWords (1 ∷ 3 ∷ 0 ∷ 0 ∷ 2 ∷ 101 ∷ 0 ∷ 3 ∷ [])) (otherWords (replicate 8 8))))
     -- yesterday's head, and a release of yesterday with it
-    ∷ calls (otherHead treeMemory 1 (record { own = 4 ∷ 1 ∷ []; next = 2 }) (release (row 1 0 5)))
-    ∷ calls (onWhole treeMemory (allocate 4)) ∷ calls (onWhole treeMemory (look (row 99 0 4) [])) ∷ []
+    ∷ calls (otherHead treeMemory 1 (record { own = 4 ∷ 1 ∷ []; next = 2 }) (release (row 1 0 5 1)))
+    ∷ calls (onWhole treeMemory (allocate 1 4)) ∷ calls (onWhole treeMemory (look (row 99 0 4 1) [])) ∷ []
 
 abbrev pub treeAnswers : List Answer
 treeAnswers =
-    success (row 100 0 5) ∷ refusal 6 ∷ refusal 6 ∷ zeroAnswer ∷ refusal 6 ∷ refusal 11 ∷ refusal 8 ∷ zeroAnswer
-    ∷ refusal 1 ∷ success (row 102 0 4) ∷ refusal 6 ∷ []
+    success (row 100 0 5 1) ∷ refusal 6 ∷ refusal 6 ∷ zeroAnswer ∷ refusal 6 ∷ refusal 11 ∷ refusal 8 ∷ zeroAnswer
+    ∷ refusal 1 ∷ success (row 102 0 4 1) ∷ refusal 6 ∷ []
 
 abbrev pub segmentLater : List Later
 segmentLater =
     -- a grant, into which its holder writes, and releases of yesterday, one with another S
-    calls (onWhole segmentMemory (allocate 3)) ∷ writes inArena 1 9
-    ∷ calls (onWhole segmentMemory (release (row 1 1 3)))
+    calls (onWhole segmentMemory (allocate 1 3)) ∷ writes inArena 1 9
+    ∷ calls (onWhole segmentMemory (release (row 1 1 3 1)))
     ∷ calls (otherArena segmentMemory 2 (allOf inArena segmentMemory) (allOf inIndex segmentMemory)
-    (release (row 1 1 3)))
+    (release (row 1 1 3 1)))
     -- a list with a release of yesterday and one of today
-    ∷ calls (onWhole segmentMemory (list
+    ∷ calls (onWhole segmentMemory (list 1
     (otherWords (2 ∷ 1 ∷ 1 ∷ 3 ∷ 2 ∷ 100 ∷ 1 ∷ 3 ∷ [])) (otherWords (replicate 8 8))))
     -- formats that are refused: by 6, and by 8 for S 3
     ∷ calls (onWhole segmentMemory (format 0))
     ∷ calls (otherArena segmentMemory 3 (allOf inArena segmentMemory) (allOf inIndex segmentMemory) (format 200))
     -- accepted on another arena of 8 words, with S 1 and another index: a grant and its release
     ∷ calls (otherArena segmentMemory 1 (otherWords (8 ∷ 0 ∷ 0 ∷ 0 ∷ 0 ∷ 0 ∷ 0 ∷ 0 ∷ [])) (otherWords (0 ∷ 8 ∷ 0 ∷ []))
-    (list (otherWords (1 ∷ 3 ∷ 0 ∷ 0 ∷ 2 ∷ 101 ∷ 1 ∷ 3 ∷ [])) (otherWords (replicate 8 8))))
-    ∷ calls (onWhole segmentMemory (allocate 4)) ∷ calls (onWhole segmentMemory (look (row 99 1 4) [])) ∷ []
+    (list 1 (otherWords (1 ∷ 3 ∷ 0 ∷ 0 ∷ 2 ∷ 101 ∷ 1 ∷ 3 ∷ [])) (otherWords (replicate 8 8))))
+    ∷ calls (onWhole segmentMemory (allocate 1 4)) ∷ calls (onWhole segmentMemory (look (row 99 1 4 1) [])) ∷ []
 
 abbrev pub segmentAnswers : List Answer
 segmentAnswers =
-    success (row 100 1 3) ∷ refusal 6 ∷ refusal 8 ∷ zeroAnswer ∷ refusal 6 ∷ refusal 8 ∷ zeroAnswer
-    ∷ success (row 102 1 4) ∷ refusal 6 ∷ []
+    success (row 100 1 3 1) ∷ refusal 6 ∷ refusal 8 ∷ zeroAnswer ∷ refusal 6 ∷ refusal 8 ∷ zeroAnswer
+    ∷ success (row 102 1 4 1) ∷ refusal 6 ∷ []

@@ -28,7 +28,7 @@ returns : tie.Need-returns
 returns c =
     let q = c .before .before .before .before .before .before .before .before in
     let m = q .list .last in
-    same-handed _ (m .1 .1 .0) (m .1 .1 .1 .0) (m .1 .1 .1 .1 .0) (m .1 .1 .1 .1 .1 .1 .0 ∷ [])
+    same-handed _ (m .1 .1 .0) (m .1 .1 .1 .0) (m .1 .1 .1 .1 .0) (m .1 .1 .1 .1 .1 .1 .1 .0 ∷ [])
     (c .c-segment-outcome .ensures)
     ∙ q .list .ensures
 

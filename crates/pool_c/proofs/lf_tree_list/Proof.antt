@@ -26,7 +26,7 @@ returns : tie.Need-returns
 returns c =
     let q = c .before .before .before .before .before .before .before in
     let m = q .list .last in
-    ap (λ (x : Outcome). handed x (m .1 .0) (m .1 .1 .0) (m .1 .1 .1 .1 .0 ∷ []))
+    ap (λ (x : Outcome). handed x (m .1 .0) (m .1 .1 .0) (m .1 .1 .1 .1 .1 .0 ∷ []))
     (c .c-tree-outcome .ensures)
     ∙ q .list .ensures
 

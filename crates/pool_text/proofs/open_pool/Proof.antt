@@ -73,9 +73,9 @@ returns-2 c =
     let t = s .args .table .now in
     let few = small w k (j .if1 .left) in
     let d = f .format-front in
-    let e = opens-not (take w a) (take (3 * k) t) w k (s .args .first) (s .args .numbers .now)
+    let e = opens-not (take w a) (take (4 * k) t) w k (s .args .first) (s .args .numbers .now)
     (length-take-le w a (omega (arith, few .0, s .pre .0)))
-    (length-take-le (3 * k) t (omega (arith, few .1, s .pre .1))) (d .result) _ _ (d .ensures) (few .0)
+    (length-take-le (4 * k) t (omega (arith, few .1, s .pre .1))) (d .result) _ _ (d .ensures) (few .0)
     (i .if2 .taken) in
     let r = p .stop2 in
     let b = d .last .0 in
@@ -112,15 +112,15 @@ returns-3 c =
     let t = s .args .table .now in
     let few = small w k (j .if1 .left) in
     let la = length-take-le w a (omega (arith, few .0, s .pre .0)) in
-    let lt = length-take-le (3 * k) t (omega (arith, few .1, s .pre .1)) in
+    let lt = length-take-le (4 * k) t (omega (arith, few .1, s .pre .1)) in
     let d = f .format-front in
     let b = d .last .0 in
     let u = d .last .1 .1 .0 in
     let o : Own = record { head = d .result .head; words = w; slots = k } in
     let n = s .args .first in
     let ns = s .args .numbers .now in
-    let e = opens (take w a) (take (3 * k) t) w k n ns la lt (d .result) _ _ (d .ensures) (few .0) (i .if2 .left) in
-    let ok = opens-sound (take w a) (take (3 * k) t) w k n ns la lt (d .result) _ _ (d .ensures) (few .0)
+    let e = opens (take w a) (take (4 * k) t) w k n ns la lt (d .result) _ _ (d .ensures) (few .0) (i .if2 .left) in
+    let ok = opens-sound (take w a) (take (4 * k) t) w k n ns la lt (d .result) _ _ (d .ensures) (few .0)
     (i .if2 .left) in
     let lb = d .kept .0 ∙ s .pre .0 in
     let lu = d .kept .1 .1 .0 ∙ s .pre .1 in

@@ -39,7 +39,7 @@ part-serve-end-2 c = search needs
 serve-requires : tie.Need-serve-requires
 serve-requires c κs =
     let s = c .before .before .before .before in
-    rw (sub-zero (s .args .n), sub-zero (s .args .t)) (s .pre .1)
+    (rw (sub-zero (s .args .n), sub-zero (s .args .t)) (s .pre .1 .0), s .pre .1 .1)
 
 same-length : tie.Need-same-length
 same-length c = search needs

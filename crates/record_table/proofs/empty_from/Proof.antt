@@ -1,7 +1,7 @@
 -- `record_table::empty_from` meets its contract. Its invariant: no slot from i up to k passes. Assumes nothing.
 use Prim.Native.Nat.{_-_}
 use native.Mathlib.Omega.{arith}
-use mathlib.Core.Path.{_∙_, sym, ap}
+use mathlib.Core.Path.{_≡_, _∙_, sym, ap}
 use borrow.Author.Needs.{needs}
 use denote.Ref.{now}
 use Rattle.ledger.specs.Records.{slots, isEmpty}
@@ -10,15 +10,18 @@ use Rattle.record_table.proofs.empty_from.Statement.{statement}
 use Rattle.record_table.proofs.empty_from.Tie as tie
 
 abbrev Inv-loop : tie.InvT-loop
-Inv-loop table i k₀ k = Scanned isEmpty table i k
+Inv-loop table i n k₀ k = (n ≡ slots table) × Scanned isEmpty table i k
 
 abbrev μ-loop : tie.MeasureT-loop
-μ-loop table i k₀ k = slots table - k
+μ-loop table i n k₀ k = n - k
+
+slot-count-requires : tie.Need-slot-count-requires Inv-loop μ-loop
+slot-count-requires c κs = search needs
 
 loop-holds : tie.Need-loop-holds Inv-loop μ-loop
 loop-holds c =
-    let a = c .before .args in
-    scan-start isEmpty (now (a .table)) (a .i) (search needs)
+    let a = c .before .before .args in
+    (c .slot-count .ensures, scan-start isEmpty (now (a .table)) (a .i) (search needs))
 
 read-row-requires : tie.Need-read-row-requires Inv-loop μ-loop
 read-row-requires c κs = search needs
@@ -28,9 +31,9 @@ is-empty-requires c κs = search needs
 
 returns : tie.Need-returns Inv-loop μ-loop
 returns c =
-    let a = c .before .before .before .before .before .before .args in
+    let a = c .before .before .before .before .before .before .before .args in
     let l = c .before .before .before .before .loop in
-    scan-here isEmpty (now (a .table)) (a .i) (l .k) (l .inv)
+    scan-here isEmpty (now (a .table)) (a .i) (l .k) (l .inv .1)
     (ap isEmpty (sym (c .before .before .read-row .ensures)) ∙ sym (c .before .is-empty .ensures) ∙ c .if1 .taken)
 
 add-k : tie.Need-add-k Inv-loop μ-loop
@@ -41,16 +44,18 @@ loop-less c = search needs
 
 loop-again : tie.Need-loop-again Inv-loop μ-loop
 loop-again c =
-    let a = c .before .before .before .before .before .before .args in
-    let l = c .before .before .before .before .loop in
-    scan-next isEmpty (now (a .table)) (a .i) (l .k) (l .inv) (omega arith)
-    (ap isEmpty (sym (c .before .before .read-row .ensures)) ∙ sym (c .before .is-empty .ensures) ∙ c .if1 .left)
+    let a = c .before .before .before .before .before .before .before .args in
+    let l = c .before .before .before .before .loop in (
+      l .inv .0,
+      scan-next isEmpty (now (a .table)) (a .i) (l .k) (l .inv .1) (omega (arith, l .inv .0))
+          (ap isEmpty (sym (c .before .before .read-row .ensures)) ∙ sym (c .before .is-empty .ensures) ∙ c .if1 .left),
+    )
 
 returns-2 : tie.Need-returns-2 Inv-loop μ-loop
 returns-2 c =
-    let a = c .before .before .before .args in
+    let a = c .before .before .before .before .args in
     let l = c .before .loop in
-    scan-end isEmpty (now (a .table)) (a .i) (l .k) (l .inv) (omega arith)
+    scan-end isEmpty (now (a .table)) (a .i) (l .k) (l .inv .1) (omega (arith, l .inv .0))
 
 pub empty-from-spec : {M : Type 1} → statement M
 empty-from-spec =
@@ -58,6 +63,7 @@ empty-from-spec =
     (tie.spec
     Inv-loop
     μ-loop
+    slot-count-requires
     loop-holds
     read-row-requires
     is-empty-requires

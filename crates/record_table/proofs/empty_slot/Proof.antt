@@ -15,23 +15,29 @@ passed-requires c κs = search needs
 empty-from-requires : tie.Need-empty-from-requires
 empty-from-requires c κs = search needs
 
+slot-count-requires : tie.Need-slot-count-requires
+slot-count-requires c κs = search needs
+
 returns : tie.Need-returns
 unfolding emptySlot
 returns c =
-    let a = c .before .before .before .before .args in
-    let k = c .before .empty-from in
-    let p = c .before .before .passed in
-    reach-here isEmpty (now (a .table)) (p .result) (k .result)
-    (without-empty (now (a .table)) 0 (p .result) (p .ensures .1)) (k .ensures) (c .if1 .taken)
+    let k = c .before .before in
+    let p = k .before .passed in
+    let a = k .before .before .before .args in
+    reach-here isEmpty (now (a .table)) (p .result) (k .empty-from .result)
+    (without-empty (now (a .table)) 0 (p .result) (p .ensures .1)) (k .empty-from .ensures)
+    (omega (arith, c .if1 .taken, c .before .slot-count .ensures))
 
 returns-2 : tie.Need-returns-2
 unfolding emptySlot
 returns-2 c =
-    let a = c .before .before .before .before .args in
-    let k = c .before .empty-from in
-    let p = c .before .before .passed in
-    reach-end isEmpty (now (a .table)) (p .result) (k .result)
-    (without-empty (now (a .table)) 0 (p .result) (p .ensures .1)) (k .ensures) (omega (arith, c .if1 .left))
+    let k = c .before .before in
+    let p = k .before .passed in
+    let a = k .before .before .before .args in
+    reach-end isEmpty (now (a .table)) (p .result) (k .empty-from .result)
+    (without-empty (now (a .table)) 0 (p .result) (p .ensures .1)) (k .empty-from .ensures)
+    (omega (arith, c .if1 .left, c .before .slot-count .ensures))
 
 pub empty-slot-spec : {M : Type 1} → statement M
-empty-slot-spec = tie.close (tie.spec passed-requires empty-from-requires returns returns-2)
+empty-slot-spec =
+    tie.close (tie.spec passed-requires empty-from-requires slot-count-requires returns returns-2)

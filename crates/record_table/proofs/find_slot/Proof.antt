@@ -18,23 +18,30 @@ passed-requires c κs = search needs
 ticket-from-requires : tie.Need-ticket-from-requires
 ticket-from-requires c κs = search needs
 
+slot-count-requires : tie.Need-slot-count-requires
+slot-count-requires c κs = search needs
+
 returns-2 : tie.Need-returns-2
 unfolding ticketSlot
 returns-2 c =
-    let a = c .before .before .before .before .before .args in
-    let k = c .before .ticket-from in
-    let p = c .before .before .passed in
-    reach-here (hasTicket (a .ticket)) (now (a .table)) (p .result) (k .result)
-    (λ j lo hi. has-other (a .ticket) (recordAt (now (a .table)) j) (p .ensures .1 j lo hi)) (k .ensures) (c .if2 .taken)
+    let k = c .before .before in
+    let p = k .before .passed in
+    let a = k .before .before .before .before .args in
+    reach-here (hasTicket (a .ticket)) (now (a .table)) (p .result) (k .ticket-from .result)
+    (λ j lo hi. has-other (a .ticket) (recordAt (now (a .table)) j) (p .ensures .1 j lo hi)) (k .ticket-from .ensures)
+    (omega (arith, c .if2 .taken, c .before .slot-count .ensures))
 
 returns-3 : tie.Need-returns-3
 unfolding ticketSlot
 returns-3 c =
-    let a = c .before .before .before .before .before .args in
-    let k = c .before .ticket-from in
-    let p = c .before .before .passed in
-    reach-end (hasTicket (a .ticket)) (now (a .table)) (p .result) (k .result)
-    (λ j lo hi. has-other (a .ticket) (recordAt (now (a .table)) j) (p .ensures .1 j lo hi)) (k .ensures) (omega (arith, c .if2 .left))
+    let k = c .before .before in
+    let p = k .before .passed in
+    let a = k .before .before .before .before .args in
+    reach-end (hasTicket (a .ticket)) (now (a .table)) (p .result) (k .ticket-from .result)
+    (λ j lo hi. has-other (a .ticket) (recordAt (now (a .table)) j) (p .ensures .1 j lo hi)) (k .ticket-from .ensures)
+    (omega (arith, c .if2 .left, c .before .slot-count .ensures))
 
 pub find-slot-spec : {M : Type 1} → statement M
-find-slot-spec = tie.close (tie.spec returns passed-requires ticket-from-requires returns-2 returns-3)
+find-slot-spec =
+    tie.close
+    (tie.spec returns passed-requires ticket-from-requires slot-count-requires returns-2 returns-3)

@@ -27,14 +27,18 @@ mul-end c =
     let e = c .past-unit .ensures in
     rw e (omega (arith, past-low (a .rule) (a .r)))
 
+is-party-requires : tie.Need-is-party-requires
+is-party-requires c κs = search needs
+
 rest-requires : tie.Need-rest-requires
 rest-requires c κs = search needs
 
 returns-2 : tie.Need-returns-2
 unfolding fits
 returns-2 c =
-    let d = c .before .before .before .before .before .before in
-    rw (c .rest .ensures, d .past-unit .ensures, d .before .before .begin-of .ensures)
+    let p = c .before .before .before in
+    let d = p .before .before .before .before in
+    rw (c .rest .ensures, p .is-party .ensures, d .past-unit .ensures, d .before .before .begin-of .ensures)
 
 pub live-fits-spec : {M : Type 1} → statement M
 live-fits-spec =
@@ -45,5 +49,6 @@ live-fits-spec =
     cast-end
     past-unit-requires
     mul-end
+    is-party-requires
     rest-requires
     returns-2)

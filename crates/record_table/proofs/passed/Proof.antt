@@ -1,7 +1,7 @@
 -- `record_table::passed` meets its contract. Its invariant: no slot before i has the ticket. Assumes nothing.
 use Prim.Native.Nat.{_-_, _≤_}
 use native.Mathlib.Omega.{arith}
-use mathlib.Core.Path.{_≡_, refl}
+use mathlib.Core.Path.{_≡_}
 use borrow.Author.Needs.{needs}
 use denote.Ref.{now}
 use Rattle.ledger.specs.Records.{slots}
@@ -16,10 +16,13 @@ Inv-loop table x n i₀ i = (n ≡ slots table) × (i ≤ n) × Without table x 
 abbrev μ-loop : tie.MeasureT-loop
 μ-loop table x n i₀ i = n - i
 
+slot-count-requires : tie.Need-slot-count-requires Inv-loop μ-loop
+slot-count-requires c κs = search needs
+
 loop-holds : tie.Need-loop-holds Inv-loop μ-loop
 loop-holds c =
-    let a = c .before .args in
-    (refl, search needs, without-none (now (a .table)) (a .x))
+    let a = c .before .before .args in
+    (c .slot-count .ensures, omega arith, without-none (now (a .table)) (a .x))
 
 sub-loop : tie.Need-sub-loop Inv-loop μ-loop
 sub-loop c = search needs
@@ -40,7 +43,7 @@ loop-less c = search needs
 
 loop-again : tie.Need-loop-again Inv-loop μ-loop
 loop-again c =
-    let a = c .before .before .before .before .before .args in
+    let a = c .before .before .before .before .before .before .args in
     let l = c .before .before .before .loop in (
       l .inv .0,
       omega arith,
@@ -58,6 +61,7 @@ passed-spec =
     (tie.spec
     Inv-loop
     μ-loop
+    slot-count-requires
     loop-holds
     sub-loop
     is-met-requires

@@ -1,6 +1,7 @@
 -- `record_table::ticket_from` meets its contract. Its invariant: no slot from i up to k passes. Assumes nothing.
 use Prim.Native.Nat.{_-_}
 use native.Mathlib.Omega.{arith}
+use mathlib.Core.Path.{_≡_, _∙_, sym}
 use borrow.Author.Needs.{needs}
 use denote.Ref.{now}
 use Rattle.ledger.specs.Records.{slots, recordAt, hasTicket}
@@ -9,31 +10,29 @@ use Rattle.record_table.proofs.ticket_from.Statement.{statement}
 use Rattle.record_table.proofs.ticket_from.Tie as tie
 
 abbrev Inv-loop : tie.InvT-loop
-Inv-loop table ticket i k₀ k = Scanned (hasTicket ticket) table i k
+Inv-loop table ticket i n k₀ k = (n ≡ slots table) × Scanned (hasTicket ticket) table i k
 
 abbrev μ-loop : tie.MeasureT-loop
-μ-loop table ticket i k₀ k = slots table - k
+μ-loop table ticket i n k₀ k = n - k
+
+slot-count-requires : tie.Need-slot-count-requires Inv-loop μ-loop
+slot-count-requires c κs = search needs
 
 loop-holds : tie.Need-loop-holds Inv-loop μ-loop
 loop-holds c =
-    let a = c .args in
-    scan-start (hasTicket (a .ticket)) (now (a .table)) (a .i) (search needs)
+    let a = c .before .before .args in
+    (c .slot-count .ensures, scan-start (hasTicket (a .ticket)) (now (a .table)) (a .i) (search needs))
 
-mul-if1 : tie.Need-mul-if1 Inv-loop μ-loop
-mul-if1 c = search needs
-
-mul-if1-2 : tie.Need-mul-if1-2 Inv-loop μ-loop
-mul-if1-2 c = search needs
-
-shared-slice-read-if1 : tie.Need-shared-slice-read-if1 Inv-loop μ-loop
-shared-slice-read-if1 c = search needs
+ticket-at-requires : tie.Need-ticket-at-requires Inv-loop μ-loop
+ticket-at-requires c κs = search needs
 
 returns : tie.Need-returns Inv-loop μ-loop
 returns c =
-    let a = c .before .before .before .before .args in
+    let a = c .before .before .before .before .before .before .args in
     let l = c .before .before .before .loop in
-    scan-here (hasTicket (a .ticket)) (now (a .table)) (a .i) (l .k) (l .inv)
-    (has-same (a .ticket) (recordAt (now (a .table)) (l .k)) (search needs) (c .if1 .taken))
+    scan-here (hasTicket (a .ticket)) (now (a .table)) (a .i) (l .k) (l .inv .1)
+    (has-same (a .ticket) (recordAt (now (a .table)) (l .k)) (search needs)
+    (sym (c .before .ticket-at .ensures) ∙ c .if1 .taken))
 
 add-k : tie.Need-add-k Inv-loop μ-loop
 add-k c = search needs
@@ -43,16 +42,19 @@ loop-less c = search needs
 
 loop-again : tie.Need-loop-again Inv-loop μ-loop
 loop-again c =
-    let a = c .before .before .before .before .args in
-    let l = c .before .before .before .loop in
-    scan-next (hasTicket (a .ticket)) (now (a .table)) (a .i) (l .k) (l .inv) (omega arith)
-    (has-other (a .ticket) (recordAt (now (a .table)) (l .k)) (c .if1 .left))
+    let a = c .before .before .before .before .before .before .args in
+    let l = c .before .before .before .loop in (
+      l .inv .0,
+      scan-next (hasTicket (a .ticket)) (now (a .table)) (a .i) (l .k) (l .inv .1) (omega (arith, l .inv .0))
+          (has-other (a .ticket) (recordAt (now (a .table)) (l .k))
+          (λ e. c .if1 .left (c .before .ticket-at .ensures ∙ e))),
+    )
 
 returns-2 : tie.Need-returns-2 Inv-loop μ-loop
 returns-2 c =
-    let a = c .before .before .args in
+    let a = c .before .before .before .before .args in
     let l = c .before .loop in
-    scan-end (hasTicket (a .ticket)) (now (a .table)) (a .i) (l .k) (l .inv) (omega arith)
+    scan-end (hasTicket (a .ticket)) (now (a .table)) (a .i) (l .k) (l .inv .1) (omega (arith, l .inv .0))
 
 pub ticket-from-spec : {M : Type 1} → statement M
 ticket-from-spec =
@@ -60,10 +62,9 @@ ticket-from-spec =
     (tie.spec
     Inv-loop
     μ-loop
+    slot-count-requires
     loop-holds
-    mul-if1
-    mul-if1-2
-    shared-slice-read-if1
+    ticket-at-requires
     returns
     add-k
     loop-less

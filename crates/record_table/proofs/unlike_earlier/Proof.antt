@@ -1,8 +1,9 @@
 -- `record_table::unlike_earlier` meets its contract: the flag and the tickets from j on make the answer. Assumes nothing.
 use Prim.Native.Nat.{_-_, _≤_}
 use native.Mathlib.Omega.{arith}
-use mathlib.Core.Path.{_≡_, refl}
-use mathlib.Core.Bool.{_&&_}
+use mathlib.Core.Path.{_≡_, ap}
+use mathlib.Core.Bool.{_&&_, not}
+use lib.Dec.{eqb}
 use borrow.Author.Needs.{needs}
 use denote.Ref.{now}
 use Rattle.words.specs.Counted.{every}
@@ -20,17 +21,11 @@ abbrev μ-loop : tie.MeasureT-loop
 
 loop-holds : tie.Need-loop-holds Inv-loop μ-loop
 loop-holds c =
-    let a = c .args in
+    let a = c .before .args in
     (omega arith, flag-start (otherThan (now (a .table)) (a .ticket)) (a .i))
 
-mul-ok : tie.Need-mul-ok Inv-loop μ-loop
-mul-ok c = search needs
-
-mul-ok-2 : tie.Need-mul-ok-2 Inv-loop μ-loop
-mul-ok-2 c = search needs
-
-shared-slice-read-ok : tie.Need-shared-slice-read-ok Inv-loop μ-loop
-shared-slice-read-ok c = search needs
+ticket-at-requires : tie.Need-ticket-at-requires Inv-loop μ-loop
+ticket-at-requires c κs = search needs
 
 add-j : tie.Need-add-j Inv-loop μ-loop
 add-j c = search needs
@@ -40,14 +35,15 @@ loop-less c = search needs
 
 loop-again : tie.Need-loop-again Inv-loop μ-loop
 loop-again c =
-    let a = c .before .before .before .args in
+    let a = c .before .before .before .before .args in
     let p = otherThan (now (a .table)) (a .ticket) in
     let l = c .before .before .loop in
-    (omega arith, flag-next (every p 0 (a .i)) (l .ok) p (a .i) (l .j) (l .inv .1) _ (omega arith) refl)
+    let here = ap (λ t. l .ok && not (eqb t (a .ticket))) (c .ticket-at .ensures) in
+    (omega arith, flag-next (every p 0 (a .i)) (l .ok) p (a .i) (l .j) (l .inv .1) _ (omega arith) here)
 
 returns : tie.Need-returns Inv-loop μ-loop
 returns c =
-    let a = c .before .before .args in
+    let a = c .before .before .before .args in
     let p = otherThan (now (a .table)) (a .ticket) in
     let l = c .before .loop in
     flag-end (every p 0 (a .i)) (l .ok) p (a .i) (l .j) (l .inv .1) (omega arith)
@@ -55,14 +51,4 @@ returns c =
 pub unlike-earlier-spec : {M : Type 1} → statement M
 unlike-earlier-spec =
     tie.close
-    (tie.spec
-    Inv-loop
-    μ-loop
-    loop-holds
-    mul-ok
-    mul-ok-2
-    shared-slice-read-ok
-    add-j
-    loop-less
-    loop-again
-    returns)
+    (tie.spec Inv-loop μ-loop loop-holds ticket-at-requires add-j loop-less loop-again returns)

@@ -1,4 +1,4 @@
--- `record_table::write_row` meets its contract: the three words of a slot are its record. Assumes nothing.
+-- `record_table::write_row` meets its contract: the four words of a slot are its record. Assumes nothing.
 use native.Mathlib.Omega.{arith}
 use mathlib.Core.Path.{_∙_, sym, ap}
 use borrow.Author.Needs.{needs}
@@ -42,6 +42,18 @@ mul-table-6 c = search needs
 slice-write-table-3 : tie.Need-slice-write-table-3
 slice-write-table-3 c = simp length-set (omega arith)
 
+mul-table-7 : tie.Need-mul-table-7
+mul-table-7 c = search needs
+
+add-table-3 : tie.Need-add-table-3
+add-table-3 c = search needs
+
+mul-table-8 : tie.Need-mul-table-8
+mul-table-8 c = search needs
+
+slice-write-table-4 : tie.Need-slice-write-table-4
+slice-write-table-4 c = simp length-set (omega arith)
+
 same-length : tie.Need-same-length
 same-length c = search needs
 
@@ -67,5 +79,9 @@ write-row-spec =
     add-table-2
     mul-table-6
     slice-write-table-3
+    mul-table-7
+    add-table-3
+    mul-table-8
+    slice-write-table-4
     same-length
     returns)

@@ -24,7 +24,7 @@ returns c =
     let t = now (a .table) in
     let x = now (a .index) in
     λ h. ap
-    (λ (b : Bool). ((((((leb 2 (length v) && leb (length v) 16384) && b) && eqb (length t % 3) 0)
+    (λ (b : Bool). ((((((leb 2 (length v) && leb (length v) 16384) && b) && eqb (length t % 4) 0)
     && leb 1 (slots t)) && leb (slots t) 256) && eqb (length x) (3 * a .s)))
     (c .is-segments .ensures)
     ∙ lengths-are (a .s) h v t x

@@ -8,8 +8,7 @@ use Rattle.calls.specs.Engines.{segmentEngine}
 use Rattle.segment_check.specs.Gate.{segmentPool}
 use Rattle.segment_requests.specs.Outcomes.{handed}
 use Rattle.calls.specs.Step.{allocate, ask}
-use Rattle.calls.proofs.GateLaws.{gate-opens}
-use Rattle.call_parts.proofs.ResultLaws.{gate-result, single-result}
+use Rattle.call_parts.proofs.ResultLaws.{gate-result, gate-passed, single-result}
 use Rattle.segment_requests.specs.declared.Outcome.{Outcome}
 use Rattle.segment_requests.proofs.PlacesCounted.{act-places, gate-places}
 use Rattle.segment_pool.proofs.allocate.Statement.{statement}
@@ -21,6 +20,9 @@ pool s =
 
 gate-number-requires : tie.Need-gate-number-requires
 gate-number-requires c κs = search needs
+
+with-party-requires : tie.Need-with-party-requires
+with-party-requires c κs = search needs
 
 refused-with-requires : tie.Need-refused-with-requires
 refused-with-requires c κs = search needs
@@ -39,23 +41,26 @@ same-length-3 c = search needs
 
 returns : tie.Need-returns
 returns c =
-    let g = c .before .before .before in
+    let w = c .before .before .before in
+    let g = w .before in
     let s = g .before .before .before .before .before .before in
     let result = ap (λ (o : Outcome). handed (s .args .s) o (now (s .args .arena)) (now (s .args .table))
     (now (s .args .index)) []) (c .with-places .ensures .0 ∙ c .before .refused-with .ensures)
-    ∙ gate-result segmentEngine (pool s) (g .gate-number .result) (g .gate-number .ensures)
-    (c .before .before .if1 .taken) (allocate (s .args .words)) refl refl in
+    ∙ gate-result segmentEngine (pool s) (g .gate-number .result) (s .args .party) (w .with-party .result)
+    (g .gate-number .ensures) (w .with-party .ensures) (c .before .before .if1 .taken)
+    (allocate (s .args .party) (s .args .words)) refl refl refl in
     let places = c .with-places .ensures .1
-    ∙ gate-places (pool s) (s .args .words) (g .gate-number .result) (g .gate-number .ensures)
-    (c .before .before .if1 .taken) in
+    ∙ gate-places (pool s) (s .args .party) (s .args .words) (g .gate-number .result) (w .with-party .result)
+    (g .gate-number .ensures) (w .with-party .ensures) (c .before .before .if1 .taken) in
     λ i. (result i, places i)
 
 grant-requires : tie.Need-grant-requires
 grant-requires c κs =
-    let g = c .before .before .before .before in
+    let w = c .before .before .before .before in
+    let g = w .before in
     let s = g .before .before .before .before .before .before in
-    gate-opens segmentEngine (pool s) (g .gate-number .result) (g .gate-number .ensures)
-    (c .before .before .before .if1 .left)
+    gate-passed segmentEngine (pool s) (g .gate-number .result) (s .args .party) (w .with-party .result)
+    (g .gate-number .ensures) (w .with-party .ensures) (c .before .before .before .if1 .left)
 
 outcome-of-grant-requires : tie.Need-outcome-of-grant-requires
 outcome-of-grant-requires c κs = search needs
@@ -78,15 +83,16 @@ same-length-6 c = search needs
 returns-2 : tie.Need-returns-2
 returns-2 c =
     let q = c .before .before .before .before .before .before .before in
-    let g = q .before .before .before .before .before in
+    let w = q .before .before .before .before .before in
+    let g = w .before in
     let s = g .before .before .before .before .before .before in
     let m = q .grant .last .1 .1 in
-    let ok = gate-opens segmentEngine (pool s) (g .gate-number .result) (g .gate-number .ensures)
-    (q .before .before .before .before .if1 .left) in
+    let (ok, party) = gate-passed segmentEngine (pool s) (g .gate-number .result) (s .args .party) (w .with-party .result)
+    (g .gate-number .ensures) (w .with-party .ensures) (q .before .before .before .before .if1 .left) in
     let result = ap (λ (y : Outcome). handed (s .args .s) y (m .0) (m .1 .0) (m .1 .1 .0) [])
     (c .with-places2 .ensures .0 ∙ c .before .outcome-of-grant .ensures) ∙ q .grant .ensures .0
-    ∙ single-result segmentEngine (ask (s .args .words)) (pool s) ok in
-    let places = c .with-places2 .ensures .1 ∙ q .grant .ensures .1 ∙ act-places (pool s) (s .args .words) ok in
+    ∙ single-result segmentEngine (ask (s .args .party) (s .args .words)) (pool s) ok party in
+    let places = c .with-places2 .ensures .1 ∙ q .grant .ensures .1 ∙ act-places (pool s) (s .args .party) (s .args .words) ok in
     λ i. (result i, places i)
 
 pub allocate-spec : {M : Type 1} → statement M
@@ -94,6 +100,7 @@ allocate-spec =
     tie.close
     (tie.spec
     gate-number-requires
+    with-party-requires
     refused-with-requires
     with-places-requires
     same-length

@@ -8,8 +8,7 @@ use Rattle.calls.specs.Pool.{Pool}
 use Rattle.calls.specs.Engines.{segmentEngine}
 use Rattle.segment_check.specs.Gate.{segmentPool}
 use Rattle.calls.specs.Step.{list}
-use Rattle.calls.proofs.GateLaws.{gate-opens}
-use Rattle.call_parts.proofs.ResultLaws.{gate-result, unsuited-result, list-result}
+use Rattle.call_parts.proofs.ResultLaws.{gate-result, gate-passed, unsuited-result, list-result}
 use Rattle.call_parts.specs.Results.{Result}
 use Rattle.call_parts.proofs.WholeLists.{suited-lengths}
 use Rattle.segment_requests.specs.declared.Outcome.{Outcome}
@@ -42,11 +41,14 @@ returns c =
     let u = c .before .before in
     let s = u .before .before .before .before .before .before in
     ap (same s) (c .refused-with .ensures)
-    ∙ unsuited-result segmentEngine (pool s) (now (s .args .asked)) (now (s .args .answers)) refl
+    ∙ unsuited-result segmentEngine (pool s) (s .args .party) (now (s .args .asked)) (now (s .args .answers)) refl
     (sym (u .list-suits .ensures) ∙ not-true (u .list-suits .result) (c .before .if1 .taken))
 
 gate-number-requires : tie.Need-gate-number-requires
 gate-number-requires c κs = search needs
+
+with-party-requires : tie.Need-with-party-requires
+with-party-requires c κs = search needs
 
 refused-with-requires-2 : tie.Need-refused-with-requires-2
 refused-with-requires-2 c κs = search needs
@@ -65,24 +67,28 @@ same-length-5 c = search needs
 
 returns-2 : tie.Need-returns-2
 returns-2 c =
-    let g = c .before .before in
+    let w = c .before .before in
+    let g = w .before in
     let f = g .before .before .before .before in
     let u = f .before in
     let s = u .before .before .before .before .before .before in
     let suits = sym (u .list-suits .ensures) ∙ not-false (u .list-suits .result) (f .if1 .left) in
     ap (same s) (c .refused-with2 .ensures)
-    ∙ gate-result segmentEngine (pool s) (g .gate-number .result) (g .gate-number .ensures) (c .before .if2 .taken)
-    (list (now (s .args .asked)) (now (s .args .answers))) refl suits
+    ∙ gate-result segmentEngine (pool s) (g .gate-number .result) (s .args .party) (w .with-party .result)
+    (g .gate-number .ensures) (w .with-party .ensures) (c .before .if2 .taken)
+    (list (s .args .party) (now (s .args .asked)) (now (s .args .answers))) refl suits refl
 
 serve-all-requires : tie.Need-serve-all-requires
 serve-all-requires c κs =
     let e = c .before .before .before .before in
-    let g = e .before in
+    let w = e .before in
+    let g = w .before in
     let f = g .before .before .before .before in
     let u = f .before in
     let s = u .before .before .before .before .before .before in
     let suits = sym (u .list-suits .ensures) ∙ not-false (u .list-suits .result) (f .if1 .left) in (
-      gate-opens segmentEngine (pool s) (g .gate-number .result) (g .gate-number .ensures) (e .if2 .left),
+      gate-passed segmentEngine (pool s) (g .gate-number .result) (s .args .party) (w .with-party .result)
+          (g .gate-number .ensures) (w .with-party .ensures) (e .if2 .left),
       suited-lengths (now (s .args .asked)) (now (s .args .answers)) suits,
     )
 
@@ -105,16 +111,18 @@ returns-3 : tie.Need-returns-3
 returns-3 c =
     let d = c .before .before .before .before .before .before .before .before in
     let e = d .before .before .before .before .before in
-    let g = e .before in
+    let w = e .before in
+    let g = w .before in
     let f = g .before .before .before .before in
     let u = f .before in
     let s = u .before .before .before .before .before .before in
     let suits = sym (u .list-suits .ensures) ∙ not-false (u .list-suits .result) (f .if1 .left) in
-    let ok = gate-opens segmentEngine (pool s) (g .gate-number .result) (g .gate-number .ensures) (e .if2 .left) in
-    list-result segmentEngine (pool s) (now (s .args .asked)) (now (s .args .answers)) suits ok (c .succeeded .result)
+    let (ok, party) = gate-passed segmentEngine (pool s) (g .gate-number .result) (s .args .party) (w .with-party .result)
+    (g .gate-number .ensures) (w .with-party .ensures) (e .if2 .left) in
+    list-result segmentEngine (pool s) (s .args .party) (now (s .args .asked)) (now (s .args .answers)) suits ok party (c .succeeded .result)
     (segmentPool (s .args .s) (d .serve-all .result) (d .serve-all .last .1 .1 .0)
     (d .serve-all .last .1 .1 .1 .0) (d .serve-all .last .1 .1 .1 .1 .0))
-    (d .serve-all .last .1 .1 .1 .1 .1 .1 .0) (c .succeeded .ensures) (d .serve-all .ensures)
+    (d .serve-all .last .1 .1 .1 .1 .1 .1 .1 .0) (c .succeeded .ensures) (d .serve-all .ensures)
 
 pub list-spec : {M : Type 1} → statement M
 list-spec =
@@ -125,6 +133,7 @@ list-spec =
     same-length
     returns
     gate-number-requires
+    with-party-requires
     refused-with-requires-2
     same-length-2
     same-length-3

@@ -3,14 +3,12 @@ use mathlib.Core.Path.{refl, ap, _∙_}
 use mathlib.Core.List.{[]}
 use borrow.Author.Needs.{needs}
 use denote.Ref.{now}
-use Rattle.ledger.specs.Records.{vacate}
 use Rattle.calls.specs.Pool.{Pool}
 use Rattle.calls.specs.Engines.{segmentEngine}
 use Rattle.segment_check.specs.Gate.{segmentPool}
 use Rattle.segment_requests.specs.Outcomes.{handed}
 use Rattle.calls.specs.Step.{release, give}
-use Rattle.calls.proofs.GateLaws.{gate-opens}
-use Rattle.call_parts.proofs.ResultLaws.{gate-result, single-result}
+use Rattle.call_parts.proofs.ResultLaws.{gate-result, gate-passed, single-result}
 use Rattle.segment_requests.specs.declared.Outcome.{Outcome}
 use Rattle.segment_pool.proofs.release.Statement.{statement}
 use Rattle.segment_pool.proofs.release.Tie as tie
@@ -21,6 +19,9 @@ pool s =
 
 gate-number-requires : tie.Need-gate-number-requires
 gate-number-requires c κs = search needs
+
+with-party-requires : tie.Need-with-party-requires
+with-party-requires c κs = search needs
 
 refused-with-requires : tie.Need-refused-with-requires
 refused-with-requires c κs = search needs
@@ -36,19 +37,21 @@ same-length-3 c = search needs
 
 returns : tie.Need-returns
 returns c =
-    let g = c .before .before in
+    let w = c .before .before in
+    let g = w .before in
     let s = g .before .before .before .before .before .before in
     ap (λ (o : Outcome). handed (s .args .s) o (now (s .args .arena)) (now (s .args .table)) (now (s .args .index)) [])
     (c .refused-with .ensures)
-    ∙ gate-result segmentEngine (pool s) (g .gate-number .result) (g .gate-number .ensures) (c .before .if1 .taken)
-    (release (s .args .named)) refl refl
+    ∙ gate-result segmentEngine (pool s) (g .gate-number .result) (s .args .named .party) (w .with-party .result)
+    (g .gate-number .ensures) (w .with-party .ensures) (c .before .if1 .taken) (release (s .args .named)) refl refl refl
 
 vacate-requires : tie.Need-vacate-requires
 vacate-requires c κs =
-    let g = c .before .before .before .before in
+    let w = c .before .before .before .before in
+    let g = w .before in
     let s = g .before .before .before .before .before .before in
-    gate-opens segmentEngine (pool s) (g .gate-number .result) (g .gate-number .ensures)
-    (c .before .before .before .if1 .left)
+    gate-passed segmentEngine (pool s) (g .gate-number .result) (s .args .named .party) (w .with-party .result)
+    (g .gate-number .ensures) (w .with-party .ensures) (c .before .before .before .if1 .left) .0
 
 outcome-of-release-requires : tie.Need-outcome-of-release-requires
 outcome-of-release-requires c κs = search needs
@@ -65,21 +68,24 @@ same-length-6 c = search needs
 returns-2 : tie.Need-returns-2
 returns-2 c =
     let q = c .before .before .before .before .before .before in
-    let g = q .before .before .before .before .before in
+    let w = q .before .before .before .before .before in
+    let g = w .before in
     let s = g .before .before .before .before .before .before in
     let b = q .vacate .last .1 .1 .0 in
     let u = q .vacate .last .1 .1 .1 .0 in
     let x = q .vacate .last .1 .1 .1 .1 .0 in
-    let ok = gate-opens segmentEngine (pool s) (g .gate-number .result) (g .gate-number .ensures)
+    let (ok, party) = gate-passed segmentEngine (pool s) (g .gate-number .result) (s .args .named .party)
+    (w .with-party .result) (g .gate-number .ensures) (w .with-party .ensures)
     (q .before .before .before .before .if1 .left) in
     ap (λ (y : Outcome). handed (s .args .s) y b u x []) (c .outcome-of-release .ensures) ∙ q .vacate .ensures
-    ∙ single-result segmentEngine (give (s .args .named)) (pool s) ok
+    ∙ single-result segmentEngine (give (s .args .named)) (pool s) ok party
 
 pub release-spec : {M : Type 1} → statement M
 release-spec =
     tie.close
     (tie.spec
     gate-number-requires
+    with-party-requires
     refused-with-requires
     same-length
     same-length-2

@@ -76,7 +76,7 @@ write-row-requires c κs =
     let s = l .before .before .before .before .before .before .before .before .before .before in (
       release-slot (s .args .head) (s .args .s) (now (s .args .arena)) (now (s .args .table))
           (now (s .args .index)) (s .args .named) (s .args .slot) (s .pre .0) (s .pre .1),
-      range s .threes,
+      range s .whole,
     )
 
 same-length : tie.Need-same-length

@@ -51,7 +51,7 @@ searched c =
     let s = i .before .before .before in
     let d = c .segments-of .ensures in
     let form = sound-form (s .args .s) (s .args .head) (now (s .args .arena)) (now (s .args .table))
-    (now (s .args .index)) (s .pre) (c .before .ranged .ensures) d in
+    (now (s .args .index)) (s .pre .0) (c .before .ranged .ensures) d in
     record {
       sound = subst (Sound (old s) (now (s .args .arena)) (now (s .args .index)) (c .segments-of .result .count))
           (form .sizes .each) form;
@@ -84,7 +84,7 @@ few c =
     let s = c .before .before .before .before .before .before .before .before .before .before .before .before .before
     .before .before in
     let range = sound-range (s .args .s) (s .args .head) (now (s .args .arena)) (now (s .args .table))
-    (now (s .args .index)) (s .pre) in
+    (now (s .args .index)) (s .pre .0) in
     few-places (s .args .s) (length (now (s .args .arena))) (old s) (span segmentRule (s .args .words))
     (some-span (s .args .words)) (c .search .result) (found c) (range .power) (omega (arith, range .some)) (range .most)
 
@@ -101,8 +101,8 @@ returns c =
     let s = d .before .before .before .before in
     grant-refused (s .args .head) (s .args .s) (now (s .args .arena)) (now (s .args .table)) (now (s .args .index))
     (c .with-places .result) (d .no-effect .result) _ 2 (c .with-places .ensures)
-    (d .no-effect .ensures) refl refl (s .args .words)
-    (ask-two segmentEngine (pool s) (s .args .words) (d .before .if1 .taken))
+    (d .no-effect .ensures) refl refl (s .args .party) (s .args .words)
+    (ask-two segmentEngine (pool s) (s .args .party) (s .args .words) (s .pre .1) (d .before .if1 .taken))
 
 empty-slot-requires : tie.Need-empty-slot-requires
 empty-slot-requires c κs = search needs
@@ -131,8 +131,8 @@ returns-2 c =
     let s = i .before .before .before in
     grant-refused (s .args .head) (s .args .s) (now (s .args .arena)) (now (s .args .table)) (now (s .args .index))
     (c .with-places2 .result) (d .no-effect2 .result) _ 3 (c .with-places2 .ensures)
-    (d .no-effect2 .ensures) refl refl (s .args .words)
-    (ask-three segmentEngine (pool s) (s .args .words) (i .if1 .left)
+    (d .no-effect2 .ensures) refl refl (s .args .party) (s .args .words)
+    (ask-three segmentEngine (pool s) (s .args .party) (s .args .words) (s .pre .1) (i .if1 .left)
     (empty-missing (now (s .args .table)) (sym (m .empty-slot .ensures) ∙ d .before .enum-told .given .1)))
 
 no-effect-requires-3 : tie.Need-no-effect-requires-3
@@ -155,8 +155,8 @@ returns-3 c =
     let slot = sym (m .empty-slot .ensures) ∙ k .slot .given .1 in
     grant-refused (s .args .head) (s .args .s) (now (s .args .arena)) (now (s .args .table)) (now (s .args .index))
     (c .with-places3 .result) (d .no-effect3 .result) _ 4 (c .with-places3 .ensures)
-    (d .no-effect3 .ensures) refl refl (s .args .words)
-    (ask-four segmentEngine (pool s) (s .args .words) (i .if1 .left)
+    (d .no-effect3 .ensures) refl refl (s .args .party) (s .args .words)
+    (ask-four segmentEngine (pool s) (s .args .party) (s .args .words) (s .pre .1) (i .if1 .left)
     (empty-found (now (s .args .table)) (k .slot .given .0 .0) slot .1) (eq-eqb _ _ (d .before .if2 .taken)))
 
 ranged-requires : tie.Need-ranged-requires
@@ -166,7 +166,7 @@ segments-of-requires : tie.Need-segments-of-requires
 segments-of-requires c κs =
     let s = c .before .before .before .before .before .before .before .before .before .before .before in
     let range = sound-range (s .args .s) (s .args .head) (now (s .args .arena)) (now (s .args .table))
-    (now (s .args .index)) (s .pre) in
+    (now (s .args .index)) (s .pre .0) in
     (range .power, range .most)
 
 add-search : tie.Need-add-search
@@ -214,8 +214,8 @@ returns-4 c =
     (l .search .result) (found l) (d .before .if3 .taken) in
     grant-refused (s .args .head) (s .args .s) (now (s .args .arena)) (now (s .args .table)) (now (s .args .index))
     (c .with-places4 .result) (d .no-effect4 .result) _ 5 (c .with-places4 .ensures)
-    (d .no-effect4 .ensures) refl (none .1) (s .args .words)
-    (ask-five segmentEngine (pool s) (s .args .words) (i .if1 .left)
+    (d .no-effect4 .ensures) refl (none .1) (s .args .party) (s .args .words)
+    (ask-five segmentEngine (pool s) (s .args .party) (s .args .words) (s .pre .1) (i .if1 .left)
     (empty-found (now (s .args .table)) (k .slot .given .0 .0) slot .1) (ne-eqb _ _ (t .if2 .left))
     (fit-is (s .args .s) (s .args .head) (s .args .words) (now (s .args .arena)) (now (s .args .table))
     (now (s .args .index)) ∙ none .0))
@@ -226,7 +226,7 @@ ready : (c : tie.After-place-arg3)
     let s = l .before .before .before .before .before .before .before .before .before .before .before .before .before
     .before .before in
     Grantable (s .args .head) (s .args .s) (now (s .args .arena)) (now (s .args .table)) (now (s .args .index))
-    (s .args .words) (l .before .before .before .before .before .before .before .before .slot .given .0 .0)
+    (s .args .party) (s .args .words) (l .before .before .before .before .before .before .before .before .slot .given .0 .0)
     (l .search .result .at)
 ready c =
     let l = c .before .before .before .before in
@@ -236,7 +236,8 @@ ready c =
     let i = m .before .before in
     let s = i .before .before .before in
     record {
-      ok = s .pre;
+      ok = s .pre .0;
+      party = s .pre .1;
       ranged = l .before .before .before .before .ranged .ensures;
       size = i .if1 .left;
       empty = sym (m .empty-slot .ensures) ∙ k .slot .given .1;
@@ -276,7 +277,7 @@ returns-5 c =
           ∙ p .place .ensures,
       c .with-places5 .ensures .1 ∙ one .1
           ∙ place-places (s .args .head) (s .args .s) (now (s .args .arena)) (now (s .args .table))
-          (now (s .args .index)) (s .args .words) (k .slot .given .0 .0) (l .search .result .at) (ready a),
+          (now (s .args .index)) (s .args .party) (s .args .words) (k .slot .given .0 .0) (l .search .result .at) (ready a),
     )
 
 pub grant-spec : {M : Type 1} → statement M

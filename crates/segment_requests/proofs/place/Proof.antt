@@ -36,17 +36,18 @@ old s = recordsOf (now (s .args .table))
 
 -- the ledger with the new record
 abbrev entered : tie.Start → Ledger
-entered s = enter (row (s .args .head .next) (addressAt segmentRule (s .args .at)) (s .args .words)) (old s)
+entered s = enter (row (s .args .head .next) (addressAt segmentRule (s .args .at)) (s .args .words)
+    (s .args .party)) (old s)
 
 range : (s : tie.Start) → InRange (s .args .s) (now (s .args .arena)) (now (s .args .table)) (now (s .args .index))
 range s =
     place-range (s .args .head) (s .args .s) (now (s .args .arena)) (now (s .args .table))
-    (now (s .args .index)) (s .args .words) (s .args .slot) (s .args .at) (s .pre)
+    (now (s .args .index)) (s .args .party) (s .args .words) (s .args .slot) (s .args .at) (s .pre)
 
 inside : (s : tie.Start) → s .args .at < length (now (s .args .arena))
 inside s =
     place-inside (s .args .head) (s .args .s) (now (s .args .arena)) (now (s .args .table))
-    (now (s .args .index)) (s .args .words) (s .args .slot) (s .args .at) (s .pre)
+    (now (s .args .index)) (s .args .party) (s .args .words) (s .args .slot) (s .args .at) (s .pre)
 
 -- what is granted, in the code's own numbers
 granted-at : (c : tie.After-segments-of) → let s = c .before .before .before .before in
@@ -60,7 +61,7 @@ granted-at c =
     (Granting (old s) (entered s) (now (s .args .arena)) (now (s .args .index)) (r .count) (r .size) (s .args .at))
     (sym (c .before .span-of .ensures))
     (place-granting (s .args .head) (s .args .s) (now (s .args .arena)) (now (s .args .table))
-    (now (s .args .index)) (s .args .words) (s .args .slot) (s .args .at) (s .pre) (c .segments-of .ensures))
+    (now (s .args .index)) (s .args .party) (s .args .words) (s .args .slot) (s .args .at) (s .pre) (c .segments-of .ensures))
 
 -- what the grant leaves, in the ledger's units
 becomes : (c : tie.After-allot) → let s = c .before .before .before .before .before .before .before in
@@ -102,8 +103,8 @@ write-row-requires : tie.Need-write-row-requires
 write-row-requires c κs =
     let s = c .before .before .before .before .before .before .before .before .before .before .before in (
       place-slot (s .args .head) (s .args .s) (now (s .args .arena)) (now (s .args .table))
-          (now (s .args .index)) (s .args .words) (s .args .slot) (s .args .at) (s .pre),
-      range s .threes,
+          (now (s .args .index)) (s .args .party) (s .args .words) (s .args .slot) (s .args .at) (s .pre),
+      range s .whole,
     )
 
 same-length : tie.Need-same-length
@@ -121,20 +122,20 @@ returns c =
     let l = w .before .before .before .before .before in
     let s = l .before .before .before .before .before .before .before in
     let after = place-pool (s .args .head) (s .args .s) (now (s .args .arena)) (now (s .args .table))
-    (now (s .args .index)) (s .args .words) (s .args .slot) (s .args .at) (s .pre)
+    (now (s .args .index)) (s .args .party) (s .args .words) (s .args .slot) (s .args .at) (s .pre)
     (l .allot .last .0) (w .write-row .last .0) (l .allot .last .1 .0) (becomes l) (w .write-row .ensures) in
     let small : s .args .at + 1 < 65536 = omega (arith, inside s, range s .most) in
     let named : grantOutcome (s .args .head) (s .args .words) (s .args .at + 1)
     ≡ record {
       head = record { next = nextAfter (s .args .head .next) };
-      answer = machine.success (row (s .args .head .next) (s .args .at + 1) (s .args .words));
+      answer = machine.success (row (s .args .head .next) (s .args .at + 1) (s .args .words) (s .args .party));
     }
     = rw (div-eq-of-lt small, mod-eq-of-lt small) in
     ap (λ (o : Outcome). handed (s .args .s) o (l .allot .last .0) (w .write-row .last .0) (l .allot .last .1 .0) [])
     named
-    ∙ acted-by segmentEngine (ask (s .args .words)) (pool s) _ _
+    ∙ acted-by segmentEngine (ask (s .args .party) (s .args .words)) (pool s) _ _
     (place-answer (s .args .head) (s .args .s) (now (s .args .arena)) (now (s .args .table))
-    (now (s .args .index)) (s .args .words) (s .args .slot) (s .args .at) (s .pre))
+    (now (s .args .index)) (s .args .party) (s .args .words) (s .args .slot) (s .args .at) (s .pre))
     after
 
 pub place-spec : {M : Type 1} → statement M

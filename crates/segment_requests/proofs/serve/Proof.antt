@@ -3,10 +3,9 @@ use mathlib.Core.Path.{_∙_, sym, ap}
 use mathlib.Core.List.{[]}
 use borrow.Author.Needs.{needs}
 use denote.Ref.{now}
-use Rattle.ledger.specs.Records.{vacate}
 use Rattle.calls.specs.Pool.{Pool}
 use Rattle.segment_check.specs.Gate.{segmentPool}
-use Rattle.calls.specs.Step.{bad}
+use Rattle.calls.specs.Step.{bad, partied}
 use Rattle.call_parts.specs.declared.Request.{Request}
 use Rattle.call_parts.specs.Parts.{actOf}
 use Rattle.call_parts.specs.Results.{acted}
@@ -26,7 +25,10 @@ enum-known-request : tie.Need-enum-known-request
 enum-known-request c = search needs
 
 grant-requires : tie.Need-grant-requires
-grant-requires c κs = c .before .before .before .before .before .before .before .before .pre
+grant-requires c κs =
+    let m = c .before .before .before .before in
+    let s = m .before .before .before .before in
+    (s .pre .0, ap (λ (y : Request). partied (actOf y)) (sym (m .request .given .1)) ∙ s .pre .1)
 
 outcome-of-grant-requires : tie.Need-outcome-of-grant-requires
 outcome-of-grant-requires c κs = search needs
@@ -35,7 +37,7 @@ enum-known-request-2 : tie.Need-enum-known-request-2
 enum-known-request-2 c = search needs
 
 vacate-requires : tie.Need-vacate-requires
-vacate-requires c κs = c .before .before .before .before .before .before .before .before .pre
+vacate-requires c κs = c .before .before .before .before .before .before .before .before .pre .0
 
 outcome-of-release-requires : tie.Need-outcome-of-release-requires
 outcome-of-release-requires c κs = search needs

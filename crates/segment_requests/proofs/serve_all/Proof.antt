@@ -18,14 +18,14 @@ use Rattle.segment_requests.proofs.serve_all.Statement.{statement}
 use Rattle.segment_requests.proofs.serve_all.Tie as tie
 
 abbrev Inv-loop : tie.InvT-loop
-Inv-loop s arena₀ table₀ index₀ asked answers₀ after₀ i₀ arena table index answers after i =
+Inv-loop s arena₀ table₀ index₀ party asked answers₀ after₀ i₀ arena table index answers after i =
     (length arena ≡ length arena₀) × (length table ≡ length table₀) × (length index ≡ length index₀)
     × (4 * i ≤ length asked) × (sound segmentEngine (segmentPool s after arena table index) ≡ true)
-    × Running segmentEngine (segmentPool s after₀ arena₀ table₀ index₀) asked answers₀ i
+    × Running segmentEngine (segmentPool s after₀ arena₀ table₀ index₀) party asked answers₀ i
     (segmentPool s after arena table index) answers
 
 abbrev μ-loop : tie.MeasureT-loop
-μ-loop s arena₀ table₀ index₀ asked answers₀ after₀ i₀ arena table index answers after i = length asked / 4 - i
+μ-loop s arena₀ table₀ index₀ party asked answers₀ after₀ i₀ arena table index answers after i = length asked / 4 - i
 
 abbrev pool : tie.Start Inv-loop μ-loop → Pool
 pool s =
@@ -38,15 +38,15 @@ loop-holds c =
       refl,
       refl,
       omega arith,
-      s .pre .0,
-      list-start segmentEngine (pool s) (now (s .args .asked)) (now (s .args .answers)),
+      s .pre .0 .0,
+      list-start segmentEngine (pool s) (s .args .party) (now (s .args .asked)) (now (s .args .answers)),
     )
 
 serve-at-requires : tie.Need-serve-at-requires Inv-loop μ-loop
 serve-at-requires c κs =
     let l = c .before .before .before .before .before in
     let s = l .before .before .before .before .before in
-    (l .loop .inv .4, (omega arith, omega (arith, l .loop .inv .5 .size, s .pre .1 .1)))
+    ((l .loop .inv .4, s .pre .0 .1), (omega arith, omega (arith, l .loop .inv .5 .size, s .pre .1 .1)))
 
 add-i : tie.Need-add-i Inv-loop μ-loop
 add-i c = omega arith
@@ -70,9 +70,9 @@ loop-again c =
       d .serve-at .kept .1 .1 .1 .0 ∙ x .inv .1,
       d .serve-at .kept .1 .1 .1 .1 .0 ∙ x .inv .2,
       omega arith,
-      acted-sound segmentEngine segment-laws q (requestAt rs (x .i)) q′ e (x .inv .4),
-      list-next segmentEngine (pool s) rs (now (s .args .answers)) (x .i) q q′ (x .answers)
-          (d .serve-at .last .1 .1 .1 .1 .1 .1 .0) (omega arith) (omega (arith, v .size, s .pre .1 .1)) e
+      acted-sound segmentEngine segment-laws q (requestAt (s .args .party) rs (x .i)) q′ e (x .inv .4),
+      list-next segmentEngine (pool s) (s .args .party) rs (now (s .args .answers)) (x .i) q q′ (x .answers)
+          (d .serve-at .last .1 .1 .1 .1 .1 .1 .1 .0) (omega arith) (omega (arith, v .size, s .pre .1 .1)) e
           (d .serve-at .ensures .1) v,
     )
 
@@ -93,7 +93,7 @@ returns c =
     let x = c .before .loop in
     let s = c .before .before .before .before .before .before in
     let (a, b) =
-    list-end segmentEngine (pool s) (now (s .args .asked)) (now (s .args .answers)) (x .i)
+    list-end segmentEngine (pool s) (s .args .party) (now (s .args .asked)) (now (s .args .answers)) (x .i)
     (segmentPool (s .args .s) (x .after) (x .arena) (x .table) (x .index)) (x .answers)
     (omega (arith, s .pre .1 .0)) (x .inv .5) in
     ap₂ (λ (y : Pool) (z : Words). (y, z)) a b

@@ -5,7 +5,8 @@ use denote.Ref.{now}
 use Rattle.calls.specs.declared.Answer.{Answer}
 use Rattle.calls.specs.Pool.{Pool}
 use Rattle.segment_check.specs.Gate.{segmentPool}
-use Rattle.calls.specs.Step.{Act}
+use Rattle.calls.specs.Step.{Act, partied}
+use Rattle.call_parts.proofs.ListLaws.{listed-partied}
 use Rattle.call_parts.specs.Parts.{withAnswer}
 use Rattle.calls.specs.Engines.{segmentEngine}
 use Rattle.call_parts.specs.Results.{Result, acted}
@@ -20,7 +21,13 @@ request-at-requires : tie.Need-request-at-requires
 request-at-requires c κs = c .before .before .before .before .pre .1 .0
 
 serve-requires : tie.Need-serve-requires
-serve-requires c κs = c .before .before .before .before .before .before .before .before .pre .0
+serve-requires c κs =
+    let q = c .before .before .before in
+    let s = q .before .before .before .before .before in (
+      s .pre .0 .0,
+      ap partied (q .request-at .ensures)
+          ∙ listed-partied (s .args .party) (now (s .args .asked)) (s .args .i) (s .pre .0 .1),
+    )
 
 put-answer-requires : tie.Need-put-answer-requires
 put-answer-requires c κs =

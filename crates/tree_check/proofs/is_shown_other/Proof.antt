@@ -4,12 +4,15 @@ use borrow.Author.Needs.{needs}
 use Rattle.tree_check.proofs.is_shown_other.Statement.{statement}
 use Rattle.tree_check.proofs.is_shown_other.Tie as tie
 
+slot-count-requires : tie.Need-slot-count-requires
+slot-count-requires c κs = search needs
+
 cell-count-requires : tie.Need-cell-count-requires
 cell-count-requires c κs = search needs
 
 is-shown-middle-requires : tie.Need-is-shown-middle-requires
 is-shown-middle-requires c κs =
-    let s = c .before .before .before .before .before in
+    let s = c .before .before .before .before .before .before in
     (s .pre .0, omega (arith, c .before .before .cell-count .ensures), s .pre .1)
 
 returns : tie.Need-returns
@@ -17,28 +20,28 @@ returns c = c .is-shown-middle .ensures
 
 is-shown-busy-requires : tie.Need-is-shown-busy-requires
 is-shown-busy-requires c κs =
-    let s = c .before .before .before .before .before in
+    let s = c .before .before .before .before .before .before in
     (s .pre .0, omega (arith, c .before .before .cell-count .ensures), s .pre .1)
 
 returns-2 : tie.Need-returns-2
 returns-2 c = c .is-shown-busy .ensures
 
 is-shown-sparse-requires : tie.Need-is-shown-sparse-requires
-is-shown-sparse-requires c κs = let s = c .before .before .before .before .before in (s .pre .0, omega arith)
+is-shown-sparse-requires c κs = let s = c .before .before .before .before .before .before in (s .pre .0, omega (arith, c .before .before .before .slot-count .ensures))
 
 returns-3 : tie.Need-returns-3
 returns-3 c = c .is-shown-sparse .ensures
 
 is-shown-large-requires : tie.Need-is-shown-large-requires
 is-shown-large-requires c κs =
-    let s = c .before .before .before .before .before .before in
+    let s = c .before .before .before .before .before .before .before in
     (s .pre .0, omega (arith, c .before .before .before .cell-count .ensures), s .pre .1)
 
 returns-4 : tie.Need-returns-4
 returns-4 c = c .is-shown-large .ensures
 
 is-shown-vast-requires : tie.Need-is-shown-vast-requires
-is-shown-vast-requires c κs = c .before .before .before .before .before .before .pre
+is-shown-vast-requires c κs = c .before .before .before .before .before .before .before .pre
 
 returns-5 : tie.Need-returns-5
 returns-5 c = c .is-shown-vast .ensures
@@ -47,6 +50,7 @@ pub is-shown-other-spec : {M : Type 1} → statement M
 is-shown-other-spec =
     tie.close
     (tie.spec
+    slot-count-requires
     cell-count-requires
     is-shown-middle-requires
     returns

@@ -34,6 +34,9 @@ returns c =
 cell-count-requires : tie.Need-cell-count-requires
 cell-count-requires c κs = search needs
 
+slot-count-requires : tie.Need-slot-count-requires
+slot-count-requires c κs = search needs
+
 add-allowed : tie.Need-add-allowed
 add-allowed c = search needs
 
@@ -46,13 +49,13 @@ low s = cells-low (formOf (s .args .head .form)) (now (s .args .arena)) (s .pre 
 
 add-walk-all : tie.Need-add-walk-all
 add-walk-all c =
-    let n = c .before .before in
+    let n = c .before .before .before in
     let s = n .before .before .before .before .before .before .before .before .before .before .before .before .before in
     omega (arith, n .cell-count .ensures, low s)
 
 walk-all-requires : tie.Need-walk-all-requires
 walk-all-requires c κs =
-    let r = c .before .before .before .before .before .before .before .before .before in
+    let r = c .before .before .before .before .before .before .before .before .before .before in
     let s = r .before .before .before .before .before .before .before in
     let same = r .map-rows .kept .1 .1 .1 .1 .0 in (
       record {
@@ -73,14 +76,14 @@ same-length-4 c = search needs
 returns-2 : tie.Need-returns-2
 returns-2 c =
     let w = c .before in
-    let n = w .before .before .before .before in
+    let n = w .before .before .before .before .before in
     let r = n .before .before .before .before .before .before in
     let s = r .before .before .before .before .before .before .before in (
       λ e. absurd (false≢true e),
       λ shown.
           let mapped = r .map-rows .ensures .0 (n .before .if1 .left) in
           let last = end-low (s .args .head) (now (s .args .arena)) (s .pre .0 .2) _ _ _ mapped shown
-          (limit-is (n .cell-count .ensures) (w .walk-all .ensures .1)) in
+          (limit-is (n .cell-count .ensures) (w .before .before .before .before .slot-count .ensures) (w .walk-all .ensures .1)) in
           absurd (omega (arith, n .cell-count .ensures)),
     )
 
@@ -89,7 +92,7 @@ cells-per-unit-requires c κs = search needs
 
 mul-known : tie.Need-mul-known
 mul-known c =
-    let n = c .before .before .before .before .before .before in
+    let n = c .before .before .before .before .before .before .before in
     let s = n .before .before .before .before .before .before .before .before .before .before .before .before .before in
     let held = n .before .if1 .left in
     let few = s .pre .0 .1 in
@@ -99,7 +102,7 @@ mul-known c =
 add-known : tie.Need-add-known
 add-known c =
     let w = c .before .before in
-    let n = w .before .before .before .before in
+    let n = w .before .before .before .before .before in
     let s = n .before .before .before .before .before .before .before .before .before .before .before .before .before in
     let found = w .walk-all .ensures .0 (omega (arith, n .cell-count .ensures, c .before .if2 .left)) in
     let few = found .few in
@@ -111,7 +114,7 @@ add-known c =
 
 leads-to-requires : tie.Need-leads-to-requires
 leads-to-requires c κs =
-    let n = c .before .before .before .before .before .before .before in
+    let n = c .before .before .before .before .before .before .before .before in
     let r = n .before .before .before .before .before .before in
     let s = r .before .before .before .before .before .before .before in
     let same = r .map-rows .kept .1 .1 .1 .1 .0 in (
@@ -128,13 +131,13 @@ same-length-6 c = search needs
 returns-3 : tie.Need-returns-3
 returns-3 c =
     let w = c .before .before .before .before in
-    let n = w .before .before .before .before in
+    let n = w .before .before .before .before .before in
     let r = n .before .before .before .before .before .before in
     let s = r .before .before .before .before .before .before .before in
     let is = n .cell-count .ensures in
     both-say (s .args .head) (now (s .args .arena)) (s .pre .0 .2) (now (s .args .table)) (c .leads-to .result) is
     (c .before .before .cells-per-unit .ensures) (r .map-rows .ensures .0 (n .before .if1 .left))
-    (w .walk-all .ensures .0 (omega (arith, is, c .before .before .before .if2 .left))) (limit-is is (w .walk-all .ensures .1))
+    (w .walk-all .ensures .0 (omega (arith, is, c .before .before .before .if2 .left))) (limit-is is (w .before .before .before .before .slot-count .ensures) (w .walk-all .ensures .1))
     (c .leads-to .ensures)
 
 pub is-shown-over-spec : {M : Type 1} → statement M
@@ -146,6 +149,7 @@ is-shown-over-spec =
     same-length-2
     returns
     cell-count-requires
+    slot-count-requires
     add-allowed
     cast-walk-all
     add-walk-all

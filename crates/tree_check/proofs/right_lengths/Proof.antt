@@ -9,6 +9,9 @@ use Rattle.tree_check.proofs.GateLaws.{lengths-are}
 use Rattle.tree_check.proofs.right_lengths.Statement.{statement}
 use Rattle.tree_check.proofs.right_lengths.Tie as tie
 
+slot-count-requires : tie.Need-slot-count-requires
+slot-count-requires c κs = search needs
+
 is-form-requires : tie.Need-is-form-requires
 is-form-requires c κs = search needs
 
@@ -17,11 +20,12 @@ is-range-requires c κs = search needs
 
 returns : tie.Need-returns
 returns c h e =
-    let a = c .before .before .before .before .args in
+    let a = c .before .before .before .before .before .args in
     let m = now (a .arena) in
     lengths-are h m (now (a .table)) (c .before .is-form .result) (c .is-range .result)
+    (c .before .before .slot-count .result)
     (c .before .is-form .ensures ∙ ap isForm (sym e))
-    (c .is-range .ensures ∙ ap (λ f. treeRange (formOf f) (length m)) (sym e))
+    (c .is-range .ensures ∙ ap (λ f. treeRange (formOf f) (length m)) (sym e)) (c .before .before .slot-count .ensures)
 
 pub right-lengths-spec : {M : Type 1} → statement M
-right-lengths-spec = tie.close (tie.spec is-form-requires is-range-requires returns)
+right-lengths-spec = tie.close (tie.spec slot-count-requires is-form-requires is-range-requires returns)

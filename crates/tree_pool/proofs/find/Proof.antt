@@ -2,16 +2,17 @@
 use mathlib.Core.Path.{_∙_, sym, ap, refl}
 use borrow.Author.Needs.{needs}
 use denote.Ref.{now}
-use Rattle.calls.specs.Step.{Outcome, find}
+use Rattle.calls.specs.Step.{find, poolNumber}
 use Rattle.calls.specs.Engines.{treeEngine}
-use Rattle.calls.proofs.GateLaws.{gate-refuses, gate-opens}
+use Rattle.call_parts.specs.Results.{Result}
 use Rattle.call_parts.proofs.FindLaws.{find-slot, find-refused}
+use Rattle.call_parts.proofs.ResultLaws.{gate-result, gate-passed}
 use Rattle.tree_check.specs.Gate.{treePool}
 use Rattle.tree_pool.proofs.find.Statement.{statement}
 use Rattle.tree_pool.proofs.find.Tie as tie
 
-gate-number-requires : tie.Need-gate-number-requires
-gate-number-requires c κs = search needs
+gate-for-requires : tie.Need-gate-for-requires
+gate-for-requires c κs = search needs
 
 refused-requires : tie.Need-refused-requires
 refused-requires c κs = search needs
@@ -22,9 +23,9 @@ returns c =
     let s = g .before .before .before in
     let p = treePool (s .args .head) (now (s .args .arena)) (now (s .args .table)) in
     c .refused .ensures
-    ∙ sym (ap (λ (o : Outcome). o .answer)
-    (gate-refuses treeEngine p (g .gate-number .result) (g .gate-number .ensures) (c .before .if1 .taken)
-    (find (s .args .named)) refl refl))
+    ∙ ap (λ (l : Result). l .answer)
+    (gate-result treeEngine p (poolNumber treeEngine p) (s .args .named .party) (g .gate-for .result) refl
+    (g .gate-for .ensures) (c .before .if1 .taken) (find (s .args .named)) refl refl refl)
 
 named-slot-requires : tie.Need-named-slot-requires
 named-slot-requires c κs = search needs
@@ -47,9 +48,10 @@ returns-2 c =
     let g = n .before .before in
     let s = g .before .before .before in
     let p = treePool (s .args .head) (now (s .args .arena)) (now (s .args .table)) in
-    let ok = gate-opens treeEngine p (g .gate-number .result) (g .gate-number .ensures) (n .before .if1 .left) in
+    let (ok, partied) = gate-passed treeEngine p (poolNumber treeEngine p) (s .args .named .party) (g .gate-for .result)
+    refl (g .gate-for .ensures) (n .before .if1 .left) in
     let t = c .before .enum-told .given in
-    c .succeeded .ensures ∙ sym (find-slot treeEngine p (s .args .named) ok (t .0 .0)
+    c .succeeded .ensures ∙ sym (find-slot treeEngine p (s .args .named) ok partied (t .0 .0)
     (sym (n .named-slot .ensures) ∙ t .1))
 
 returns-3 : tie.Need-returns-3
@@ -58,16 +60,17 @@ returns-3 c =
     let g = n .before .before in
     let s = g .before .before .before in
     let p = treePool (s .args .head) (now (s .args .arena)) (now (s .args .table)) in
-    let ok = gate-opens treeEngine p (g .gate-number .result) (g .gate-number .ensures) (n .before .if1 .left) in
+    let (ok, partied) = gate-passed treeEngine p (poolNumber treeEngine p) (s .args .named .party) (g .gate-for .result)
+    refl (g .gate-for .ensures) (n .before .if1 .left) in
     let t = c .before .before .n .given in
-    c .refused2 .ensures ∙ sym (find-refused treeEngine p (s .args .named) ok (t .0 .0)
+    c .refused2 .ensures ∙ sym (find-refused treeEngine p (s .args .named) ok partied (t .0 .0)
     (sym (n .named-slot .ensures) ∙ t .1))
 
 pub find-spec : {M : Type 1} → statement M
 find-spec =
     tie.close
     (tie.spec
-    gate-number-requires
+    gate-for-requires
     refused-requires
     returns
     named-slot-requires

@@ -6,10 +6,10 @@ use borrow.Author.Tests.{not-true, not-false}
 use denote.Ref.{now}
 use mathlib.Core.List.{[], _∷_}
 use Rattle.calls.specs.Pool.{Pool}
-use Rattle.calls.specs.Step.{list, listSuits}
+use Rattle.calls.specs.Step.{list, listSuits, poolNumber}
 use Rattle.calls.specs.Engines.{treeEngine}
-use Rattle.calls.proofs.GateLaws.{gate-opens}
-use Rattle.call_parts.proofs.ResultLaws.{gate-result, unknown-result, unsuited-result, list-result}
+use Rattle.call_parts.proofs.ResultLaws.{gate-result, gate-passed, unknown-result, unsuited-result}
+use Rattle.call_parts.proofs.ResultLaws.{list-result}
 use Rattle.call_parts.specs.Results.{Result}
 use Rattle.call_parts.proofs.WholeLists.{suited-lengths}
 use Rattle.tree_requests.specs.declared.Outcome.{Outcome}
@@ -44,7 +44,7 @@ returns c =
     let k = c .before .before in
     let s = k .before .before .before .before .before in
     ap (same s) (c .refused-with .ensures)
-    ∙ unknown-result treeEngine (lent s) (now (s .args .asked)) (now (s .args .answers))
+    ∙ unknown-result treeEngine (lent s) (s .args .party) (now (s .args .asked)) (now (s .args .answers))
     (sym (k .is-form .ensures) ∙ not-true (k .is-form .result) (c .before .if1 .taken))
 
 list-suits-requires : tie.Need-list-suits-requires
@@ -64,12 +64,12 @@ returns-2 c =
     let k = f .before in
     let s = k .before .before .before .before .before in
     ap (same s) (c .refused-with2 .ensures)
-    ∙ unsuited-result treeEngine (lent s) (now (s .args .asked)) (now (s .args .answers))
+    ∙ unsuited-result treeEngine (lent s) (s .args .party) (now (s .args .asked)) (now (s .args .answers))
     (sym (k .is-form .ensures) ∙ not-false (k .is-form .result) (f .if1 .left))
     (sym (u .list-suits .ensures) ∙ not-true (u .list-suits .result) (c .before .if2 .taken))
 
-gate-number-requires : tie.Need-gate-number-requires
-gate-number-requires c κs = search needs
+gate-for-requires : tie.Need-gate-for-requires
+gate-for-requires c κs = search needs
 
 refused-with-requires-3 : tie.Need-refused-with-requires-3
 refused-with-requires-3 c κs = search needs
@@ -89,8 +89,9 @@ returns-3 c =
     let f = g .before .before .before in
     let s = f .before .before .before .before .before .before .before .before .before in
     ap (same s) (c .refused-with3 .ensures)
-    ∙ gate-result treeEngine (lent s) (g .gate-number .result) (g .gate-number .ensures) (c .before .if3 .taken)
-    (list (now (s .args .asked)) (now (s .args .answers))) refl (suits f)
+    ∙ gate-result treeEngine (lent s) (poolNumber treeEngine (lent s)) (s .args .party) (g .gate-for .result) refl
+    (g .gate-for .ensures) (c .before .if3 .taken)
+    (list (s .args .party) (now (s .args .asked)) (now (s .args .answers))) refl (suits f) refl
 
 serve-all-requires : tie.Need-serve-all-requires
 serve-all-requires c κs =
@@ -98,7 +99,8 @@ serve-all-requires c κs =
     let g = e .before in
     let f = g .before .before .before in
     let s = f .before .before .before .before .before .before .before .before .before in (
-      gate-opens treeEngine (lent s) (g .gate-number .result) (g .gate-number .ensures) (e .if3 .left),
+      gate-passed treeEngine (lent s) (poolNumber treeEngine (lent s)) (s .args .party) (g .gate-for .result) refl
+          (g .gate-for .ensures) (e .if3 .left),
       suited-lengths (now (s .args .asked)) (now (s .args .answers)) (suits f),
     )
 
@@ -121,10 +123,12 @@ returns-4 c =
     let g = e .before in
     let f = g .before .before .before in
     let s = f .before .before .before .before .before .before .before .before .before in
-    let ok = gate-opens treeEngine (lent s) (g .gate-number .result) (g .gate-number .ensures) (e .if3 .left) in
-    list-result treeEngine (lent s) (now (s .args .asked)) (now (s .args .answers)) (suits f) ok (c .succeeded .result)
+    let (ok, partied) = gate-passed treeEngine (lent s) (poolNumber treeEngine (lent s)) (s .args .party)
+    (g .gate-for .result) refl (g .gate-for .ensures) (e .if3 .left) in
+    list-result treeEngine (lent s) (s .args .party) (now (s .args .asked)) (now (s .args .answers)) (suits f) ok partied
+    (c .succeeded .result)
     (treePool (d .serve-all .result) (d .serve-all .last .1 .0) (d .serve-all .last .1 .1 .0))
-    (d .serve-all .last .1 .1 .1 .1 .0) (c .succeeded .ensures) (d .serve-all .ensures)
+    (d .serve-all .last .1 .1 .1 .1 .1 .0) (c .succeeded .ensures) (d .serve-all .ensures)
 
 pub list-spec : {M : Type 1} → statement M
 list-spec =
@@ -137,7 +141,7 @@ list-spec =
     refused-with-requires-2
     same-length
     returns-2
-    gate-number-requires
+    gate-for-requires
     refused-with-requires-3
     same-length-2
     same-length-3

@@ -85,7 +85,7 @@ write-row-requires c κs =
       release-slot (s .args .head) (now (s .args .arena)) (now (s .args .table)) (s .args .named) (s .args .slot)
           (s .pre .0) (s .pre .1),
       release-range (s .args .head) (now (s .args .arena)) (now (s .args .table)) (s .args .named) (s .args .slot)
-          (s .pre .0) (s .pre .1) .threes,
+          (s .pre .0) (s .pre .1) .fours,
     )
 
 effect-requires : tie.Need-effect-requires

@@ -56,8 +56,8 @@ returns c =
     let n = s .args .words in
     let p = treePool (s .args .head) (now (s .args .arena)) (now (s .args .table)) in
     grant-refused (s .args .head) (now (s .args .arena)) (now (s .args .table)) (c .no-effect .result) 2
-    (c .no-effect .ensures) refl n
-    (ask-two treeEngine p n
+    (c .no-effect .ensures) refl (s .args .party) n
+    (ask-two treeEngine p (s .args .party) n (s .pre .1)
     (ap (λ (x : ℕ). eqb n 0 || ltb x n) (sym (l .limit-of .ensures)) ∙ c .before .if1 .taken))
 
 empty-slot-requires : tie.Need-empty-slot-requires
@@ -83,8 +83,8 @@ returns-2 c =
     let s = i .before .before .before .before in
     let p = treePool (s .args .head) (now (s .args .arena)) (now (s .args .table)) in
     grant-refused (s .args .head) (now (s .args .arena)) (now (s .args .table)) (c .no-effect2 .result) 3
-    (c .no-effect2 .ensures) refl (s .args .words)
-    (ask-three treeEngine p (s .args .words) (size i)
+    (c .no-effect2 .ensures) refl (s .args .party) (s .args .words)
+    (ask-three treeEngine p (s .args .party) (s .args .words) (s .pre .1) (size i)
     (empty-missing (now (s .args .table)) (sym (m .empty-slot .ensures) ∙ c .before .enum-told .given .1)))
 
 no-effect-requires-3 : tie.Need-no-effect-requires-3
@@ -103,8 +103,8 @@ returns-3 c =
     let p = treePool (s .args .head) (now (s .args .arena)) (now (s .args .table)) in
     let found = sym (m .empty-slot .ensures) ∙ v .slot .given .1 in
     grant-refused (s .args .head) (now (s .args .arena)) (now (s .args .table)) (c .no-effect3 .result) 4
-    (c .no-effect3 .ensures) refl (s .args .words)
-    (ask-four treeEngine p (s .args .words) (size i)
+    (c .no-effect3 .ensures) refl (s .args .party) (s .args .words)
+    (ask-four treeEngine p (s .args .party) (s .args .words) (s .pre .1) (size i)
     (empty-found (now (s .args .table)) (v .slot .given .0 .0) found .1)
     (eq-eqb _ _ (c .before .if2 .taken)))
 
@@ -130,7 +130,7 @@ leftmost-fit-requires c κs =
     let h = s .args .head in
     let a = now (s .args .arena) in
     let t = now (s .args .table) in
-    (treeOf (freeCells (formOf (h .form)) (length a) (recordsOf t)), sound-lies h a t (s .pre) .tree)
+    (treeOf (freeCells (formOf (h .form)) (length a) (recordsOf t)), sound-lies h a t (s .pre .0) .tree)
 
 no-effect-requires-4 : tie.Need-no-effect-requires-4
 no-effect-requires-4 c κs = search needs
@@ -154,10 +154,10 @@ returns-4 c =
     let p = treePool h (now (s .args .arena)) (now (s .args .table)) in
     let found = sym (m .empty-slot .ensures) ∙ v .slot .given .1 in
     grant-refused h (now (s .args .arena)) (now (s .args .table)) (c .no-effect4 .result) 5
-    (c .no-effect4 .ensures) refl (s .args .words)
-    (ask-five treeEngine p (s .args .words) (size i)
+    (c .no-effect4 .ensures) refl (s .args .party) (s .args .words)
+    (ask-five treeEngine p (s .args .party) (s .args .words) (s .pre .1) (size i)
     (empty-found (now (s .args .table)) (v .slot .given .0 .0) found .1) (ne-eqb _ _ (k .before .if2 .left))
-    (none-fits h (now (s .args .arena)) (now (s .args .table)) (s .pre) (s .args .words)
+    (none-fits h (now (s .args .arena)) (now (s .args .table)) (s .pre .0) (s .args .words)
     (l .leftmost-fit .result .at) (some-units (h .form) (s .args .words) (size i)) (fit l) (c .before .if3 .taken)))
 
 place-requires : tie.Need-place-requires
@@ -169,7 +169,8 @@ place-requires c κs =
     let i = m .before .before in
     let s = i .before .before .before .before in
     record {
-      ok = s .pre;
+      ok = s .pre .0;
+      party = s .pre .1;
       size = size i;
       empty = sym (m .empty-slot .ensures) ∙ v .slot .given .1;
       ticket = k .before .if2 .left;

@@ -1,7 +1,7 @@
 -- `tree_requests::outcome_of_grant` meets its contract: its test is the one in `grantOutcome`. Assumes nothing.
 use borrow.Author.Needs.{needs}
 use borrow.Author.Tests.{eq-eqb, ne-eqb}
-use Rattle.tree_requests.specs.Outcomes.{effectRoot}
+use Rattle.tree_requests.specs.Outcomes.{effectRoot, effectAddress}
 use Rattle.tree_requests.proofs.outcome_of_grant.Statement.{statement}
 use Rattle.tree_requests.proofs.outcome_of_grant.Tie as tie
 
@@ -17,23 +17,20 @@ returns c = rw (ne-eqb _ _ (c .before .if1 .taken)) (c .refused-with .ensures)
 cast-t8 : tie.Need-cast-t8
 cast-t8 c = search needs
 
-cast-t8-2 : tie.Need-cast-t8-2
-cast-t8-2 c = search needs
-
 next-after-requires : tie.Need-next-after-requires
 next-after-requires c κs = search needs
 
-succeeded-requires : tie.Need-succeeded-requires
-succeeded-requires c κs = search needs
+cast-t12 : tie.Need-cast-t12
+cast-t12 c = search needs
 
 returns-2 : tie.Need-returns-2
 returns-2 c =
-    let n = c .before in
-    let t = n .before in
+    let t = c .before in
+    let a = t .before .args in
     rw (eq-eqb _ _ (t .if1 .left))
     (λ i. record {
-      head = record { root = effectRoot (t .before .args .done); next = n .next-after .ensures i; form = t .before .args .head .form };
-      answer = c .succeeded .ensures i;
+      head = record { root = effectRoot (a .done); next = c .next-after .ensures i; form = a .head .form };
+      answer = record { number = 0; ticket = a .head .next; address = effectAddress (a .done); words = a .words };
     })
 
 pub outcome-of-grant-spec : {M : Type 1} → statement M
@@ -44,7 +41,6 @@ outcome-of-grant-spec =
     refused-with-requires
     returns
     cast-t8
-    cast-t8-2
     next-after-requires
-    succeeded-requires
+    cast-t12
     returns-2)

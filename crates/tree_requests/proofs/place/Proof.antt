@@ -28,11 +28,11 @@ use Rattle.tree_requests.proofs.place.Statement.{statement}
 use Rattle.tree_requests.proofs.place.Tie as tie
 
 range : (s : tie.Start) → InRange (formOf (s .args .head .form)) (now (s .args .arena)) (now (s .args .table))
-range s = place-range (s .args .head) (now (s .args .arena)) (now (s .args .table)) (s .args .words) (s .args .slot)
+range s = place-range (s .args .head) (now (s .args .arena)) (now (s .args .table)) (s .args .party) (s .args .words) (s .args .slot)
     (s .args .block) (s .args .father) (s .pre)
 
 inside : (s : tie.Start) → s .args .block - 1 < cells (formOf (s .args .head .form)) (now (s .args .arena))
-inside s = place-inside (s .args .head) (now (s .args .arena)) (now (s .args .table)) (s .args .words) (s .args .slot)
+inside s = place-inside (s .args .head) (now (s .args .arena)) (now (s .args .table)) (s .args .party) (s .args .words) (s .args .slot)
     (s .args .block) (s .args .father) (s .pre)
 
 -- the arena has no more words than any form's
@@ -72,7 +72,7 @@ take-cells-requires c κs =
     (λ (x : ℕ). Takeable (formOf (s .args .head .form)) (now (s .args .arena)) (s .args .head .root) (s .args .block)
     (s .args .father) x)
     (sym (k .cells-of .ensures))
-    (place-takes (s .args .head) (now (s .args .arena)) (now (s .args .table)) (s .args .words) (s .args .slot)
+    (place-takes (s .args .head) (now (s .args .arena)) (now (s .args .table)) (s .args .party) (s .args .words) (s .args .slot)
     (s .args .block) (s .args .father) (s .pre))
 
 sub-first-word : tie.Need-sub-first-word
@@ -90,9 +90,9 @@ cast-address c = omega (arith, c .first-word .ensures, first-low (c .before .bef
 write-row-requires : tie.Need-write-row-requires
 write-row-requires c κs =
     let s = c .before .before .before .before .before .before .before .before .before .before in (
-      place-slot (s .args .head) (now (s .args .arena)) (now (s .args .table)) (s .args .words) (s .args .slot)
+      place-slot (s .args .head) (now (s .args .arena)) (now (s .args .table)) (s .args .party) (s .args .words) (s .args .slot)
           (s .args .block) (s .args .father) (s .pre),
-      range s .threes,
+      range s .fours,
     )
 
 effect-requires : tie.Need-effect-requires
@@ -100,7 +100,7 @@ effect-requires c κs =
     let d = c .before .before .before .before in
     let t = d .before .before .before in
     let s = t .before .before .before .before .before .before in (
-      place-root (s .args .head) (now (s .args .arena)) (now (s .args .table)) (s .args .words) (s .args .slot)
+      place-root (s .args .head) (now (s .args .arena)) (now (s .args .table)) (s .args .party) (s .args .words) (s .args .slot)
           (s .args .block) (s .args .father) (s .pre) (t .take-cells .last .1 .0) (now (s .args .table))
           (t .take-cells .result) (taken t),
       omega (arith, d .first-word .ensures, first-low s, few s),
@@ -121,18 +121,19 @@ returns c =
     let h = s .args .head in
     let a = now (s .args .arena) in
     let u = now (s .args .table) in
+    let x = s .args .party in
     let n = s .args .words in
     let e = d .first-word .ensures in
     let (number, root, address) = c .effect .ensures in
-    let q = place-pool h a u n (s .args .slot) (s .args .block) (s .args .father) (s .pre)
+    let q = place-pool h a u x n (s .args .slot) (s .args .block) (s .args .father) (s .pre)
     (t .take-cells .last .1 .0) (w .write-row .last .0) (t .take-cells .result) (taken t)
     (w .write-row .ensures
-    ∙ ap (λ (x : ℕ). tableOf (set (recordsOf u) (s .args .slot) (row (h .next) x n))) e) in
+    ∙ ap (λ (y : ℕ). tableOf (set (recordsOf u) (s .args .slot) (row (h .next) y n x))) e) in
     ap (λ (o : Outcome). handed o (t .take-cells .last .1 .0) (w .write-row .last .0) [])
     (granted h (c .effect .result) (t .take-cells .result) number root n (d .first-word .result) address)
-    ∙ acted-by treeEngine (ask n) (treePool h a u) _ _
-    (ap (λ (x : ℕ). success (row (h .next) x n)) e
-    ∙ place-answer h a u n (s .args .slot) (s .args .block) (s .args .father) (s .pre)) q
+    ∙ acted-by treeEngine (ask x n) (treePool h a u) _ _
+    (ap (λ (y : ℕ). success (row (h .next) y n x)) e
+    ∙ place-answer h a u x n (s .args .slot) (s .args .block) (s .args .father) (s .pre)) q
 
 pub place-spec : {M : Type 1} → statement M
 place-spec =

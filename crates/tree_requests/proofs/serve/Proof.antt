@@ -1,8 +1,9 @@
 -- `tree_requests::serve` meets its contract: each kind of request is its act. Assumes nothing.
-use mathlib.Core.Path.{_∙_, sym, ap}
+use mathlib.Core.Path.{_≡_, _∙_, sym, ap, subst}
+use mathlib.Core.Bool.{true}
 use borrow.Author.Needs.{needs}
 use denote.Ref.{now}
-use Rattle.calls.specs.Step.{bad}
+use Rattle.calls.specs.Step.{bad, partied}
 use Rattle.call_parts.specs.declared.Request.{Request}
 use Rattle.call_parts.specs.Parts.{actOf}
 use mathlib.Core.List.{[]}
@@ -20,7 +21,10 @@ enum-known-request : tie.Need-enum-known-request
 enum-known-request c = search needs
 
 grant-requires : tie.Need-grant-requires
-grant-requires c κs = c .before .before .before .before .before .before .before .pre
+grant-requires c κs =
+    let m = c .before .before .before in
+    let s = m .before .before .before .before in
+    (s .pre .0, subst (λ (x : Request). partied (actOf x) ≡ true) (m .request .given .1) (s .pre .1))
 
 outcome-of-grant-requires : tie.Need-outcome-of-grant-requires
 outcome-of-grant-requires c κs = search needs
@@ -29,7 +33,7 @@ enum-known-request-2 : tie.Need-enum-known-request-2
 enum-known-request-2 c = search needs
 
 vacate-requires : tie.Need-vacate-requires
-vacate-requires c κs = c .before .before .before .before .before .before .before .pre
+vacate-requires c κs = c .before .before .before .before .before .before .before .pre .0
 
 outcome-of-release-requires : tie.Need-outcome-of-release-requires
 outcome-of-release-requires c κs = search needs

@@ -19,25 +19,25 @@ use Rattle.tree_requests.proofs.serve_all.Statement.{statement}
 use Rattle.tree_requests.proofs.serve_all.Tie as tie
 
 abbrev Inv-loop : tie.InvT-loop
-Inv-loop arena₀ table₀ asked answers₀ after₀ i₀ arena table answers after i =
+Inv-loop arena₀ table₀ party asked answers₀ after₀ i₀ arena table answers after i =
     (length arena ≡ length arena₀) × (length table ≡ length table₀) × (4 * i ≤ length asked)
     × (sound treeEngine (treePool after arena table) ≡ true)
-    × Running treeEngine (treePool after₀ arena₀ table₀) asked answers₀ i (treePool after arena table) answers
+    × Running treeEngine (treePool after₀ arena₀ table₀) party asked answers₀ i (treePool after arena table) answers
 
 abbrev μ-loop : tie.MeasureT-loop
-μ-loop arena₀ table₀ asked answers₀ after₀ i₀ arena table answers after i = length asked / 4 - i
+μ-loop arena₀ table₀ party asked answers₀ after₀ i₀ arena table answers after i = length asked / 4 - i
 
 loop-holds : tie.Need-loop-holds Inv-loop μ-loop
 loop-holds c =
     let s = c .before .before .before .before in
     let p = treePool (s .args .head) (now (s .args .arena)) (now (s .args .table)) in
-    (refl, refl, omega arith, s .pre .0, list-start treeEngine p (now (s .args .asked)) (now (s .args .answers)))
+    (refl, refl, omega arith, s .pre .0 .0, list-start treeEngine p (s .args .party) (now (s .args .asked)) (now (s .args .answers)))
 
 serve-at-requires : tie.Need-serve-at-requires Inv-loop μ-loop
 serve-at-requires c κs =
     let l = c .before .before .before .before in
     let s = l .before .before .before .before .before in
-    (l .loop .inv .3, (omega arith, omega (arith, l .loop .inv .4 .size, s .pre .1 .1)))
+    ((l .loop .inv .3, s .pre .0 .1), (omega arith, omega (arith, l .loop .inv .4 .size, s .pre .1 .1)))
 
 add-i : tie.Need-add-i Inv-loop μ-loop
 add-i c = omega arith
@@ -60,8 +60,8 @@ loop-again c =
       d .serve-at .kept .1 .0 ∙ x .inv .0,
       d .serve-at .kept .1 .1 .0 ∙ x .inv .1,
       omega arith,
-      acted-sound treeEngine tree-laws q (requestAt rs (x .i)) q′ e (x .inv .3),
-      list-next treeEngine p rs (now (s .args .answers)) (x .i) q q′ (x .answers) (d .serve-at .last .1 .1 .1 .1 .0)
+      acted-sound treeEngine tree-laws q (requestAt (s .args .party) rs (x .i)) q′ e (x .inv .3),
+      list-next treeEngine p (s .args .party) rs (now (s .args .answers)) (x .i) q q′ (x .answers) (d .serve-at .last .1 .1 .1 .1 .1 .0)
           (omega arith) (omega (arith, v .size, s .pre .1 .1)) e (d .serve-at .ensures .1) v,
     )
 
@@ -81,7 +81,7 @@ returns c =
     let p = treePool (s .args .head) (now (s .args .arena)) (now (s .args .table)) in
     let rs = now (s .args .asked) in
     let (a, b) =
-    list-end treeEngine p rs (now (s .args .answers)) (x .i) (treePool (x .after) (x .arena) (x .table)) (x .answers)
+    list-end treeEngine p (s .args .party) rs (now (s .args .answers)) (x .i) (treePool (x .after) (x .arena) (x .table)) (x .answers)
     (omega (arith, s .pre .1 .0)) (x .inv .4) in
     ap₂ (λ (y : Pool) (z : Words). (y, z)) a b
 

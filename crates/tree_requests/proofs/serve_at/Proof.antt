@@ -1,12 +1,14 @@
 -- `tree_requests::serve_at` meets its contract: one act, and its four answer words. Assumes nothing.
 use native.Mathlib.Omega.{arith}
-use mathlib.Core.Path.{_∙_, ap}
+use mathlib.Core.Path.{_≡_, _∙_, sym, ap, subst}
+use mathlib.Core.Bool.{true}
 use borrow.Author.Needs.{needs}
 use denote.Ref.{now}
 use Rattle.calls.specs.declared.Answer.{Answer}
-use Rattle.calls.specs.Step.{Act}
+use Rattle.calls.specs.Step.{Act, partied}
 use Rattle.call_parts.specs.Parts.{requestAt, withAnswer}
 use Rattle.call_parts.specs.Results.{Result, acted}
+use Rattle.call_parts.proofs.ListLaws.{listed-partied}
 use Rattle.calls.specs.Engines.{treeEngine}
 use Rattle.tree_check.specs.Gate.{treePool}
 use Rattle.tree_requests.proofs.serve_at.Statement.{statement}
@@ -16,7 +18,13 @@ request-at-requires : tie.Need-request-at-requires
 request-at-requires c κs = let fits = c .before .before .before .before .pre .1 .0 in omega (arith, fits)
 
 serve-requires : tie.Need-serve-requires
-serve-requires c κs = c .before .before .before .before .before .before .before .pre .0
+serve-requires c κs =
+    let q = c .before .before in
+    let s = q .before .before .before .before .before in (
+      s .pre .0 .0,
+      subst (λ (x : Act). partied x ≡ true) (sym (q .request-at .ensures))
+          (listed-partied (s .args .party) (now (s .args .asked)) (s .args .i) (s .pre .0 .1)),
+    )
 
 put-answer-requires : tie.Need-put-answer-requires
 put-answer-requires c κs =

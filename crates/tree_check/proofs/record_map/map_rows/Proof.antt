@@ -23,11 +23,14 @@ use Rattle.tree_check.proofs.record_map.map_rows.Statement.{statement}
 use Rattle.tree_check.proofs.record_map.map_rows.Tie as tie
 
 abbrev Inv-loop : tie.InvT-loop
-Inv-loop form next table words map₀ seen₀ m rule per held₀ i₀ map seen held i =
+Inv-loop form next table words map₀ seen₀ m count rule per held₀ i₀ map seen held i =
     (length map ≡ length map₀) × (length seen ≡ length seen₀) × Mapping rule per words next table m map seen held i
 
 abbrev μ-loop : tie.MeasureT-loop
-μ-loop form next table words map₀ seen₀ m rule per held₀ i₀ map seen held i = slots table - i
+μ-loop form next table words map₀ seen₀ m count rule per held₀ i₀ map seen held i = count - i
+
+slot-count-requires : tie.Need-slot-count-requires Inv-loop μ-loop
+slot-count-requires c κs = search needs
 
 rule-of-requires : tie.Need-rule-of-requires Inv-loop μ-loop
 rule-of-requires c κs = search needs
@@ -37,11 +40,11 @@ cells-per-unit-requires c κs = search needs
 
 loop-holds : tie.Need-loop-holds Inv-loop μ-loop
 loop-holds c =
-    let s = c .before .before .before .before .before in
+    let s = c .before .before .before .before .before .before in
     (refl, refl, map-start (now (s .args .map)) (now (s .args .seen)) (s .pre .1 .0 .0) (s .pre .1 .1))
 
 read-row-requires : tie.Need-read-row-requires Inv-loop μ-loop
-read-row-requires c κs = omega (arith, c .loop-test .taken)
+read-row-requires c κs = omega (arith, c .loop-test .taken, c .before .before .before .before .slot-count .ensures)
 
 enter-row-requires : tie.Need-enter-row-requires Inv-loop μ-loop
 enter-row-requires c κs =
@@ -49,11 +52,11 @@ enter-row-requires c κs =
     let d = r .before in
     let l = d .before .loop in
     let rule = d .before .before .before in
-    let s = rule .before .before .before .before in
+    let s = rule .before .before .before .before .before in
     let is = rule .rule-of .ensures in
     let unit = subst (λ (ρ : Rule). 0 < ρ .unit) (sym is) (form-unit (s .args .form)) in
     let size = l .inv .1 in (
-      (unit, omega (arith, s .pre .0), omega (arith, d .loop-test .taken), r .read-row .ensures),
+      (unit, omega (arith, s .pre .0), omega (arith, d .loop-test .taken, rule .before .slot-count .ensures), r .read-row .ensures),
       (s .pre .1 .0 .1, size ∙ s .pre .1 .0 .2, l .inv .2 .residues),
     )
 
@@ -63,7 +66,7 @@ sub-if1 c = omega (arith, c .before .before .before .before .before .before .loo
 add-result : tie.Need-add-result Inv-loop μ-loop
 add-result c =
     let l = c .before .before .before .before .before .before .before in
-    omega (arith, l .before .before .before .before .before .before .pre .0)
+    omega (arith, l .before .before .before .before .before .before .before .pre .0)
 
 same-length : tie.Need-same-length Inv-loop μ-loop
 same-length c = c .before .before .before .before .before .before .before .loop .inv .0
@@ -82,14 +85,14 @@ returns c =
     let rule = t .before .before .before in
     let ρ = rule .rule-of .result in
     let is = rule .rule-of .ensures in
-    let s = rule .before .before .before .before in
+    let s = rule .before .before .before .before .before in
     let unit = subst (λ (ρ : Rule). 0 < ρ .unit) (sym is) (form-unit (s .args .form)) in
     let a = s .args in (
       λ e. absurd (omega arith),
       λ right.
           let L = recordsOf (now (a .table)) in
           let good = subst (λ (ρ : Rule). valid ρ (a .words) (a .next) L ≡ true) (sym is) right in
-          let in-table : l .i < slots (now (a .table)) = omega (arith, t .loop-test .taken) in
+          let in-table : l .i < slots (now (a .table)) = omega (arith, t .loop-test .taken, rule .before .slot-count .ensures) in
           let few = l .inv .2 .few in
           let own = u .enter-row .ensures .1
           (valid-row ρ unit (a .words) (a .next) (now (a .table)) good (l .i) in-table)
@@ -111,7 +114,7 @@ note-row-requires c κs =
     let rule = cells .before in
     let ρ = rule .rule-of .result in
     let is = rule .rule-of .ensures in
-    let s = rule .before .before .before .before in
+    let s = rule .before .before .before .before .before in
     let F = formOf (s .args .form) in
     let unit = subst (λ (ρ : Rule). 0 < ρ .unit) (sym is) (form-unit (s .args .form)) in
     let size = l .inv .0 in
@@ -134,7 +137,7 @@ add-held : tie.Need-add-held Inv-loop μ-loop
 add-held c =
     let i = c .before .before .before .before in
     let l = i .before .before .before .before .before .before .before in
-    let s = l .before .before .before .before .before .before in
+    let s = l .before .before .before .before .before .before .before in
     let few = i .if1 .left in
     let low = l .loop .inv .2 .few in
     let most = s .pre .0 in
@@ -161,7 +164,7 @@ loop-again c =
     let l = t .before .loop in
     let cells = t .before .before in
     let rule = cells .before in
-    let s = rule .before .before .before .before in
+    let s = rule .before .before .before .before .before in
     let ρ = rule .rule-of .result in
     let is = rule .rule-of .ensures in
     let unit = subst (λ (ρ : Rule). 0 < ρ .unit) (sym is) (form-unit (s .args .form)) in
@@ -171,7 +174,7 @@ loop-again c =
       n .note-row .kept .0 ∙ l .inv .0,
       u .enter-row .kept .1 .1 .1 .1 .1 .1 .0 ∙ l .inv .1,
       map-next unit per (u .enter-row .result) (n .note-row .last .0) (u .enter-row .last .1 .1 .1 .1 .1 .1 .0) (l .inv .2)
-          (omega (arith, t .loop-test .taken)) (omega arith) joins residues (n .note-row .kept .0)
+          (omega (arith, t .loop-test .taken, rule .before .slot-count .ensures)) (omega arith) joins residues (n .note-row .kept .0)
           (subst (λ (x : Row). Grows (l .map) (n .note-row .last .0) (first ρ x * cells .cells-per-unit .result)
           (u .enter-row .result * cells .cells-per-unit .result)) (r .read-row .ensures) (n .note-row .ensures)),
     )
@@ -185,12 +188,12 @@ same-length-4 c = c .before .loop .inv .1
 returns-2 : tie.Need-returns-2 Inv-loop μ-loop
 returns-2 c =
     let l = c .before .loop in
-    let mapped = map-end (l .inv .2) (omega (arith, c .loop-test .left)) in
+    let mapped = map-end (l .inv .2) (omega (arith, c .loop-test .left, c .before .before .before .before .slot-count .ensures)) in
     let cells = c .before .before in
     let rule = cells .before in
     let ρ = rule .rule-of .result in
     let is = rule .rule-of .ensures in
-    let s = rule .before .before .before .before in
+    let s = rule .before .before .before .before .before in
     let unit = subst (λ (ρ : Rule). 0 < ρ .unit) (sym is) (form-unit (s .args .form)) in
     let a = s .args in (
       (λ e. subst (λ (ρ : Rule). Mapped ρ (cellsPerUnit (formOf (a .form))) (a .words) (a .next) (now (a .table))
@@ -208,6 +211,7 @@ map-rows-spec =
     (tie.spec
     Inv-loop
     μ-loop
+    slot-count-requires
     rule-of-requires
     cells-per-unit-requires
     loop-holds

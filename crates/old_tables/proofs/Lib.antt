@@ -1,0 +1,2 @@
+-- Laws of a copy of an old table.
+pub mod CopyLaws

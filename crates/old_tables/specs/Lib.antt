@@ -1,0 +1,2 @@
+-- What a copy of an old table answers and leaves.
+pub mod Copies

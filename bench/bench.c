@@ -141,6 +141,8 @@ static void measure(effort e, measured *m)
         make_pool(&p, m->engine, m->words, m->records, m->segments, m->state);
     if (m->call == LIST)
         make_lists(&p);
+    if (m->call == MIX)
+        make_mix(&p);
     must_agree(&p);
     time_pass(&m->t, e, &p, contest_of(m->call, &p));
 }

@@ -14,11 +14,13 @@
     ONE(P, tree_format)                                                                                              \
     ONE(P, tree_allocate)                                                                                            \
     ONE(P, tree_release)                                                                                             \
+    ONE(P, tree_trim)                                                                                                \
     ONE(P, tree_find)                                                                                                \
     ONE(P, tree_list)                                                                                                \
     ONE(P, segment_format)                                                                                           \
     ONE(P, segment_allocate)                                                                                         \
     ONE(P, segment_release)                                                                                          \
+    ONE(P, segment_trim)                                                                                             \
     ONE(P, segment_find)                                                                                             \
     ONE(P, segment_list)
 

@@ -83,6 +83,21 @@ lf_answer give_back(const contestant *c, pool *p, lf_answer b)
     return o.answer;
 }
 
+lf_answer trim(const contestant *c, pool *p, lf_answer b, uint32_t keep)
+{
+    if (is_tree(p)) {
+        lf_tree_outcome o = c->tree_trim(p->head, p->arena, p->words, p->table, table_words(p), PARTY, b.ticket,
+                                         b.address, b.words, keep);
+        p->head = o.head;
+        return o.answer;
+    }
+    lf_segment_outcome o =
+        c->segment_trim(p->head.next, (int32_t *)p->arena, p->words, p->table, table_words(p), p->segments, p->index,
+                        3 * p->segments, PARTY, b.ticket, b.address, b.words, keep);
+    p->head.next = o.next;
+    return o.answer;
+}
+
 lf_answer find_in(const contestant *c, const pool *p, lf_answer b)
 {
     if (is_tree(p))
@@ -264,6 +279,67 @@ void make_lists(pool *p)
     }
 }
 
+// ---- a mix
+
+uint32_t kept_of(uint32_t words)
+{
+    return (words + 1) / 2;
+}
+
+lf_answer call_of_mix(const contestant *c, pool *p, const uint32_t *q)
+{
+    lf_answer named = {0, q[1], q[2], q[3]};
+    if (q[0] == 1)
+        return ask_for(c, p, q[1]);
+    return q[0] == TRIM ? trim(c, p, named, kept_of(named.words)) : give_back(c, p, named);
+}
+
+// One call more, where it is accepted.
+static bool add_call(pool *p, const uint32_t q[4])
+{
+    traffic *l = &p->mix;
+    lf_answer a = call_of_mix(&contestants[0], p, q);
+    if (a.number != 0)
+        return false;
+    memcpy(l->list + 4 * l->requests, q, 4 * sizeof q[0]);
+    memcpy(l->expected + 4 * l->requests++, &a, sizeof a);
+    return true;
+}
+
+// Trims or releases one of the blocks that the mix holds; those stand in `open`.
+static void add_call_on(pool *p, uint32_t kind, lf_answer *open, size_t *count)
+{
+    size_t k = random_below((uint32_t)*count);
+    if (!add_call(p, (const uint32_t[4]){kind, open[k].ticket, open[k].address, open[k].words}))
+        fail(p, "a trim or release was refused while the mix was made");
+    if (kind == TRIM)
+        open[k].words = kept_of(open[k].words);
+    else
+        open[k] = open[--*count];
+}
+
+// A grant in a third of the calls, a trim in another, then a release of all.
+void make_mix(pool *p)
+{
+    lf_answer open[MIX_LENGTH];
+    size_t count = 0;
+    lf_tree_head head = p->head;
+    p->mix.requests = 0;
+    while (p->mix.requests + count < MIX_LENGTH) {
+        size_t share = units_of(p) / p->records;
+        uint32_t lot = random_below(3), words = words_for(p, 1 + random_below((uint32_t)share));
+        if ((lot == 0 || count == 0) && add_call(p, (const uint32_t[4]){1, words, 0, 0}))
+            memcpy(&open[count++], p->mix.expected + 4 * (p->mix.requests - 1), sizeof open[0]);
+        else if (count > 0)
+            add_call_on(p, lot == 1 ? TRIM : 2, open, &count);
+    }
+    while (count > 0)
+        add_call_on(p, 2, open, &count);
+    p->head = head;
+}
+
+// ---- the pool
+
 void make_pool(pool *p, enum engine e, size_t words, size_t records, uint32_t segments, enum state s)
 {
     static lf_answer blocks[POOL_RECORDS];
@@ -291,6 +367,7 @@ void make_pool(pool *p, enum engine e, size_t words, size_t records, uint32_t se
     // among gaps, the length of one in the middle; a lower one may fit too
     p->ask = s == FRAGMENTED ? blocks[records / 4 * 2].words : words_for(p, units_of(p) / records);
     p->requests = 0;
+    p->mix.requests = 0;
     copy_arena(p);
 }
 
@@ -312,12 +389,25 @@ static bool lists_agree(const contestant *c, pool *p)
     return ok;
 }
 
+static bool mix_agrees(const contestant *c, pool *p)
+{
+    lf_tree_head head = p->head;
+    bool ok = true;
+    for (size_t i = 0; ok && i < p->mix.requests; i++) {
+        lf_answer a = call_of_mix(c, p, p->mix.list + 4 * i);
+        ok = memcmp(&a, p->mix.expected + 4 * i, sizeof a) == 0;
+    }
+    ok = ok && p->head.root == head.root;
+    p->head = head;
+    return ok;
+}
+
 bool agrees(const contestant *c, pool *p)
 {
     static uint32_t table[RECORD_WORDS * POOL_RECORDS], index[3 * POOL_SEGMENTS];
     memcpy(table, p->table, sizeof table);
     memcpy(index, p->index, sizeof index);
-    return find_in(c, p, p->named).number == p->named.number && lists_agree(c, p) &&
+    return find_in(c, p, p->named).number == p->named.number && lists_agree(c, p) && mix_agrees(c, p) &&
            memcmp(p->arena, p->copy, p->words * sizeof p->arena[0]) == 0 &&
            memcmp(p->table, table, sizeof table) == 0 && memcmp(p->index, index, sizeof index) == 0;
 }

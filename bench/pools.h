@@ -29,6 +29,8 @@ enum {
     LIST_UNITS = 512,
     LIST_MOST = 1024,
     LISTS = 8,
+    MIX_LENGTH = 48,
+    TRIM = 3, // kind of a call of a mix; lists have none such
 };
 
 // A list of requests that leaves the pool as it was, with the answers to them. For each release `granted_by` has the
@@ -54,6 +56,7 @@ typedef struct {
     uint32_t ask;         // the words that a pair asks for and gives back
     traffic lists[LISTS]; // several, run in turn, so that no predictor of branches learns one by heart
     size_t requests;      // of all lists
+    traffic mix;          // grants, trims and releases, to be made by single calls
     uint32_t answers[4 * LIST_MOST];
 } pool;
 
@@ -91,12 +94,20 @@ void copy_arena(pool *p);
 // Ends the program where a pool could not be made.
 void fail(const pool *p, const char *what);
 
-// Makes the lists, which a pool has none of at first. There must be an empty slot.
+// Makes the lists, or the mix, which a pool has none of at first. There must be an empty slot.
 void make_lists(pool *p);
+void make_mix(pool *p);
+
+// What a trim in a mix keeps of so many words.
+uint32_t kept_of(uint32_t words);
+
+// One call of a mix.
+lf_answer call_of_mix(const contestant *c, pool *p, const uint32_t *q);
 
 // One call on the pool, which keeps its own head up to date.
 lf_answer ask_for(const contestant *c, pool *p, uint32_t words);
 lf_answer give_back(const contestant *c, pool *p, lf_answer block);
+lf_answer trim(const contestant *c, pool *p, lf_answer block, uint32_t keep);
 lf_answer find_in(const contestant *c, const pool *p, lf_answer block);
 lf_answer run_list(const contestant *c, pool *p, const uint32_t *requests, size_t n, uint32_t *answers);
 lf_answer format_pool(const contestant *c, pool *p);

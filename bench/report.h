@@ -18,7 +18,7 @@ typedef struct {
     timings t;
 } measured;
 
-enum { ROWS_MOST = 160, POINTS_MOST = 16, ODD_MOST = 160, USUAL_MOST = 128 };
+enum { ROWS_MOST = 256, POINTS_MOST = 16, ODD_MOST = 160, USUAL_MOST = 128 };
 
 // Checked finds on crowded pools of an engine.
 typedef struct {

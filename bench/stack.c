@@ -7,9 +7,9 @@
 #include "lots.h"
 #include "meter.h"
 
-enum step { FIND, ALLOCATE, RELEASE, LIST, FORMAT, STEPS };
+enum step { FIND, ALLOCATE, RELEASE, CUT, LIST, FORMAT, STEPS };
 
-static const char *const step_names[STEPS] = {"find", "allocate", "release", "list", "format"};
+static const char *const step_names[STEPS] = {"find", "allocate", "release", "trim", "list", "format"};
 
 // ---- one call
 
@@ -24,7 +24,7 @@ typedef struct {
     pool *p;
     enum step step;
     uint32_t words;  // to allocate
-    lf_answer block; // to find or release
+    lf_answer block; // to find, release or trim
     const uint32_t *list;
     size_t requests;
 } job;
@@ -38,6 +38,8 @@ static void do_job(void *given)
         ask_for(j->who, j->p, j->words);
     else if (j->step == RELEASE)
         give_back(j->who, j->p, j->block);
+    else if (j->step == CUT)
+        trim(j->who, j->p, j->block, kept_of(j->block.words));
     else if (j->step == LIST)
         run_list(j->who, j->p, j->list, j->requests, j->p->answers);
     else
@@ -147,13 +149,16 @@ static void try_calls(seen *s, bool sound, pool *p)
     meter(s, sound, (job){.p = p, .step = FIND, .block = p->named});
     meter(s, sound, (job){.p = p, .step = ALLOCATE, .words = p->ask});
     meter(s, sound, (job){.p = p, .step = RELEASE, .block = p->named});
+    meter(s, sound, (job){.p = p, .step = CUT, .block = p->named});
     try_list(s, sound, p);
     if (!sound)
         return;
     for (uint32_t words = 1; words <= p->words; words *= 2)
         meter(s, sound, (job){.p = p, .step = ALLOCATE, .words = words});
-    for (size_t i = 0; i < p->records; i++)
+    for (size_t i = 0; i < p->records; i++) {
         meter(s, sound, (job){.p = p, .step = RELEASE, .block = record_in(p, i)});
+        meter(s, sound, (job){.p = p, .step = CUT, .block = record_in(p, i)});
+    }
     meter(s, sound, (job){.p = p, .step = FORMAT});
 }
 

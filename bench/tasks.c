@@ -5,7 +5,8 @@
 
 const char *call_name(enum call c)
 {
-    static const char *const names[] = {"find", "allocate + release", "list, per request", "format"};
+    static const char *const names[] = {"find",          "allocate + release", "with trim between",
+                                         "mix, per call", "list, per request",  "format"};
     return names[c];
 }
 
@@ -21,6 +22,27 @@ static uint64_t pair_once(const contestant *c, pool *p)
     lf_tree_head head = p->head;
     lf_answer block = ask_for(c, p, p->ask);
     uint64_t sum = block.number + give_back(c, p, block).number;
+    p->head = head;
+    return sum;
+}
+
+// Half of the words are given back before the others.
+static uint64_t cut_once(const contestant *c, pool *p)
+{
+    lf_tree_head head = p->head;
+    lf_answer block = ask_for(c, p, p->ask);
+    lf_answer kept = trim(c, p, block, kept_of(block.words));
+    uint64_t sum = block.number + kept.number + give_back(c, p, kept).number;
+    p->head = head;
+    return sum;
+}
+
+static uint64_t mix_once(const contestant *c, pool *p)
+{
+    lf_tree_head head = p->head;
+    uint64_t sum = 0;
+    for (size_t i = 0; i < p->mix.requests; i++)
+        sum += call_of_mix(c, p, p->mix.list + 4 * i).number;
     p->head = head;
     return sum;
 }
@@ -56,6 +78,19 @@ static uint64_t compare_once(const contestant *c, pool *p)
 static uint64_t compare_twice(const contestant *c, pool *p)
 {
     return compare_once(c, p) + compare_once(c, p);
+}
+
+static uint64_t compare_thrice(const contestant *c, pool *p)
+{
+    return compare_once(c, p) + compare_twice(c, p);
+}
+
+static uint64_t compare_for_mix(const contestant *c, pool *p)
+{
+    uint64_t sum = 0;
+    for (size_t i = 0; i < p->mix.requests; i++)
+        sum += compare_once(c, p);
+    return sum;
 }
 
 // The requests of a list, to the C library: the same lengths in the same order, memory not cleared.
@@ -98,6 +133,10 @@ contest contest_of(enum call c, const pool *p)
         return (contest){find_once, compare_once, "memcmp", p->named.number, 1};
     case PAIR:
         return (contest){pair_once, compare_twice, "memcmp, twice", 0, 1};
+    case CUT:
+        return (contest){cut_once, compare_thrice, "memcmp, thrice", 0, 1};
+    case MIX:
+        return (contest){mix_once, compare_for_mix, "memcmp", 0, p->mix.requests};
     case LIST:
         return (contest){list_once, malloc_once, "malloc, free", 0, p->requests};
     default:

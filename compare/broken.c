@@ -379,3 +379,61 @@ uint32_t __wrap_lf_copy_table(const uint32_t *old, size_t old_len, uint32_t *new
         new_table[at + 3] = 1; /* empty records become party 1's too */
     return number;
 }
+
+/* ---- trims */
+
+lf_tree_outcome __real_lf_tree_trim(lf_tree_head head, TREE, NAMED, uint32_t keep);
+lf_segment_outcome __real_lf_segment_trim(uint32_t next, SEGMENT, NAMED, uint32_t keep);
+
+/* Words behind the kept ones in their last unit. */
+static void wipe_behind(lf_tree_head head, uint32_t *arena, uint32_t end)
+{
+    uint32_t unit = head.form == 1 ? 2 : head.form == 2 ? 4 : 8;
+    for (; end % unit; end++)
+        arena[end] = 0;
+}
+
+lf_tree_outcome __wrap_lf_tree_trim(lf_tree_head head, TREE, NAMED, uint32_t keep)
+{
+    lf_answer found = __real_lf_tree_find(head, TREE_PASSED, NAMED_PASSED);
+    uint32_t last = found.number == 0 ? arena[address + words - 1] : 0;
+    if (broken(51) && found.number == LF_UNKNOWN_TICKET && keep == 0) { /* 2 before 6 */
+        lf_tree_outcome refused = { head, { LF_BAD_SIZE, 0, 0, 0 } };
+        return refused;
+    }
+    if (broken(55) && keep > words) /* more than was asked taken for all */
+        keep = words;
+    lf_tree_outcome done = __real_lf_tree_trim(head, TREE_PASSED, NAMED_PASSED, keep);
+    if (done.answer.number != 0)
+        return done;
+    if (broken(48) && keep < words) /* tail not wiped */
+        arena[address + words - 1] = last;
+    if (broken(50)) /* record not shortened */
+        table[record_of(table, table_len, ticket) + 2 - table] = words;
+    if (broken(52)) /* spare words wiped */
+        wipe_behind(head, arena, address + keep);
+    return done;
+}
+
+lf_segment_outcome __wrap_lf_segment_trim(uint32_t next, SEGMENT, NAMED, uint32_t keep)
+{
+    lf_answer found = __real_lf_segment_find(next, SEGMENT_PASSED, NAMED_PASSED);
+    size_t tail = (size_t)address + keep, end = (size_t)address + words;
+    size_t segment = found.number == 0 ? tail / ((arena_len + segments - 1) / segments) : 0;
+    uint32_t first = found.number == 0 && segment < segments ? index[2 * segments + segment] : 0;
+    int32_t behind = found.number == 0 && end < arena_len ? arena[end] : 0;
+    lf_segment_outcome done = __real_lf_segment_trim(next, SEGMENT_PASSED, NAMED_PASSED, keep);
+    if (done.answer.number != 0 || keep == words)
+        return done;
+    if (broken(49) && behind > 0) { /* tail not merged */
+        arena[tail] -= behind;
+        arena[end] = behind;
+    }
+    if (broken(53)) /* control word of the old length */
+        arena[address - 1] = -(int32_t)(words + 1);
+    if (broken(54)) /* first block of the tail's segment as before */
+        index[2 * segments + segment] = first;
+    if (broken(56)) /* the words asked instead of those kept */
+        done.answer.words = words;
+    return done;
+}

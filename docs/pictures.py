@@ -51,25 +51,25 @@ CRATES = [
     (3, 1, ALL, MEANING, "calls", "pool memory, numbers, gate, step; the three demands"),
     (4, 1, SIDE, TRIED, "worked_cases", "T1 to T14, sequences"),
     (5, 1, SIDE, TRIED, "testing", "scripts, plain ledger"),
-    (4, 1, BOTH, SHARED, "record_table", "records entered and searched"),
+    (4, 1, BOTH, SHARED, "record_table", "records entered and searched; old_tables copies older ones"),
     (5, 1, BOTH, SHARED, "call_parts", "answers, named records, lists"),
-    (6, 1, LEFT, TREE, "tree_nodes", "nodes of the free tree in the arena"),
+    (6, 1, LEFT, TREE, "tree_nodes", "forms; nodes of the free tree in the arena"),
     (7, 1, (390, 540), TREE, "free_tree", "fit, insert, delete"),
     (8, 2, (390, 540), TREE, "free_blocks", "cells taken, given back"),
     (7, 3, (550, 700), TREE, "tree_check", "the head; one check"),
-    (10, 1, LEFT, TREE, "tree_requests", "grant, release, lists on a sound pool"),
-    (11, 1, LEFT, TREE, "tree_pool", "the six calls"),
+    (10, 1, LEFT, TREE, "tree_requests", "grant, release, trim, lists on a sound pool"),
+    (11, 1, LEFT, TREE, "tree_pool", "the seven calls"),
     (6, 1, RIGHT, SEGMENT, "segment_index", "control words, tree of the index"),
     (7, 1, RIGHT, SEGMENT, "segment_blocks", "scans and upkeep"),
-    (8, 1, RIGHT, SEGMENT, "segment_cores", "search, grant, release, format of the arena"),
+    (8, 1, RIGHT, SEGMENT, "segment_cores", "search, grant, release, trim, format of the arena"),
     (9, 1, RIGHT, SEGMENT, "segment_check", "one exact check of blocks and index"),
-    (10, 1, RIGHT, SEGMENT, "segment_requests", "grant, release, lists on a sound pool"),
-    (11, 1, RIGHT, SEGMENT, "segment_pool", "the six calls"),
+    (10, 1, RIGHT, SEGMENT, "segment_requests", "grant, release, trim, lists on a sound pool"),
+    (11, 1, RIGHT, SEGMENT, "segment_pool", "the seven calls"),
     (12, 1, (160, 485), OUTER, "pool_text", "the program's meaning; serves chunks"),
     (13, 1, (160, 485), OUTER, "text_session", "between two files"),
     (14, 1, (160, 317), OUTER, "pool", "the program"),
     (14, 1, (327, 485), TRIED, "text_cases", "its cases"),
-    (12, 1, (495, 635), TRIED, "tree_cases", "worked cases"),
+    (12, 1, (495, 635), TRIED, "tree_cases", "and tree_trims"),
     (13, 1, (495, 635), TRIED, "tree_traffic", "random calls"),
     (14, 1, (495, 635), TRIED, "insert_counts", "links stored"),
     (12, 1, (645, 840), OUTER, "pool_c", "both pools' calls for C"),
@@ -164,15 +164,15 @@ def stored():
     p.text(left, 28, "Tree pool of 24 words and 4 records after T8 of the bench sheet", 15, "start", True)
 
     # head, and the links, above the cells
-    p.box(left, 48, 250, 30)
-    p.text(left + 125, 68, "head: root link %d, next ticket %d" % (root, NEXT), 13)
+    p.box(left, 48, 280, 30)
+    p.text(left + 140, 68, "head: root link %d, next ticket %d, form 1" % (root, NEXT), 13)
     p.arrow("M %g 78 L %g %g" % (x(2 * (root - 1) + 1), x(2 * (root - 1) + 1), y - 22))
     for t in nodes(tree(runs)):
         for son, side in (t[0], "left"), (t[2], "right"):
             if son:
                 a, b = x(2 * t[1][0] + 1.5), x(2 * son[1][0] + 1)
                 p.arrow("M %g %g C %g %g %g %g %g %g" % (a, y - 22, a, y - 75, b, y - 75, b, y - 22))
-                p.text((a + b) / 2 + 40, y - 66, "%s link %d: cell %d" % (side, link(son), link(son) - 1), 13)
+                p.text((a + b) / 2 + 100, y - 66, "%s link %d: cell %d" % (side, link(son), link(son) - 1), 13)
 
     # the blocks
     for c, n in runs:
@@ -195,17 +195,17 @@ def stored():
     p.text(x(0), y + 80, "word", 11, "start", fill=PALE)
 
     # the table
-    ty, tw = y + 190, 52
-    p.text(left + ROOM * (3 * tw + 24), ty + 21, "table: ticket, address, words of each record", 13, "start")
+    ty, tw = y + 190, 44
+    p.text(left + ROOM * (4 * tw + 20), ty + 21, "table: ticket, address, words, party of each record", 13, "start")
     for slot in range(ROOM):
-        tx = left + slot * (3 * tw + 24)
-        row = RECORDS.get(slot, (0, 0, 0))
-        p.box(tx, ty, 3 * tw, 32, OUTER if slot in RECORDS else "white")
+        tx = left + slot * (4 * tw + 20)
+        row = RECORDS[slot] + (1,) if slot in RECORDS else (0, 0, 0, 0)
+        p.box(tx, ty, 4 * tw, 32, OUTER if slot in RECORDS else "white")
         for i, w in enumerate(row):
             p.text(tx + (i + 0.5) * tw, ty + 21, str(w), 13, bold=w != 0, fill=INK if w else PALE)
             if i:
                 p.arrow("M %g %g L %g %g" % (tx + i * tw, ty, tx + i * tw, ty + 32), stroke=LINE, head=False)
-        p.text(tx + 1.5 * tw, ty + 50, "slot %d" % slot + ("" if slot in RECORDS else ", empty"), 12, fill=PALE)
+        p.text(tx + 2 * tw, ty + 50, "slot %d" % slot + ("" if slot in RECORDS else ", empty"), 12, fill=PALE)
         if slot in RECORDS:
             a, b = tx + 1.5 * tw, x(row[1] + 0.5)
             p.arrow("M %g %g C %g %g %g %g %g %g" % (a, ty, a, ty - 60, b, ty - 40, b, y + 70), dash=True)
@@ -225,18 +225,18 @@ def square():
         for k, line in enumerate(lines):
             p.text(xs[i] + wide / 2, ys[j] + 25 + 19 * k, line, 14 if k == 0 else 12, bold=k == 0, fill=INK if k == 0 else PALE)
     corner(0, 0, MEANING, ["ledger L, next ticket n", "records in slots;", "free units follow from them"])
-    corner(1, 0, MEANING, ["ledger L′, next ticket n′", "one record more, one less,", "or the same"])
+    corner(1, 0, MEANING, ["ledger L′, next ticket n′", "one record more, one less,", "one shorter, or the same"])
     corner(0, 1, SHARED, ["pool p", "= store E L n p: the stored form", "over what holders wrote"])
     corner(1, 1, SHARED, ["pool p′", "= store E L′ n′ ..", "granted words read zero"])
     a, b = xs[0] + wide, xs[1]
     p.arrow("M %d %d L %d %d" % (a + 8, ys[0] + high / 2, b - 8, ys[0] + high / 2))
     p.text(500, ys[0] + 24, "the rules", 14, bold=True)
     p.text(500, ys[0] + 58, "grant: enter at the lowest fit", 12, fill=PALE)
-    p.text(500, ys[0] + 75, "release: settle, the slot is empty", 12, fill=PALE)
+    p.text(500, ys[0] + 75, "release, trim: settle by the plan", 12, fill=PALE)
     p.text(500, ys[0] + 92, "refused: nothing", 12, fill=PALE)
     p.arrow("M %d %d L %d %d" % (a + 8, ys[1] + high / 2, b - 8, ys[1] + high / 2))
     p.text(500, ys[1] + 26, "step E call", 14, bold=True)
-    p.text(500, ys[1] + 58, "gate, 8, 1 or 0, then the call's acts", 12, fill=PALE)
+    p.text(500, ys[1] + 58, "gate, 11, 8, 1, 12 or 0, then the call's acts", 12, fill=PALE)
     p.text(500, ys[1] + 75, "1: p is the stored form of no ledger", 12, fill=PALE)
     for i, side in (0, 1), (1, -1):
         m = xs[i] + wide / 2
@@ -254,7 +254,7 @@ def square():
         p.text(xs[i] + wide / 2, (ys[1] + high + y) / 2 + 7, "≡", 22)
     p.arrow("M %d %d L %d %d" % (a + 8, y + 29, b - 8, y + 29))
     p.text(500, y + 18, "the code", 14, bold=True)
-    p.text(500, y + 49, "handed r .. ≡ left (step E call ..)", 12, fill=PALE)
+    p.text(500, y + 49, "handed r .. ≡ resultOf (step E call ..)", 12, fill=PALE)
     p.text(500, y + 66, "proved on all inputs, refused ones too", 12, fill=PALE)
     p.save("square.svg")
 

@@ -18,16 +18,17 @@
  *             address, words, party.
  *   segments  segment pool: a power of two from 1 to 256; the search for room scans one segment.
  *   index     segment pool: uint32_t, LF_INDEX_WORDS(segments).
- * No pointer is kept after a call. Between calls you write only to the words of runs that you hold; all other words are
- * the pool's. If one of those changes, the next call answers LF_DAMAGED, unless what is there then is again a pool in
- * order.
+ * No pointer is kept after a call. Between calls you write only to the words of runs that you hold, and to the rest of
+ * a run's last unit, which no other run has; all other words are the pool's. If one of those changes, the next call
+ * answers LF_DAMAGED, unless what is there then is again a pool in order.
  *
  * FORM: how a tree pool is stored. Format is given the number, and the head carries it from then on.
  *   form  unit     arena, a multiple of it  most words to ask for
  *     1   2 words  2 to 16,384                 16,384
  *     2   4 words  4 to 1,048,576           1,048,576
  *     3   8 words  8 to 16,384                 16,384
- * Form 3 is for what moves whole groups of eight words and clobbers the rest of a group: no two runs share one.
+ * Form 3 is for what moves whole groups of eight words and clobbers the rest of a group: no two runs share one, if the
+ * arena begins where a group does.
  * Nothing turns a pool of one form into another. The segment pool has one form only, without a number.
  *
  * HEAD: the part of the pool that you keep. Format hands back the first one; each later call takes it, and those that
@@ -36,6 +37,7 @@
  *   tree pool: lf_tree_head, the link to the tree of free blocks, the next ticket and the form. A head of another form
  *   is a wrong head like any other: it is refused, unless the buffers are a pool in that form too.
  *   segment pool: a uint32_t, the next ticket
+ *
  * PARTY: whose run it is, a number from 1 to 255. Several parties share a pool, each call is one party's, and a list is
  * one party's as a whole. A run belongs to the party that asked for it. To the others its ticket is as good as dead:
  * they are told LF_UNKNOWN_TICKET, whatever address and words they name. Room, records and ticket numbers are shared.
@@ -67,10 +69,13 @@
  *     transfer unit writes to its buffers, or reads those that the call writes.
  *   - The archive links on x86-64 Linux. It needs memset, from a C library or your own, and nothing else.
  *   - Stack, as seen on x86-64, on any memory, at most:
- *       tree pools of up to  1,024 words and  16 records  2.5 KB
- *                            4,096 words and  64 records   17 KB
- *                           16,384 words and  16 records   13 KB
- *                           16,384 words and 256 records   22 KB
+ *       tree pools of up to  1,024 words and  16 records    4 KB
+ *                            4,096 words and  64 records   20 KB
+ *                           16,384 words and  16 records   14 KB
+ *                           16,384 words and 256 records   29 KB
+ *       and of form 2       65,536 words and 256 records   37 KB
+ *                        1,048,576 words and  16 records   14 KB
+ *                        1,048,576 words and 256 records   48 KB
  *       segment pools of any size                           5 KB
  *   - Time: it grows with arena and table, since each call checks the whole pool, damaged or not. On damaged memory a
  *     call takes no longer than the slowest on a sound pool of the same lengths was seen to take (docs/benchmark.md).
@@ -91,11 +96,12 @@ extern "C" {
 /* ---- numbers that a call answers
  *
  * Where several would fit, the first of this order is given: 11, 8, 1, 12, 9; then 2, 3, 4, 5 to an allocation, 6, 7 to
- * a release or find, 6 to a format. Any call can answer 8, any of the tree pool 11, and any on a pool but format 1 and
- * 12. */
+ * a release or find, 6, 7, 2 to a trim, 6 to a format. Any call can answer 8, any of the tree pool 11, and any on a
+ * pool but format 1 and 12. */
 #define LF_OK 0u             /* done */
 #define LF_DAMAGED 1u        /* lengths are right, but head and buffers are not a pool in order */
-#define LF_BAD_SIZE 2u       /* words asked are 0, or above the most: 16,384, in form 2 of the tree pool 1,048,576 */
+#define LF_BAD_SIZE 2u       /* words asked are 0, or above the most: 16,384, in form 2 of the tree pool 1,048,576; to a
+                                trim: words to keep are 0, or above those asked */
 #define LF_NO_RECORD 3u      /* the table is full */
 #define LF_NO_TICKET 4u      /* no ticket is left */
 #define LF_NO_ROOM 5u        /* no free run is long enough */
@@ -135,7 +141,7 @@ typedef struct {
 } lf_tree_head;
 
 /* number is LF_OK or the reason of the refusal. ticket, address and words are those of the run that was granted,
- * released or found; format and list, and every refusal, give zeros. */
+ * released, found or trimmed, as it is then; format and list, and every refusal, give zeros. */
 typedef struct {
     uint32_t number, ticket, address, words;
 } lf_answer;
@@ -175,6 +181,14 @@ lf_tree_outcome lf_tree_allocate(lf_tree_head head, uint32_t *arena, size_t aren
 lf_tree_outcome lf_tree_release(lf_tree_head head, uint32_t *arena, size_t arena_len, uint32_t *table,
                                 size_t table_len, uint32_t party, uint32_t ticket, uint32_t address, uint32_t words);
 
+/* Gives back the tail of a run of this party that was taken too long, and keeps its first `keep` words, 1 up to all.
+ * The ticket stays live, and from then on the run is named with the words kept: an old release with the longer length
+ * is LF_MISMATCH. The units beyond those that the kept words take are wiped and become one with the free run that they
+ * touch; the kept words stay, and so do the words behind them in their last unit. Refused: LF_UNKNOWN_TICKET,
+ * LF_MISMATCH, LF_BAD_SIZE. */
+lf_tree_outcome lf_tree_trim(lf_tree_head head, uint32_t *arena, size_t arena_len, uint32_t *table, size_t table_len,
+                             uint32_t party, uint32_t ticket, uint32_t address, uint32_t words, uint32_t keep);
+
 /* Does this party hold this run? Changes nothing, and answers the number that a release of it would get. */
 lf_answer lf_tree_find(lf_tree_head head, const uint32_t *arena, size_t arena_len, const uint32_t *table,
                        size_t table_len, uint32_t party, uint32_t ticket, uint32_t address, uint32_t words);
@@ -182,7 +196,8 @@ lf_answer lf_tree_find(lf_tree_head head, const uint32_t *arena, size_t arena_le
 /* Serves the requests of a list one after another, as single calls of this party would, with one check of the pool.
  * Each gets its four words in `answers`; one that is refused gets its number there, and the rest go on. Answer words
  * beyond the list stay. The outcome's own answer tells whether the list was served at all: it is refused whole,
- * LF_BAD_LENGTHS, if requests_len is no multiple of four or above LF_LIST_WORDS(LF_REQUESTS_MAX), or answers_len is below it. */
+ * LF_BAD_LENGTHS, if requests_len is no multiple of four or above LF_LIST_WORDS(LF_REQUESTS_MAX), or answers_len is
+ * below it. A list has no trims. */
 lf_tree_outcome lf_tree_list(lf_tree_head head, uint32_t *arena, size_t arena_len, uint32_t *table, size_t table_len,
                              uint32_t party, const uint32_t *requests, size_t requests_len, uint32_t *answers,
                              size_t answers_len);
@@ -228,6 +243,10 @@ lf_segment_allocation lf_segment_allocate(uint32_t next, int32_t *arena, size_t 
 lf_segment_outcome lf_segment_release(uint32_t next, int32_t *arena, size_t arena_len, uint32_t *table,
                                       size_t table_len, uint32_t segments, uint32_t *index, size_t index_len,
                                       uint32_t party, uint32_t ticket, uint32_t address, uint32_t words);
+
+lf_segment_outcome lf_segment_trim(uint32_t next, int32_t *arena, size_t arena_len, uint32_t *table, size_t table_len,
+                                   uint32_t segments, uint32_t *index, size_t index_len, uint32_t party,
+                                   uint32_t ticket, uint32_t address, uint32_t words, uint32_t keep);
 
 lf_answer lf_segment_find(uint32_t next, const int32_t *arena, size_t arena_len, const uint32_t *table,
                           size_t table_len, uint32_t segments, const uint32_t *index, size_t index_len,

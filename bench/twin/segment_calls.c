@@ -95,6 +95,21 @@ static ALWAYS_INLINE void give_words(const segment_pool *p, size_t at, size_t n)
     reindex(p, at - x, at, e, e + y, y != 0);
 }
 
+// Of the block of n words at a word, the first `kept` stay held. What is left begins where no block began, so it may be
+// the first of its segment; what lies below it is held.
+static ALWAYS_INLINE void cut_words(const segment_pool *p, size_t at, size_t kept, size_t n)
+{
+    size_t tail = at + kept, e = at + n;
+    size_t y = e < p->h.words && p->v[e] > 0 ? (size_t)p->v[e] : 0;
+    memset(p->v + tail, 0, (n - kept + (y != 0)) * sizeof p->v[0]);
+    p->v[at] = -(int32_t)kept;
+    p->v[tail] = (int32_t)(n - kept + y);
+    size_t k = segment_of(p->h, tail), ke = segment_of(p->h, e);
+    refresh(p->v, p->index, p->h, k, lesser(p->index[2 * p->h.s + k], tail));
+    if (y != 0 && ke != k)
+        refresh(p->v, p->index, p->h, ke, e + y);
+}
+
 // An allocation on a sound pool.
 static ALWAYS_INLINE lf_segment_allocation segment_grant(uint32_t next, const segment_pool *p, uint32_t party,
                                                          uint32_t words)
@@ -123,6 +138,21 @@ static ALWAYS_INLINE lf_segment_outcome segment_vacate(uint32_t next, const segm
         return segment_refused(next, at.number);
     give_words(p, r.address - 1, r.words + 1);
     write_row(p->table, at.slot, (row){0, 0, 0, 0});
+    return (lf_segment_outcome){next, succeeded(r)};
+}
+
+// A trim on a sound pool.
+static ALWAYS_INLINE lf_segment_outcome segment_cut(uint32_t next, const segment_pool *p, row r, uint32_t keep)
+{
+    named at = named_slot(p->table, p->slots, r);
+    if (at.number != DONE)
+        return segment_refused(next, at.number);
+    if (keep == 0 || keep > r.words)
+        return segment_refused(next, BAD_WORDS);
+    if (keep < r.words)
+        cut_words(p, r.address - 1, keep + 1, r.words + 1);
+    r.words = keep;
+    write_row(p->table, at.slot, r);
     return (lf_segment_outcome){next, succeeded(r)};
 }
 
@@ -180,6 +210,18 @@ lf_segment_outcome TWIN(segment_release)(uint32_t next, int32_t *restrict arena,
         return segment_refused(next, number);
     segment_pool p = {arena, table, table_len / RECORD_WORDS, index, shape_of(arena_len, segments)};
     return segment_vacate(next, &p, (row){ticket, address, words, party});
+}
+
+lf_segment_outcome TWIN(segment_trim)(uint32_t next, int32_t *restrict arena, size_t arena_len,
+                                      uint32_t *restrict table, size_t table_len, uint32_t segments,
+                                      uint32_t *restrict index, size_t index_len, uint32_t party, uint32_t ticket,
+                                      uint32_t address, uint32_t words, uint32_t keep)
+{
+    uint32_t number = segment_gate(next, arena, arena_len, table, table_len, segments, index, index_len, party);
+    if (number != DONE)
+        return segment_refused(next, number);
+    segment_pool p = {arena, table, table_len / RECORD_WORDS, index, shape_of(arena_len, segments)};
+    return segment_cut(next, &p, (row){ticket, address, words, party}, keep);
 }
 
 lf_answer TWIN(segment_find)(uint32_t next, const int32_t *restrict arena, size_t arena_len,

@@ -40,6 +40,15 @@ lf_tree_outcome TWIN(tree_release)(lf_tree_head head, uint32_t *restrict arena, 
     return tree_refused(head, BAD_FORM);
 }
 
+lf_tree_outcome TWIN(tree_trim)(lf_tree_head head, uint32_t *restrict arena, size_t arena_len,
+                                uint32_t *restrict table, size_t table_len, uint32_t party, uint32_t ticket,
+                                uint32_t address, uint32_t words, uint32_t keep)
+{
+    row r = {ticket, address, words, party};
+    BY_FORM(head.form, trimmed, head, arena, arena_len, table, table_len, r, keep)
+    return tree_refused(head, BAD_FORM);
+}
+
 lf_answer TWIN(tree_find)(lf_tree_head head, const uint32_t *restrict arena, size_t arena_len,
                           const uint32_t *restrict table, size_t table_len, uint32_t party, uint32_t ticket,
                           uint32_t address, uint32_t words)

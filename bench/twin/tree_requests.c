@@ -42,6 +42,28 @@ static lf_answer tree_vacate(lf_tree_head *head, uint32_t *restrict arena, uint3
     return succeeded(r);
 }
 
+// A trim on a sound pool. A tail inside the last kept unit gives no cell back.
+static lf_answer tree_cut(lf_tree_head *head, uint32_t *restrict arena, uint32_t *restrict table, size_t slots, row r,
+                          uint32_t keep)
+{
+    uint32_t form = FORM_OF(head->form), root = head->root;
+    named at = named_slot(table, slots, r);
+    if (at.number != DONE)
+        return refused(at.number);
+    if (keep == 0 || keep > r.words)
+        return refused(BAD_WORDS);
+    tree t = tree_in(form, arena);
+    size_t first = r.address / cell_words(form), lo = first + cells_for(form, keep);
+    size_t hi = first + cells_for(form, r.words);
+    if (lo < hi) {
+        give_cells(t, &root, lo, hi);
+        head->root = (uint32_t)link_at(t, &root);
+    }
+    r.words = keep;
+    write_row(table, at.slot, r);
+    return succeeded(r);
+}
+
 static lf_answer tree_serve(lf_tree_head *head, uint32_t *restrict arena, uint32_t *restrict table, size_t slots,
                             uint32_t party, const uint32_t *q)
 {
@@ -82,6 +104,16 @@ static lf_tree_outcome released(lf_tree_head head, uint32_t *restrict arena, siz
     if (number != DONE)
         return tree_refused(head, number);
     lf_answer answer = tree_vacate(&head, arena, table, table_len / RECORD_WORDS, r);
+    return (lf_tree_outcome){head, answer};
+}
+
+static lf_tree_outcome trimmed(lf_tree_head head, uint32_t *restrict arena, size_t arena_len,
+                               uint32_t *restrict table, size_t table_len, row r, uint32_t keep)
+{
+    uint32_t number = tree_gate(head, arena, arena_len, table, table_len, r.party);
+    if (number != DONE)
+        return tree_refused(head, number);
+    lf_answer answer = tree_cut(&head, arena, table, table_len / RECORD_WORDS, r, keep);
     return (lf_tree_outcome){head, answer};
 }
 

@@ -79,6 +79,10 @@ unsafe extern "C" {
         head: PassedHead, arena: *mut u32, arena_len: usize, table: *mut u32, table_len: usize,
         party: Word, ticket: Word, address: Word, words: Word,
     ) -> TreeOutcome;
+    pub fn lf_tree_trim(
+        head: PassedHead, arena: *mut u32, arena_len: usize, table: *mut u32, table_len: usize,
+        party: Word, ticket: Word, address: Word, words: Word, keep: Word,
+    ) -> TreeOutcome;
     pub fn lf_tree_find(
         head: PassedHead, arena: *const u32, arena_len: usize, table: *const u32, table_len: usize,
         party: Word, ticket: Word, address: Word, words: Word,
@@ -104,6 +108,11 @@ unsafe extern "C" {
         next: Word, arena: *mut i32, arena_len: usize, table: *mut u32, table_len: usize,
         segments: Word, index: *mut u32, index_len: usize,
         party: Word, ticket: Word, address: Word, words: Word,
+    ) -> SegmentOutcome;
+    pub fn lf_segment_trim(
+        next: Word, arena: *mut i32, arena_len: usize, table: *mut u32, table_len: usize,
+        segments: Word, index: *mut u32, index_len: usize,
+        party: Word, ticket: Word, address: Word, words: Word, keep: Word,
     ) -> SegmentOutcome;
     pub fn lf_segment_find(
         next: Word, arena: *const i32, arena_len: usize, table: *const u32, table_len: usize,

@@ -6,12 +6,13 @@ use crate::random::Random;
 use crate::tree_form::FORMS;
 
 pub fn any(kind: Kind, ledger: &Ledger, arena_words: usize, random: &mut Random) -> Call {
-    match random.below(32) {
+    match random.below(36) {
         0 => format(kind, ledger, random),
         1..12 => Call::Allocate { party: party(ledger, random), words: words(ledger, random) },
         12..19 => Call::Release(named(ledger, random)),
         19..23 => Call::Find(named(ledger, random)),
         23..27 => look(ledger, arena_words, random),
+        27..31 => trim(ledger, random),
         _ => list(ledger, random),
     }
 }
@@ -135,6 +136,28 @@ fn named_among(live: &[Record], ledger: &Ledger, random: &mut Random) -> Record 
         6 => Record { address: stray.address, words: stray.words, ..right },
         7 => Record { ticket: unknown(ledger, random), ..stray },
         _ => right,
+    }
+}
+
+pub fn trim(ledger: &Ledger, random: &mut Random) -> Call {
+    let named = named(ledger, random);
+    Call::Trim(named, keep(named.words, ledger.rule, random))
+}
+
+/// Words to keep: all, all but one, one, none, too many; up to a unit's border or just off it; any.
+pub fn keep(words: u32, rule: UnitRule, random: &mut Random) -> u32 {
+    let border = rule.most_in(random.between(1, rule.units_for(words.min(rule.limit)).max(1)));
+    match random.below(16) {
+        0 => 0,
+        1 => words.wrapping_add(1),
+        2 => random.pick(&[u32::MAX, words | 1 << 31, words.wrapping_add(65_536)]),
+        3 | 4 => words,
+        5 | 6 => words.wrapping_sub(1),
+        7 => 1,
+        8..11 => border.min(words),
+        11 => border.saturating_sub(1).max(1),
+        12 => (border + 1).min(words),
+        _ => random.between(1, words.clamp(1, 1 << 24) as usize) as u32,
     }
 }
 

@@ -101,7 +101,7 @@ fn fourth_word(pool: &mut Pool, ledger: &Ledger, random: &mut Random) {
 
 /// A record of form 3 is moved or made shorter or longer by cells, and all else is as form 1 has it then.
 fn lay_on_cells(pool: &mut Pool, random: &mut Random) {
-    let slot = 3 * random.below(pool.table.len() / 3);
+    let slot = RECORD_WORDS * random.below(pool.table.len() / RECORD_WORDS);
     match random.below(3) {
         0 => pool.table[slot + 1] = pool.table[slot + 1].wrapping_add(2 * random.between(1, 3) as u32),
         1 => pool.table[slot + 1] = pool.table[slot + 1].wrapping_sub(2 * random.between(1, 3) as u32),

@@ -37,7 +37,8 @@ fn one(bench: &mut Bench, pool: &mut Pool, random: &mut Random) {
         4..6 => Call::Allocate { party, words: calls::words(&ledger, random) },
         6 => Call::Allocate { party, words: random.between(1, pool.arena.len()) as u32 },
         7 => Call::Allocate { party, words: random.between(1, 300) as u32 },
-        8..10 if !live.is_empty() => Call::Release(random.pick(&live)),
+        8 if !live.is_empty() => Call::Release(random.pick(&live)),
+        9 => calls::trim(&ledger, random),
         10 => calls::list(&ledger, random),
         _ => calls::any(pool.kind(), &ledger, pool.arena.len(), random),
     };

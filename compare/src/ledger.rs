@@ -173,6 +173,17 @@ impl Ledger {
         if self.slots[slot] == Some(named) { Ok(slot) } else { Err(7) }
     }
 
+    /// Request 13: the record now reads the kept number; 6, 7, 2 in this order.
+    pub fn trim(&mut self, named: Record, keep: u32) -> Result<Record, u32> {
+        let slot = self.slot_of(named)?;
+        if keep == 0 || keep > named.words {
+            return Err(2);
+        }
+        let kept = Record { words: keep, ..named };
+        self.slots[slot] = Some(kept);
+        Ok(kept)
+    }
+
     pub fn release(&mut self, named: Record) -> Result<Record, u32> {
         let slot = self.slot_of(named)?;
         self.slots[slot] = None;

@@ -6,6 +6,7 @@ mod bench_sheet;
 mod calls;
 mod copies;
 mod damage;
+mod every_order;
 mod guarded;
 mod large;
 mod ledger;
@@ -80,6 +81,7 @@ fn run(bench: &mut Bench, kind: Kind, wanted: &Wanted) {
     long_runs::run(bench, kind, wanted.cases / 5, &mut random);
     order::run(bench, kind, wanted.cases / 5, &mut random);
     restart::run(bench, kind, wanted.cases / 10, &mut random);
+    every_order::run(bench, kind, wanted.cases / 50, &mut random);
     private::run(bench, kind, wanted.cases / 10, &mut random);
     copies::run(bench, kind, wanted.cases / 50, &mut random);
     if *kind.arena_words().end() > 16_384 {

@@ -123,7 +123,7 @@ fn numbers_of(call: &Call) -> [Word; 4] {
     let numbers = match call {
         Call::Format { form, first } => [0, *first, *form, 0],
         Call::Allocate { party, words } => [*party, 0, 0, *words],
-        Call::Release(named) | Call::Find(named) | Call::Look(named, _) => {
+        Call::Release(named) | Call::Trim(named, _) | Call::Find(named) | Call::Look(named, _) => {
             [named.party, named.ticket, named.address, named.words]
         }
         Call::List { party, .. } => [*party, 0, 0, 0],
@@ -142,6 +142,9 @@ fn play_tree(pool: &Pool, view: &View, call: &Call) -> Played {
             Call::Format { .. } => abi::lf_tree_format(address, a.at, a.len, t.at, t.len, ticket),
             Call::Allocate { .. } => abi::lf_tree_allocate(head, a.at, a.len, t.at, t.len, party, words),
             Call::Release(_) => abi::lf_tree_release(head, a.at, a.len, t.at, t.len, party, ticket, address, words),
+            Call::Trim(_, keep) => {
+                abi::lf_tree_trim(head, a.at, a.len, t.at, t.len, party, ticket, address, words, word(*keep))
+            }
             Call::List { .. } => abi::lf_tree_list(head, a.at, a.len, t.at, t.len, party, r.at, r.len, w.at, w.len),
             Call::Find(_) => {
                 let answer = abi::lf_tree_find(head, a.at, a.len, t.at, t.len, party, ticket, address, words);
@@ -174,6 +177,10 @@ fn play_segment(pool: &Pool, view: &View, call: &Call) -> Played {
             }
             Call::Release(_) => {
                 abi::lf_segment_release(next, v, a.len, t.at, t.len, s, i.at, i.len, party, ticket, address, words)
+            }
+            Call::Trim(_, keep) => {
+                let (trim, keep) = (abi::lf_segment_trim, word(*keep));
+                trim(next, v, a.len, t.at, t.len, s, i.at, i.len, party, ticket, address, words, keep)
             }
             Call::List { .. } => {
                 abi::lf_segment_list(next, v, a.len, t.at, t.len, s, i.at, i.len, party, r.at, r.len, w.at, w.len)

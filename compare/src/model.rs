@@ -2,7 +2,8 @@
 //! format as request 2 of document 02 has it, with the first ticket number: 8, 6; and the places of
 //! request 5, counted from the ledger before the call; and 11 for a tree pool of no such form, as
 //! request 3 has it: before all else, by the head's form, in format by the one that it is given; and
-//! 12 for a party that there is not, as request 6 has it: directly after 1, for a list also if it is empty.
+//! 12 for a party that there is not, as request 6 has it: directly after 1, for a list also if it is empty; and
+//! request 13's trim: 6, 7, 2.
 //! Soundness as 01 says it: read the ledger off the table, compute its stored form over the
 //! callers' words, compare.
 
@@ -59,6 +60,8 @@ pub enum Call {
         words: u32,
     },
     Release(Record),
+    /// With the words to keep.
+    Trim(Record, u32),
     Find(Record),
     Look(Record, Placeholder),
     List {
@@ -211,6 +214,7 @@ pub fn make(pool: &mut Pool, call: &Call) -> Outcome {
             answer
         }
         Call::Release(named) => release(pool, *named),
+        Call::Trim(named, keep) => trim(pool, *named, *keep),
         Call::Find(named) => find(pool, *named),
         Call::Look(named, _) => {
             let found = find(pool, *named);
@@ -264,6 +268,14 @@ fn release(pool: &mut Pool, named: Record) -> Answer {
         ledger.release(named)?;
         pool.take_form_of(&ledger);
         Ok(named)
+    }))
+}
+
+fn trim(pool: &mut Pool, named: Record, keep: u32) -> Answer {
+    Answer::of(pool.ledger_for(named.party).and_then(|mut ledger| {
+        let kept = ledger.trim(named, keep)?;
+        pool.take_form_of(&ledger);
+        Ok(kept)
     }))
 }
 

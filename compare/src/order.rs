@@ -1,5 +1,5 @@
-//! Demand 3, played: one pool, one set of live tickets, two sequences that release them in different
-//! orders with refused calls, finds, looks and replays mixed in; then the same later calls on both.
+//! Demand 3, played: one pool, one set of live tickets, each to be released or trimmed; two sequences that do so in
+//! different orders with refused calls, finds, looks and replays mixed in; then the same later calls on both.
 
 use crate::bench::{Bench, Part, Stray};
 use crate::ledger::{Ledger, RECORD_WORDS, Record, is_party};
@@ -7,13 +7,22 @@ use crate::model::{self, Answer, Call, Engine, Kind, Outcome, Placeholder, Pool}
 use crate::random::Random;
 use crate::{calls, damage, lengths, pools};
 
+/// A ticket of the set, and what is settled for it: released, or trimmed to so many words.
+#[derive(Clone, Copy)]
+pub struct Member {
+    record: Record,
+    keep: Option<u32>,
+}
+
 /// A sequence under way.
 struct Sequence {
     pool: Pool,
     ledger: Ledger,
-    /// The set's releases still to come, the next one last.
-    to_come: Vec<Record>,
+    /// The set's releases and trims still to come, the next one last.
+    to_come: Vec<Member>,
     spent: Vec<Record>,
+    /// Records that were trimmed to fewer words, as they were.
+    longer: Vec<Record>,
 }
 
 /// A later call, and what callers write before it.
@@ -33,14 +42,11 @@ pub fn run(bench: &mut Bench, kind: Kind, cases: u64, random: &mut Random) {
 fn claim(bench: &mut Bench, kind: Kind, random: &mut Random) {
     let start = pools::sound(pools::shape(kind, random), random);
     let ledger = start.ledger().expect("a stored form is sound");
-    let mut set: Vec<Record> = ledger.live().collect();
-    random.shuffle(&mut set);
-    set.truncate(if random.one_in(3) { set.len() } else { random.below(set.len().min(24) + 1) });
-    let mut after = ledger.clone();
-    for record in &set {
-        let _ = after.release(*record);
-    }
-    let due = Pool::stored(kind, &after, start.segments, &start.arena);
+    let mut live: Vec<Record> = ledger.live().collect();
+    random.shuffle(&mut live);
+    live.truncate(if random.one_in(3) { live.len() } else { random.below(live.len().min(24) + 1) });
+    let mut set: Vec<Member> = live.into_iter().map(|record| Member::plan(record, &ledger, random)).collect();
+    let due = end_of(&start, &ledger, &set);
     let mut first = play(bench, &start, &ledger, &set, random);
     check(bench, &due, first == due && bench.holds(&due), "the first sequence's end is not the form due");
     let (later, answers) = invent_later(bench, &mut first, random);
@@ -52,6 +58,38 @@ fn claim(bench: &mut Bench, kind: Kind, random: &mut Random) {
     bench.tally.situation("demand 3: one ticket or none", set.len() < 2);
     bench.tally.situation("demand 3: two to five tickets", (2..6).contains(&set.len()));
     bench.tally.situation("demand 3: six tickets or more", set.len() > 5);
+    bench.tally.situation("demand 3: trims", set.iter().filter(|member| member.keep.is_some()).count() > 1);
+}
+
+impl Member {
+    pub fn plan(record: Record, ledger: &Ledger, random: &mut Random) -> Member {
+        let keep = calls::keep(record.words, ledger.rule, random);
+        let keep = Some(keep).filter(|keep| (1..=record.words).contains(keep) && random.one_in(2));
+        Member { record, keep }
+    }
+
+    pub fn call(self) -> Call {
+        match self.keep {
+            Some(keep) => Call::Trim(self.record, keep),
+            None => Call::Release(self.record),
+        }
+    }
+
+    pub fn settle(self, ledger: &mut Ledger) -> Result<Record, u32> {
+        match self.keep {
+            Some(keep) => ledger.trim(self.record, keep),
+            None => ledger.release(self.record),
+        }
+    }
+}
+
+/// The stored form of the start's ledger with the set settled.
+pub fn end_of(start: &Pool, ledger: &Ledger, set: &[Member]) -> Pool {
+    let mut after = ledger.clone();
+    for member in set {
+        let _ = member.settle(&mut after);
+    }
+    Pool::stored(start.kind(), &after, start.segments, &start.arena)
 }
 
 fn check(bench: &mut Bench, pool: &Pool, holds: bool, otherwise: &str) {
@@ -61,9 +99,10 @@ fn check(bench: &mut Bench, pool: &Pool, holds: bool, otherwise: &str) {
     }
 }
 
-fn play(bench: &mut Bench, start: &Pool, ledger: &Ledger, set: &[Record], random: &mut Random) -> Pool {
+fn play(bench: &mut Bench, start: &Pool, ledger: &Ledger, set: &[Member], random: &mut Random) -> Pool {
     let (pool, ledger) = (start.clone(), ledger.clone());
-    let mut sequence = Sequence { pool, ledger, to_come: set.to_vec(), spent: Vec::new() };
+    let (spent, longer) = (Vec::new(), Vec::new());
+    let mut sequence = Sequence { pool, ledger, to_come: set.to_vec(), spent, longer };
     let mut after = random.below(4);
     bench.lend(start);
     while after > 0 || !sequence.to_come.is_empty() {
@@ -71,7 +110,7 @@ fn play(bench: &mut Bench, start: &Pool, ledger: &Ledger, set: &[Record], random
             after -= 1;
         }
         match random.below(8) {
-            0..3 => release_one(bench, &mut sequence),
+            0..3 => settle_one(bench, &mut sequence),
             3 => release_some(bench, &mut sequence, random),
             _ => mix_in(bench, &mut sequence, random),
         }
@@ -83,20 +122,41 @@ fn accepted(named: Record) -> Answer {
     Answer { number: 0, ticket: named.ticket, address: named.address, words: named.words }
 }
 
-fn release_one(bench: &mut Bench, sequence: &mut Sequence) {
-    let Some(named) = sequence.to_come.pop() else { return };
-    let outcome = bench.step(&mut sequence.pool, &Call::Release(named));
-    check(bench, &sequence.pool, outcome.answer == accepted(named), "a release of the set was not accepted");
-    let _ = sequence.ledger.release(named);
-    sequence.spent.push(named);
+fn settle_one(bench: &mut Bench, sequence: &mut Sequence) {
+    let Some(member) = sequence.to_come.pop() else { return };
+    let outcome = bench.step(&mut sequence.pool, &member.call());
+    let due = Record { words: member.keep.unwrap_or(member.record.words), ..member.record };
+    check(bench, &sequence.pool, outcome.answer == accepted(due), "a release or trim of the set was not accepted");
+    let _ = member.settle(&mut sequence.ledger);
+    match member.keep {
+        None => sequence.spent.push(member.record),
+        Some(_) if due != member.record => sequence.longer.push(member.record),
+        Some(_) => {}
+    }
+}
+
+/// A run that was trimmed to fewer words, released or trimmed as it was named before.
+fn old_name(bench: &mut Bench, sequence: &mut Sequence, random: &mut Random) {
+    if sequence.longer.is_empty() {
+        return;
+    }
+    let named = random.pick(&sequence.longer);
+    let keep = calls::keep(named.words, sequence.ledger.rule, random);
+    let call = if random.one_in(2) { Call::Release(named) } else { Call::Trim(named, keep) };
+    let outcome = bench.step(&mut sequence.pool, &call);
+    check(bench, &sequence.pool, outcome.answer == Answer::refusal(7), "an old name of a trimmed run was not refused");
+    bench.tally.situation("demand 3: old name of a trimmed run", true);
+    bench.tally.situation("trim: old release", matches!(call, Call::Release(_)));
+    bench.tally.situation("trim: old trim", matches!(call, Call::Trim(..)));
 }
 
 /// A list that carries some of the releases that one party makes, refused requests between them.
 fn release_some(bench: &mut Bench, sequence: &mut Sequence, random: &mut Random) {
     let (mut requests, mut due) = (Vec::new(), Vec::new());
-    let party = sequence.to_come.last().map_or(1, |record| record.party);
+    let party = sequence.to_come.last().map_or(1, |member| member.record.party);
     for _ in 0..random.between(0, 12) {
-        let own = sequence.to_come.last().copied().filter(|record| record.party == party);
+        let listed = |member: &Member| member.keep.is_none() && member.record.party == party;
+        let own = sequence.to_come.last().copied().filter(listed).map(|member| member.record);
         if let (Some(named), true) = (own, random.one_in(2)) {
             sequence.to_come.pop();
             let _ = sequence.ledger.release(named);
@@ -158,7 +218,8 @@ pub fn refused_replay(named: Record) -> Answer {
 }
 
 fn mix_in(bench: &mut Bench, sequence: &mut Sequence, random: &mut Random) {
-    match random.below(8) {
+    match random.below(9) {
+        8 => old_name(bench, sequence, random),
         0 => {
             let named = replay(sequence, random);
             let outcome = bench.step(&mut sequence.pool, &Call::Release(named));
@@ -185,12 +246,13 @@ fn mix_in(bench: &mut Bench, sequence: &mut Sequence, random: &mut Random) {
 
 /// A call on the pool itself that is refused as it stands.
 fn refused_whole(bench: &mut Bench, sequence: &mut Sequence, random: &mut Random) {
-    let call = match random.below(5) {
+    let call = match random.below(6) {
         0 | 1 => {
             let party = calls::party(&sequence.ledger, random);
             Call::Allocate { party, words: calls::words(&sequence.ledger, random) }
         }
         2 => Call::Release(calls::named(&sequence.ledger, random)),
+        5 => calls::trim(&sequence.ledger, random),
         3 => Call::Format { form: sequence.pool.head.form, first: 0 },
         _ => calls::list(&sequence.ledger, random),
     };

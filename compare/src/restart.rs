@@ -103,6 +103,7 @@ fn replay(bench: &mut Bench, pool: &mut Pool, ledger: &Ledger, yesterday: &Yeste
     let named = earlier(ledger, yesterday, random);
     let call = match random.below(4) {
         0 => Call::Find(named),
+        1 => Call::Trim(named, calls::keep(named.words, ledger.rule, random)),
         _ => Call::Release(named),
     };
     let outcome = bench.step(pool, &call);

@@ -34,6 +34,7 @@ pub fn note(tally: &mut Tally, before: &Pool, call: &Call, outcome: &Outcome) {
             note_search(tally, before, &ledger, outcome);
         }
         Call::Release(named) if outcome.answer.number == 0 => note_release(tally, &ledger, &free, *named),
+        Call::Trim(named, keep) => note_trim(tally, &ledger, &free, *named, *keep, outcome.answer.number),
         Call::Release(named) | Call::Find(named) if outcome.answer.number == 6 => note_unknown(tally, &ledger, *named),
         _ => {}
     }
@@ -43,7 +44,7 @@ fn party_of(call: &Call) -> Option<u32> {
     match call {
         Call::Format { .. } => None,
         Call::Allocate { party, .. } | Call::List { party, .. } => Some(*party),
-        Call::Release(named) | Call::Find(named) | Call::Look(named, _) => Some(named.party),
+        Call::Release(named) | Call::Trim(named, _) | Call::Find(named) | Call::Look(named, _) => Some(named.party),
     }
 }
 
@@ -70,7 +71,9 @@ fn note_party(tally: &mut Tally, call: &Call) {
 fn note_others(tally: &mut Tally, ledger: &Ledger, call: &Call) {
     let others = |named: Record| ledger.live().find(|r| r.ticket == named.ticket && r.party != named.party);
     match call {
-        Call::Release(named) | Call::Find(named) | Call::Look(named, _) if is_party(named.party) => {
+        Call::Release(named) | Call::Trim(named, _) | Call::Find(named) | Call::Look(named, _)
+            if is_party(named.party) =>
+        {
             let Some(other) = others(*named) else { return };
             let rightly = Record { party: other.party, ..*named } == other;
             tally.situation("another's ticket rightly named", rightly);
@@ -189,6 +192,27 @@ fn note_release(tally: &mut Tally, ledger: &Ledger, free: &[Run], named: Record)
         (true, true) => "release that joins both",
     };
     tally.situation(situation, true);
+}
+
+fn note_trim(tally: &mut Tally, ledger: &Ledger, free: &[Run], named: Record, keep: u32, number: u32) {
+    tally.situation("trim: none to keep, unknown ticket", keep == 0 && number == 6);
+    tally.situation("trim: none to keep, other words", keep == 0 && number == 7);
+    let (Some(units), 0) = (ledger.units_of(named), number) else { return };
+    let kept = ledger.rule.units_for(keep);
+    tally.situation("trim: all kept", keep == named.words);
+    tally.situation("trim: all but one kept", keep + 1 == named.words);
+    tally.situation("trim: one kept", keep == 1 && named.words > 1);
+    tally.situation("trim: no unit given back", kept == units.count && keep < named.words);
+    let border = ledger.rule.most_in(kept);
+    tally.situation("trim: asked words stay as spare ones", kept < units.count && keep < border);
+    if kept < units.count {
+        let joins = free.iter().any(|run| run.first == units.end());
+        tally.situation("trim: up to a unit's border", keep == border);
+        tally.situation("trim: tail joins a free run", joins);
+        tally.situation("trim: tail before a held block", !joins && units.end() < ledger.units);
+        tally.situation("trim: tail at the arena's end", units.end() == ledger.units);
+        tally.situation("trim: tail of one word, a block of its own", !joins && units.count - kept == 1);
+    }
 }
 
 fn note_unknown(tally: &mut Tally, ledger: &Ledger, named: Record) {

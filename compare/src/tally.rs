@@ -7,10 +7,11 @@ use std::collections::BTreeMap;
 pub const NUMBERS: [u32; 12] = [0, 11, 8, 1, 12, 9, 2, 3, 4, 5, 6, 7];
 
 /// Each row of the table and the numbers that can occur in it, 11 in the tree pool alone.
-pub const ROWS: [(&str, &[u32]); 10] = [
+pub const ROWS: [(&str, &[u32]); 11] = [
     ("format", &[0, 11, 8, 6]),
     ("allocate", &[0, 11, 8, 1, 12, 2, 3, 4, 5]),
     ("release", &[0, 11, 8, 1, 12, 6, 7]),
+    ("trim", &[0, 11, 8, 1, 12, 2, 6, 7]),
     ("find", &[0, 11, 8, 1, 12, 6, 7]),
     ("look", &[0, 11, 8, 1, 12, 6, 7]),
     ("list", &[0, 11, 8, 1, 12]),
@@ -88,10 +89,25 @@ pub const SITUATIONS: &[&str] = &[
     "two pools: looked at",
     "two pools: another's ticket in one",
     "two pools: both damaged",
+    "trim: all kept",
+    "trim: all but one kept",
+    "trim: one kept",
+    "trim: up to a unit's border",
+    "trim: tail joins a free run",
+    "trim: tail before a held block",
+    "trim: tail at the arena's end",
+    "trim: none to keep, unknown ticket",
+    "trim: none to keep, other words",
+    "trim: old release",
+    "trim: old trim",
+    "trim: second one",
+    "demand 3: trims",
+    "demand 3: old name of a trimmed run",
+    "every order: four calls",
 ];
 
 /// And the segment pool alone.
-pub const SEGMENT_SITUATIONS: [&str; 8] = [
+pub const SEGMENT_SITUATIONS: [&str; 9] = [
     "damage seen: index",
     "S above W",
     "W no multiple of S",
@@ -100,10 +116,11 @@ pub const SEGMENT_SITUATIONS: [&str; 8] = [
     "search past a held block",
     "search past a free block",
     "blocks above the chosen one in its segment",
+    "trim: tail of one word, a block of its own",
 ];
 
 /// The tree pool alone, in each of its forms.
-pub const TREE_SITUATIONS: [&str; 7] = [
+pub const TREE_SITUATIONS: [&str; 9] = [
     "no such form: 0",
     "no such form: one above the last",
     "no such form: 4,294,967,295",
@@ -111,6 +128,8 @@ pub const TREE_SITUATIONS: [&str; 7] = [
     "another form: 8",
     "another form: 1",
     "another form: accepted",
+    "trim: no unit given back",
+    "trim: asked words stay as spare ones",
 ];
 
 /// And form 2 alone.
@@ -160,6 +179,7 @@ fn row(call: &Call) -> &'static str {
         Call::Format { .. } => "format",
         Call::Allocate { .. } => "allocate",
         Call::Release(_) => "release",
+        Call::Trim(..) => "trim",
         Call::Find(_) => "find",
         Call::Look(..) => "look",
         Call::List { .. } => "list",

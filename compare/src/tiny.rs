@@ -78,6 +78,10 @@ fn every_call(bench: &mut Bench, pool: &Pool) {
 fn every_naming(bench: &mut Bench, pool: &Pool, named: Record) {
     let Record { ticket, address, words, party } = named;
     bench.once(pool, &Call::Release(named));
+    let held = pool.table.chunks_exact(RECORD_WORDS).any(|record| record[..3] == [ticket, address, words]);
+    for keep in if held { 0..=words + 1 } else { 0..=0 } {
+        bench.once(pool, &Call::Trim(named, keep));
+    }
     bench.once(pool, &Call::Find(named));
     bench.once(pool, &Call::Look(named, Placeholder::Own(vec![3, 4])));
     let requests = vec![2, ticket, address, words, 1, words, 0, 0];
@@ -93,6 +97,7 @@ fn every_change(bench: &mut Bench, pool: &Pool) {
         bench.once(&struck, &Call::Find(named));
         bench.once(&struck, &Call::Allocate { party: 1, words: 1 });
         bench.once(&struck, &Call::Release(named));
+        bench.once(&struck, &Call::Trim(named, 1));
     }
 }
 

@@ -87,6 +87,7 @@ fn calls(kind: Kind, which: usize) -> Vec<Call> {
                 format_none,
                 Call::Allocate { party: 2, words: 2 },
                 Call::Release(LIVE),
+                Call::Trim(LIVE, 1),
                 Call::Find(LIVE),
                 look,
                 list,

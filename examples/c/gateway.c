@@ -1,7 +1,8 @@
 /* A gateway between dryers and their radio, on each of the pools: commands are put into runs of words, and the radio
  * releases them in any order. One release comes in twice, the second time when a new command lies at its address; and
  * once more after a power loss, when the pool was formatted again. A heating firm's controller shares the pool with the
- * laundry. Then as large a pool as there can be, and a table from before there were two firms. */
+ * laundry. Then as large a pool as there can be, a table from before there were two firms, and a message that was taken
+ * too long. */
 #include "lingfurrow.h"
 
 #include <inttypes.h>
@@ -419,6 +420,63 @@ static void old_table(void)
     }
 }
 
+#define LONG_WORDS 128u
+
+static void print_step(const char *step, lf_answer answer)
+{
+    printf("  %s: ", step);
+    print_answer(answer);
+}
+
+/* A message is taken at 64 words before its length is known, and cut to the 10 that it has. What lies behind them is
+ * free for the next one. From then on the run is named with 10 words: the release with 64 that is still under way is
+ * refused, and the message stays. */
+static void cut_in_tree(void)
+{
+    uint32_t arena[LONG_WORDS], table[LF_TABLE_WORDS(RECORDS)];
+    const size_t table_len = LF_TABLE_WORDS(RECORDS);
+    lf_tree_outcome now = lf_tree_format(1, arena, LONG_WORDS, table, table_len, 1);
+    printf("tree pool, form 1, words %u, records %u\n", LONG_WORDS, RECORDS);
+    now = lf_tree_allocate(now.head, arena, LONG_WORDS, table, table_len, LAUNDRY, 64);
+    lf_answer taken = now.answer;
+    print_step("message, words 64", taken);
+    now = lf_tree_trim(now.head, arena, LONG_WORDS, table, table_len, LAUNDRY, taken.ticket, taken.address, 64, 10);
+    lf_answer kept = now.answer;
+    print_step("cut to 10", kept);
+    now = lf_tree_allocate(now.head, arena, LONG_WORDS, table, table_len, LAUNDRY, 100);
+    print_step("message, words 100", now.answer);
+    now = lf_tree_release(now.head, arena, LONG_WORDS, table, table_len, LAUNDRY, taken.ticket, taken.address, 64);
+    print_step("release with 64", now.answer);
+    now = lf_tree_release(now.head, arena, LONG_WORDS, table, table_len, LAUNDRY, kept.ticket, kept.address, 10);
+    print_step("release with 10", now.answer);
+}
+
+/* The same on the segment pool. */
+static void cut_in_segments(void)
+{
+    int32_t v[LONG_WORDS];
+    uint32_t table[LF_TABLE_WORDS(RECORDS)], index[LF_INDEX_WORDS(SEGMENTS)];
+    const size_t table_len = LF_TABLE_WORDS(RECORDS), index_len = LF_INDEX_WORDS(SEGMENTS);
+    uint32_t next = lf_segment_format(v, LONG_WORDS, table, table_len, SEGMENTS, index, index_len, 1).next;
+    printf("segment pool, words %u, records %u\n", LONG_WORDS, RECORDS);
+    lf_segment_allocation taken =
+        lf_segment_allocate(next, v, LONG_WORDS, table, table_len, SEGMENTS, index, index_len, LAUNDRY, 64);
+    const uint32_t ticket = taken.answer.ticket, address = taken.answer.address;
+    print_step("message, words 64", taken.answer);
+    lf_segment_outcome kept = lf_segment_trim(taken.next, v, LONG_WORDS, table, table_len, SEGMENTS, index, index_len,
+                                              LAUNDRY, ticket, address, 64, 10);
+    print_step("cut to 10", kept.answer);
+    lf_segment_allocation more =
+        lf_segment_allocate(kept.next, v, LONG_WORDS, table, table_len, SEGMENTS, index, index_len, LAUNDRY, 100);
+    print_step("message, words 100", more.answer);
+    lf_segment_outcome late = lf_segment_release(more.next, v, LONG_WORDS, table, table_len, SEGMENTS, index,
+                                                 index_len, LAUNDRY, ticket, address, 64);
+    print_step("release with 64", late.answer);
+    late = lf_segment_release(late.next, v, LONG_WORDS, table, table_len, SEGMENTS, index, index_len, LAUNDRY, ticket,
+                              address, 10);
+    print_step("release with 10", late.answer);
+}
+
 int main(void)
 {
     for (size_t i = 0; i < sizeof pools / sizeof pools[0]; i++) {
@@ -431,5 +489,7 @@ int main(void)
     count_places();
     large_pool();
     old_table();
+    cut_in_tree();
+    cut_in_segments();
     return 0;
 }

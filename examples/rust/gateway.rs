@@ -7,6 +7,7 @@ use std::fmt::Display;
 const RECORDS: usize = 4;
 const ARENA_WORDS: usize = 24;
 const SEGMENTS: usize = 4;
+const LONG_WORDS: usize = 128;
 const LARGE_WORDS: usize = 1_048_576;
 const LARGE_RECORDS: usize = 256;
 const MOST_PLACES: usize = 1 + SEGMENTS.ilog2() as usize + ARENA_WORDS / SEGMENTS;
@@ -217,11 +218,36 @@ fn old_table() -> Result<(), Refusal> {
     Ok(())
 }
 
+/// A message is taken at 64 words before its length is known, and cut to the 10 that it has. What lies behind them is
+/// free for the next one. From then on the run is named with 10 words: the release with 64 that is still under way is
+/// refused, and the message stays.
+fn cut<P: Pool>(pool: &mut P) -> Result<(), Refusal> {
+    let taken = pool.allocate(LAUNDRY, 64);
+    println!("  message, words 64: {}", told(taken));
+    let kept = pool.trim(LAUNDRY, taken?, 10);
+    println!("  cut to 10: {}", told(kept));
+    println!("  message, words 100: {}", told(pool.allocate(LAUNDRY, 100)));
+    println!("  release with 64: {}", told(pool.release(LAUNDRY, taken?)));
+    println!("  release with 10: {}", told(pool.release(LAUNDRY, kept?)));
+    Ok(())
+}
+
+/// On both pools.
+fn cut_message() -> Result<(), Refusal> {
+    let mut table = [0; 4 * RECORDS];
+    println!("tree pool, form 1, words {LONG_WORDS}, records {RECORDS}");
+    cut(&mut TreePool::format(1, &mut [0; LONG_WORDS], &mut table, 1)?)?;
+    println!("segment pool, words {LONG_WORDS}, records {RECORDS}");
+    let (mut arena, mut index) = ([0; LONG_WORDS], [0; 3 * SEGMENTS]);
+    cut(&mut SegmentPool::format(&mut arena, &mut table, SEGMENTS as u32, &mut index, 1)?)
+}
+
 fn main() -> Result<(), Refusal> {
     tree_pool(1)?;
     tree_pool(2)?;
     tree_pool(3)?;
     segment_pool()?;
     large_pool();
-    old_table()
+    old_table()?;
+    cut_message()
 }

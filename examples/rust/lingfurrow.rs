@@ -1,5 +1,6 @@
-//! Safe calls of both pools, over the archive that include/lingfurrow.h describes. A slice has what the header asks of a
-//! pointer and its length, and `&mut` that nobody else reads or writes: so no call here needs a promise of its caller.
+//! Safe calls of both pools, over the archive that include/lingfurrow.h describes. A slice has what the header asks of
+//! a pointer and its length, and `&mut` that nobody else reads or writes: so no call here needs a promise of its
+//! caller.
 //!
 //! A crate that builds by cargo links the archive from its build script:
 //! `cargo:rustc-link-search=native=DIR` and `cargo:rustc-link-lib=static=pool_c`.
@@ -92,6 +93,9 @@ pub trait Pool {
     /// Gives a run back.
     fn release(&mut self, party: u32, run: Run) -> Result<Run, Refusal>;
 
+    /// Gives back the tail of a run and keeps its first `keep` words, 1 up to all. Hands back the run as it is since.
+    fn trim(&mut self, party: u32, run: Run, keep: u32) -> Result<Run, Refusal>;
+
     /// Tells whether the party holds this run.
     fn find(&self, party: u32, run: Run) -> Result<Run, Refusal>;
 
@@ -141,6 +145,8 @@ extern "C" {
         party: u32, words: u32) -> TreeOutcome;
     fn lf_tree_release(head: TreeHead, arena: *mut u32, arena_len: usize, table: *mut u32, table_len: usize,
         party: u32, ticket: u32, address: u32, words: u32) -> TreeOutcome;
+    fn lf_tree_trim(head: TreeHead, arena: *mut u32, arena_len: usize, table: *mut u32, table_len: usize,
+        party: u32, ticket: u32, address: u32, words: u32, keep: u32) -> TreeOutcome;
     fn lf_tree_find(head: TreeHead, arena: *const u32, arena_len: usize, table: *const u32, table_len: usize,
         party: u32, ticket: u32, address: u32, words: u32) -> Answer;
     fn lf_tree_list(head: TreeHead, arena: *mut u32, arena_len: usize, table: *mut u32, table_len: usize,
@@ -153,6 +159,9 @@ extern "C" {
     fn lf_segment_release(next: u32, arena: *mut i32, arena_len: usize, table: *mut u32, table_len: usize,
         segments: u32, index: *mut u32, index_len: usize, party: u32, ticket: u32, address: u32,
         words: u32) -> SegmentOutcome;
+    fn lf_segment_trim(next: u32, arena: *mut i32, arena_len: usize, table: *mut u32, table_len: usize,
+        segments: u32, index: *mut u32, index_len: usize, party: u32, ticket: u32, address: u32, words: u32,
+        keep: u32) -> SegmentOutcome;
     fn lf_segment_find(next: u32, arena: *const i32, arena_len: usize, table: *const u32, table_len: usize,
         segments: u32, index: *const u32, index_len: usize, party: u32, ticket: u32, address: u32,
         words: u32) -> Answer;
@@ -226,6 +235,14 @@ impl Pool for TreePool<'_> {
         let outcome = unsafe {
             lf_tree_release(self.head, self.arena.as_mut_ptr(), self.arena.len(), self.table.as_mut_ptr(),
                 self.table.len(), party, run.ticket, run.address, run.words)
+        };
+        self.keep(outcome)
+    }
+
+    fn trim(&mut self, party: u32, run: Run, keep: u32) -> Result<Run, Refusal> {
+        let outcome = unsafe {
+            lf_tree_trim(self.head, self.arena.as_mut_ptr(), self.arena.len(), self.table.as_mut_ptr(),
+                self.table.len(), party, run.ticket, run.address, run.words, keep)
         };
         self.keep(outcome)
     }
@@ -327,6 +344,15 @@ impl Pool for SegmentPool<'_> {
             lf_segment_release(self.next, self.arena.as_mut_ptr(), self.arena.len(), self.table.as_mut_ptr(),
                 self.table.len(), self.segments, self.index.as_mut_ptr(), self.index.len(), party, run.ticket,
                 run.address, run.words)
+        };
+        self.keep(outcome)
+    }
+
+    fn trim(&mut self, party: u32, run: Run, keep: u32) -> Result<Run, Refusal> {
+        let outcome = unsafe {
+            lf_segment_trim(self.next, self.arena.as_mut_ptr(), self.arena.len(), self.table.as_mut_ptr(),
+                self.table.len(), self.segments, self.index.as_mut_ptr(), self.index.len(), party, run.ticket,
+                run.address, run.words, keep)
         };
         self.keep(outcome)
     }

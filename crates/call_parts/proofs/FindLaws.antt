@@ -1,4 +1,4 @@
--- The calls that name a record, for any engine: find, look, and a refused release. Assumes nothing.
+-- The calls that name a record, for any engine: find, look, and a refused release or trim. Assumes nothing.
 use Prim.Native.Nat.{ℕ, _+_, _*_, _-_, _≤_, _<_}
 use native.Mathlib.Nat.{lt-mul-div-succ}
 use native.Mathlib.Omega.{arith}
@@ -10,9 +10,9 @@ use lib.Dec.{eqb}
 use Rattle.words.proofs.Tests.{eqb-ne}
 use Rattle.ledger.specs.declared.Row.{Row}
 use Rattle.ledger.specs.declared.Rule.{Rule}
-use Rattle.ledger.specs.Records.{isParty, recordAt, recordsOf, sameBlock, recordOf}
+use Rattle.ledger.specs.Records.{isParty, recordAt, recordsOf, sameBlock, recordOf, keepable}
 use Rattle.calls.specs.Pool.{Pool, ledger, wordCount, Engine, Laws, ruleOf, sound}
-use Rattle.calls.specs.Step.{find, look, success, refusal, accepted, give, query, Outcome}
+use Rattle.calls.specs.Step.{find, look, success, refusal, accepted, give, query, cut, Outcome}
 use Rattle.calls.specs.Step.{arenaPart, placeholder, named, numberOf, answerDone, answerTo}
 use Rattle.calls.specs.Step.{actsDone, perform, step}
 use Rattle.calls.proofs.StoreLaws.{sound-valid}
@@ -74,6 +74,19 @@ pub give-refused : (E : Engine) (p : Pool) (r : Row) (n : ℕ) → namedIn (p .t
 unfolding numberOf
 give-refused E p r n e =
     refused-by E p (give r) n (refused-number p r n e) (eqb-ne n 0 (named-refused (p .table) r n e))
+
+-- a trim likewise; and one that names its record, but not words to keep
+pub cut-refused : (E : Engine) (p : Pool) (r : Row) (k n : ℕ) → namedIn (p .table) r ≡ Refused n
+    → RefusedBy E p (cut r k) n
+unfolding numberOf
+cut-refused E p r k n e =
+    let z = eqb-ne n 0 (named-refused (p .table) r n e) in
+    refused-by E p (cut r k) n (rw (refused-number p r n e, z)) z
+
+pub cut-two : (E : Engine) (p : Pool) (r : Row) (k i : ℕ) → namedIn (p .table) r ≡ Slot i → keepable k r ≡ false
+    → RefusedBy E p (cut r k) 2
+unfolding numberOf
+cut-two E p r k i e h = refused-by E p (cut r k) 2 (rw (slot-number p r i e, h)) refl
 
 -- ---- look
 

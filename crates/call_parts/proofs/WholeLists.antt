@@ -32,7 +32,7 @@ module _ (E : Engine) where
   unfolding store grant
   same-shape =
       act-by E (λ (p : Pool) (a : Act) (q : Pool). q .shape ≡ p .shape) (λ p a. refl) (λ p c n k h. refl)
-      (λ p x r h. refl)
+      (λ p x r e h. refl)
 
   pub unsuited-list : (p : Pool) (c : ℕ) (rs bs : Words) → E .known (p .shape) ≡ true → listSuits rs bs ≡ false
       → step E (list c rs bs) p ≡ refusedBy E (list c rs bs) p 8

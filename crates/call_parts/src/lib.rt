@@ -5,7 +5,7 @@ use record_table::Found;
 ghost use mathlib.Core.Path.{_≡_};
 ghost use Prim.Native.Nat.{_+_, _*_, _≤_, _<_};
 ghost use lib.ListN.{length, getD, set};
-ghost use Rattle.ledger.specs.Records.{recordsOf};
+ghost use Rattle.ledger.specs.Records.{recordsOf, keepable, shortened};
 ghost use Rattle.calls.specs.Pool.{nextAfter};
 ghost use Rattle.calls.specs.Step.{success, refusal, listSuits};
 ghost use Rattle.call_parts.specs.Parts.{formatNumber, withParty, namedIn, actOf, requestAt, withAnswer};
@@ -104,6 +104,25 @@ pub fn named_slot(table: &[u32], named: Row) -> Named
             }
             Named::Refused(7)
         }
+    }
+}
+
+// Whether these words of the record can be kept: from 1 to the words asked.
+pub fn can_keep(named: Row, keep: u32) -> bool
+    ensures { λ r. ⌜ r ≡ keepable keep named ⌝ }
+{
+    (1 <= keep) & (keep <= named.words)
+}
+
+// The record with the words that are kept of it.
+pub fn shortened(named: Row, keep: u32) -> Row
+    ensures { λ r. ⌜ r ≡ shortened keep named ⌝ }
+{
+    Row {
+        ticket: named.ticket,
+        address: named.address,
+        words: keep,
+        party: named.party,
     }
 }
 

@@ -10,11 +10,11 @@ use mathlib.Core.Option.{Option, none, some}
 use lib.Dec.{eqb, ltb}
 use Rattle.words.proofs.Tests.{and-l, and-r, eqb-eq, eqb-same, eqb-ne, absurd-some}
 use Rattle.ledger.specs.declared.Row.{Row}
-use Rattle.ledger.specs.Records.{Ledger, isParty, recordOf, sameBlock, full, Plan, vacate}
+use Rattle.ledger.specs.Records.{Ledger, isParty, recordOf, sameBlock, full, Plan, vacate, keep, keepable, feasible}
 use Rattle.ledger.proofs.RecordLaws.{record-ticket}
 use Rattle.calls.specs.declared.Answer.{Answer}
 use Rattle.calls.specs.Pool.{Pool, ledger, Engine}
-use Rattle.calls.specs.Step.{success, refusal, accepted, Act, ask, give, query, bad, Kind, plans, reads}
+use Rattle.calls.specs.Step.{success, told, refusal, accepted, Act, ask, give, query, cut, bad, Kind, plans, reads}
 use Rattle.calls.specs.Step.{others, kindOf, named, fitOf, numberOf, newRow, grant, carry, answerDone, poolDone}
 use Rattle.calls.specs.Step.{answerTo, poolAfter, countedOf, poolAfterAll}
 
@@ -59,6 +59,7 @@ named-zero L r z = go (recordOf (r .ticket) L) refl
 -- the act that carries out a plan on the record r
 abbrev pub planned : Plan → Row → Act
 planned vacate r = give r
+planned (keep n) r = cut r n
 
 -- what a request that gets the number 0 says: every test of its rows fails
 pub record Asked (E : Engine) (p : Pool) (c n k : ℕ) : Type 0 where
@@ -128,11 +129,26 @@ module _ (E : Engine) (p : Pool) where
       let (x, y) = act-done (ask c n) (zero-ask c n k a) in
       (x ∙ rw (a .fit, answerDone), y ∙ rw (a .fit, poolDone))
 
-  -- a plan carried out on the record r
-  pub plan-done : (q : Plan) (r : Row) → recordOf (r .ticket) (ledger p) ≡ some r
-      → (answerTo E p (planned q r) ≡ success r) × (poolAfter E p (planned q r) ≡ carry E p (r .ticket) q)
+  -- a plan that can be carried out on the record r
+  pub plan-done : (q : Plan) (r : Row) → recordOf (r .ticket) (ledger p) ≡ some r → feasible q r ≡ true
+      → (answerTo E p (planned q r) ≡ told q r) × (poolAfter E p (planned q r) ≡ carry E p (r .ticket) q)
   unfolding numberOf answerDone poolDone
-  plan-done vacate r e = act-done (give r) (named-right (ledger p) r e)
+  plan-done vacate r e h = act-done (give r) (named-right (ledger p) r e)
+  plan-done (keep n) r e h = act-done (cut r n) (rw (named-right (ledger p) r e, h))
+
+  pub cut-zero : (r : Row) (n : ℕ) → numberOf E p (cut r n) ≡ 0
+      → (recordOf (r .ticket) (ledger p) ≡ some r) × (keepable n r ≡ true)
+  unfolding numberOf
+  cut-zero r n z = go (ℕ-discrete (named (ledger p) r) 0) (keepable n r) refl
+    where
+      go : Dec (named (ledger p) r ≡ 0) → (b : Bool) → keepable n r ≡ b
+          → (recordOf (r .ticket) (ledger p) ≡ some r) × (keepable n r ≡ true)
+      go (no d) b e = absurd (d (rw (eqb-ne (named (ledger p) r) 0 d) at z))
+      go (yes y) true e = (named-zero (ledger p) r y, e)
+      go (yes y) false e =
+          let x : _≡_ {A = ℕ} (cond (eqb (named (ledger p) r) 0) (cond (keepable n r) 0 2) (named (ledger p) r)) 2 =
+          rw (y, e) in
+          absurd (omega (arith, sym x ∙ z))
 
   -- an act's answer has its number
   pub answer-number : (a : Act) → answerTo E p a .number ≡ numberOf E p a
@@ -143,6 +159,7 @@ module _ (E : Engine) (p : Pool) where
       done (ask c n) z = let (k, h) = ask-zero c n z in ap (λ (x : Answer). x .number) (ask-done c n k h .0)
       done (give r) z = ap (λ (x : Answer). x .number) (act-done (give r) z .0)
       done (query r) z = ap (λ (x : Answer). x .number) (act-done (query r) z .0)
+      done (cut r n) z = ap (λ (x : Answer). x .number) (act-done (cut r n) z .0)
       done bad z = absurd (omega arith)
 
       go : (a : Act) → Dec (numberOf E p a ≡ 0) → answerTo E p a .number ≡ numberOf E p a
@@ -156,7 +173,7 @@ module _ (E : Engine) (p : Pool) where
 pub act-by : (E : Engine) (P : Pool → Act → Pool → Type 0)
     → ((p : Pool) (a : Act) → P p a p)
     → ((p : Pool) (c n k : ℕ) → Asked E p c n k → P p (ask c n) (grant E p c n k))
-    → ((p : Pool) (q : Plan) (r : Row) → recordOf (r .ticket) (ledger p) ≡ some r
+    → ((p : Pool) (q : Plan) (r : Row) → recordOf (r .ticket) (ledger p) ≡ some r → feasible q r ≡ true
     → P p (planned q r) (carry E p (r .ticket) q))
     → (p : Pool) (a : Act) → P p a (poolAfter E p a)
 unfolding numberOf poolDone
@@ -169,8 +186,11 @@ act-by E P stays grants carries p a = go a (ℕ-discrete (numberOf E p a) 0)
         subst (P p (ask c n)) (sym (ask-done E p c n k h .1)) (grants p c n k h)
     go (give r) (yes z) =
         let e = named-zero (ledger p) r z in
-        subst (P p (give r)) (sym (plan-done E p vacate r e .1)) (carries p vacate r e)
+        subst (P p (give r)) (sym (plan-done E p vacate r e refl .1)) (carries p vacate r e refl)
     go (query r) (yes z) = subst (P p (query r)) (sym (act-done E p (query r) z .1)) (stays p (query r))
+    go (cut r n) (yes z) =
+        let (e, h) = cut-zero E p r n z in
+        subst (P p (cut r n)) (sym (plan-done E p (keep n) r e h .1)) (carries p (keep n) r e h)
     go bad (yes z) = absurd (omega arith)
 
 -- each act is answered on the pool as the one before left it
@@ -180,6 +200,11 @@ counted-append E [] ys p = refl
 counted-append E (a ∷ xs) ys p = rw (counted-append E xs ys (poolAfter E p a))
 
 -- ---- the kind of an act
+
+-- the plan's act carries it out
+pub kind-planned : (q : Plan) (r : Row) → kindOf (planned q r) ≡ plans q r
+kind-planned vacate r = refl
+kind-planned (keep n) r = refl
 
 -- an act that carries out a plan is the plan's act
 abbrev backTo : Kind → Option Act
@@ -192,6 +217,7 @@ kind-plans a q r e = go a (ap backTo e)
   where
     go : (a : Act) → backTo (kindOf a) ≡ some (planned q r) → a ≡ planned q r
     go (give s) x = cc
+    go (cut s n) x = cc
     go (ask c n) x = absurd (absurd-some x)
     go (query s) x = absurd (absurd-some x)
     go bad x = absurd (absurd-some x)

@@ -6,12 +6,12 @@ use mathlib.Core.Bool.{Bool, true, false, cond, _&&_, true≢false, false≢true
 use mathlib.Core.List.{List, [], _∷_}
 use lib.Dec.{eqb}
 use Rattle.words.specs.Lists.{Words, all}
-use Rattle.words.proofs.Tests.{and-i, eqb-false}
+use Rattle.words.proofs.Tests.{and-i, eqb-false, eqb-ne}
 use Rattle.ledger.specs.declared.Row.{Row}
-use Rattle.ledger.specs.Records.{row, isParty, Plan, vacate}
+use Rattle.ledger.specs.Records.{row, isParty, Plan, vacate, keep}
 use Rattle.calls.specs.Pool.{Pool, ledger, Engine}
-use Rattle.calls.specs.Step.{Call, format, copy, single, look, list, refusal, accepted, Act, ask, give, query, bad}
-use Rattle.calls.specs.Step.{Kind, plans, reads, others, kindOf, Counted, named, numberOf, poolDone, answerTo}
+use Rattle.calls.specs.Step.{Call, format, copy, single, look, list, refusal, accepted, Act, ask, give, query, cut}
+use Rattle.calls.specs.Step.{bad, Kind, plans, reads, others, kindOf, Counted, named, numberOf, poolDone, answerTo}
 use Rattle.calls.specs.Step.{poolAfter, countedOf, poolAfterAll, actsOf, buffersOf, fills, ownAnswer}
 use Rattle.calls.specs.Step.{buffersAfter, request, requests, partyOf, partyGiven, rightParty, partied, refusedBy}
 use Rattle.calls.proofs.ActLaws.{planned, act-refused, act-accepted, kind-plans}
@@ -39,6 +39,7 @@ module _ (E : Engine) where
       go (ask c n) k = absurd (false≢true k)
       go (give r) k = absurd (false≢true k)
       go (query r) k = same (eqb (numberOf E q (query r)) 0)
+      go (cut r n) k = absurd (false≢true k)
       go bad k = absurd (false≢true k)
 
   -- a plan for a record that is not there: refused by the number of its name
@@ -49,6 +50,9 @@ module _ (E : Engine) where
     where
       by : (x : Plan) → answerTo E q (planned x r) ≡ refusal n
       by vacate = act-refused E q (give r) (λ z. d (sym e ∙ z)) .0 ∙ ap refusal e
+      by (keep m) =
+          let i : numberOf E q (cut r m) ≡ n = rw (e, eqb-ne n 0 d) in
+          act-refused E q (cut r m) (λ z. d (sym i ∙ z)) .0 ∙ ap refusal i
 
 -- a call that the gate refuses leaves the pool, unless it fills memory anew
 pub refused-pool : (E : Engine) (c : Call Words) (q : Pool) (n : ℕ) → fills c ≡ false → refusedBy E c q n .pool ≡ q
@@ -85,6 +89,7 @@ plan-party a x r k = ap (λ (z : Act). rightParty (partyOf z)) (kind-plans a x r
   where
     by : (x : Plan) → rightParty (partyOf (planned x r)) ≡ isParty (r .party)
     by vacate = refl
+    by (keep n) = refl
 
 -- a party's list asks for that party
 pub request-partied : (c k x y z : ℕ) → isParty c ≡ true → partied (request c k x y z) ≡ true

@@ -1,5 +1,6 @@
 -- Demand 1, proved over any engine that keeps the laws. Assumes nothing.
 use Prim.Native.Nat.{ℕ, zero, _*_, _/_, _%_, _≤_, _<_}
+use native.Mathlib.Decide.{decLe, ℕ-discrete}
 use native.Mathlib.Omega.{arith}
 use mathlib.Core.Path.{_≡_, refl, sym, ap, _∙_, subst}
 use mathlib.Core.Logic.{_≢_, _↔_, _⊎_, inl, inr}
@@ -13,18 +14,18 @@ use Rattle.words.proofs.Tests.{and-l, and-r, and-i, eqb-eq, eqb-ne, eqb-same, e
 use Rattle.words.proofs.Tests.{of-gt, absurd-some}
 use Rattle.words.proofs.ListLaws.{length-listFrom}
 use Rattle.ledger.specs.declared.Row.{Row}
-use Rattle.ledger.specs.Records.{isParty, recordWords, tableOf, recordOf, sameBlock, full}
+use Rattle.ledger.specs.Records.{isParty, recordWords, tableOf, recordOf, sameBlock, full, keepable}
 use Rattle.ledger.proofs.RecordLaws.{length-tableOf, records-table}
 use Rattle.calls.specs.declared.Answer.{Answer}
 use Rattle.calls.specs.Pool.{Pool, withTable, ledger, wordCount, Engine, Laws, StoredForm, ruleOf, lengths, stored}
 use Rattle.calls.specs.Pool.{sound}
 use Rattle.calls.specs.Step.{Call, format, copy, single, find, look, list, zeroAnswer, refusal, accepted, arenaPart}
-use Rattle.calls.specs.Step.{placeholder, Act, ask, give, query, bad, Outcome, listSuits, oldWords, widenedAt}
+use Rattle.calls.specs.Step.{placeholder, Act, ask, give, query, cut, bad, Outcome, listSuits, oldWords, widenedAt}
 use Rattle.calls.specs.Step.{copied, copySuits, named, fitOf, numberOf, answerTo, poolAfter, buffersOf, suits}
 use Rattle.calls.specs.Step.{fills, partyGiven, rightParty, partied, shownBy, knownForm, rightLengths, behind, gate}
 use Rattle.calls.specs.Step.{refusedHead, refusedBy, copyDone, actsDone, perform, step}
-use Rattle.calls.specs.Demand1.{BadSize, NoRecord, NoTicket, NoRoom, Unknown, Same, AskNumbers, NameNumbers}
-use Rattle.calls.specs.Demand1.{ActNumbers, BadParty, FormatNumbers, Copies, Refused, Performed, RequestForms}
+use Rattle.calls.specs.Demand1.{BadSize, NoRecord, NoTicket, NoRoom, Unknown, Same, BadKeep, AskNumbers}
+use Rattle.calls.specs.Demand1.{NameNumbers, CutNumbers, ActNumbers, BadParty, FormatNumbers, Copies, Refused, Performed, RequestForms}
 use Rattle.calls.specs.Demand1.{Demand1}
 use Rattle.calls.proofs.StoreLaws.{sound-valid, sound-form}
 use Rattle.calls.proofs.RowLaws.{size-test, record-test, ticket-test, room-test, unknown-none, unknown-other}
@@ -144,6 +145,65 @@ name-rows E laws p ok r = go (recordOf (r .ticket) (ledger p)) refl
     go none e = rw (named-none (ledger p) r e) (six (unknown-none p r e))
     go (some s) e = let x = named-some (ledger p) r s e in rw x (own s e (eqb (s .party) (r .party)) refl x)
 
+-- the words to keep
+bad-keep : (r : Row) (n : ℕ) → keepable n r ≡ false → BadKeep r n
+bad-keep r n h = go (ℕ-discrete n 0) (decLe n (r .words))
+  where
+    go : Dec (n ≡ 0) → Dec (n ≤ r .words) → BadKeep r n
+    go (yes z) l = inl z
+    go (no z) (no l) = inr (omega arith)
+    go (no z) (yes l) = absurd (true≢false (sym (rw (of-le 1 n (omega arith), of-le n (r .words) l)) ∙ h))
+
+good-keep : (r : Row) (n : ℕ) → keepable n r ≡ true → BadKeep r n → ⊥
+good-keep r n h (inl z) = omega (arith, le-of 1 n (and-l (leb 1 n) (leb n (r .words)) h))
+good-keep r n h (inr l) = omega (arith, le-of n (r .words) (and-r (leb 1 n) (leb n (r .words)) h))
+
+-- 6 and 7 as for a release, and behind them 2
+cut-rows : (p : Pool) (r : Row) (n x : ℕ) → NameNumbers p r x → x ≢ 2
+    → CutNumbers p r n (cond (eqb x 0) (cond (keepable n r) 0 2) x)
+cut-rows p r n x N other = go (ℕ-discrete x 0)
+  where
+    kept : (Unknown p r → ⊥) → Same p r → (b : Bool) → keepable n r ≡ b → CutNumbers p r n (cond b 0 2)
+    kept known right true e = record {
+      six = neither (λ h. omega arith) known;
+      seven = neither (λ h. omega arith) (λ h. h .1 right);
+      two = neither (λ h. omega arith) (λ h. good-keep r n e (h .2));
+      zero = both refl (known, right, good-keep r n e);
+    }
+    kept known right false e = record {
+      six = neither (λ h. omega arith) known;
+      seven = neither (λ h. omega arith) (λ h. h .1 right);
+      two = both refl (known, right, bad-keep r n e);
+      zero = neither (λ h. omega arith) (λ h. h .2 (bad-keep r n e));
+    }
+
+    go : Dec (x ≡ 0) → CutNumbers p r n (cond (eqb x 0) (cond (keepable n r) 0 2) x)
+    go (yes z) =
+        let (known, right) = N .zero .0 z in
+        let e : eqb x 0 ≡ true = ap (λ k. eqb k 0) z in
+        rw e (kept known right (keepable n r) refl)
+    go (no d) =
+        rw (eqb-ne x 0 d)
+        (record {
+          six = N .six;
+          seven = N .seven;
+          two = neither other (λ h. d (N .zero .1 (h .0, h .1)));
+          zero = neither d (λ h. d (N .zero .1 (h .0, h .1)));
+        })
+
+name-not-two : (p : Pool) (r : Row) → named (ledger p) r ≢ 2
+name-not-two p r e = go (recordOf (r .ticket) (ledger p)) refl
+  where
+    last : (c b : Bool) → _≡_ {A = ℕ} (cond c (cond b 0 7) 6) 2 → ⊥
+    last true true h = omega arith
+    last true false h = omega arith
+    last false b h = omega arith
+
+    go : (o : Option Row) → recordOf (r .ticket) (ledger p) ≡ o → ⊥
+    go none x = omega (arith, sym (named-none (ledger p) r x) ∙ e)
+    go (some s) x =
+        last (eqb (s .party) (r .party)) (sameBlock s r) (sym (named-some (ledger p) r s x) ∙ e)
+
 pub act-numbers : (E : Engine) → Laws E → (p : Pool) (a : Act) → sound E p ≡ true → ActNumbers E p a (numberOf E p a)
 unfolding numberOf
 act-numbers E laws p (ask c n) ok = (
@@ -153,6 +213,8 @@ act-numbers E laws p (ask c n) ok = (
 )
 act-numbers E laws p (give r) ok = name-rows E laws p ok r
 act-numbers E laws p (query r) ok = name-rows E laws p ok r
+act-numbers E laws p (cut r n) ok =
+    cut-rows p r n (named (ledger p) r) (name-rows E laws p ok r) (name-not-two p r)
 act-numbers E laws p bad ok = refl
 
 -- ---- 12
@@ -265,12 +327,20 @@ module _ (E : Engine) where
           last true false = refl
           last false b = refl
 
+      kept : (c b : Bool) (x : ℕ) → ofAct x ≡ true → ofAct (cond c (cond b 0 2) x) ≡ true
+      kept true true x h = refl
+      kept true false x h = refl
+      kept false b x h = h
+
       go : (a : Act) → partied a ≡ true → ofAct (numberOf E p a) ≡ true
       go (ask c n) h =
           rw h
           (asked (eqb n 0 || ltb (E .limit (p .shape)) n) (full (ledger p)) (eqb (p .head .next) 0) (fitOf E p n))
       go (give r) h = name r (recordOf (r .ticket) (ledger p))
       go (query r) h = name r (recordOf (r .ticket) (ledger p))
+      go (cut r n) h =
+          kept (eqb (named (ledger p) r) 0) (keepable n r) (named (ledger p) r)
+          (name r (recordOf (r .ticket) (ledger p)))
       go bad h = refl
 
   -- nor does a call that the gate lets pass

@@ -3,7 +3,7 @@ use Prim.Native.Nat.{ℕ, _/_}
 use native.Mathlib.Omega.{arith}
 use mathlib.Core.Path.{_≡_, refl, sym, ap, _∙_, subst}
 use mathlib.Core.Logic.{_≢_}
-use mathlib.Core.Bool.{true, false, _||_}
+use mathlib.Core.Bool.{true, false, not, _&&_, _||_, and-true}
 use mathlib.Core.List.{List, [], _∷_}
 use mathlib.Core.Option.{Option, none, some}
 use lib.Dec.{eqb, ltb}
@@ -11,11 +11,12 @@ use lib.ListN.{getD}
 use Rattle.words.specs.Lists.{Words}
 use Rattle.words.proofs.Tests.{eqb-ne, false-of}
 use Rattle.ledger.specs.declared.Row.{Row}
-use Rattle.ledger.specs.Records.{Ledger, isParty, recordOf, full, Plan, vacate, Member, member, planFor, settle}
-use Rattle.ledger.specs.Units.{free}
+use Rattle.ledger.specs.Records.{Ledger, isParty, emptyRow, recordOf, full, Plan, vacate, keep, Member, member}
+use Rattle.ledger.specs.Records.{planFor, settle}
+use Rattle.ledger.specs.Units.{covers, free}
 use Rattle.ledger.specs.Runs.{freeRuns}
 use Rattle.ledger.proofs.RecordLaws.{record-kept}
-use Rattle.ledger.proofs.UnitLaws.{free-enter, free-settle, valid-settle}
+use Rattle.ledger.proofs.UnitLaws.{covers-empty, free-enter, free-settle, valid-settle}
 use Rattle.ledger.proofs.RunLaws.{runs-are}
 use Rattle.calls.specs.Pool.{store, Pool, ledger, wordCount, Engine, Laws, nextAfter, ruleOf}
 use Rattle.calls.specs.Pool.{sound}
@@ -35,6 +36,7 @@ use Rattle.calls.proofs.CallLaws.{reads-kept, refused-pool}
 use Rattle.calls.proofs.GrantLaws.{entered, over, zeroed, length-zeroed, grant-store, grant-valid, grant-sound}
 use Rattle.calls.proofs.GrantLaws.{grant-zeros, zeroed-keeps, grant-holds}
 use Rattle.calls.proofs.HeldLaws.{block-kept}
+use Rattle.calls.proofs.TrimLaws.{trims-at, trims-only, keeps-all}
 use Rattle.calls.proofs.Demand1.{act-numbers}
 
 -- r is a live record of p
@@ -96,14 +98,18 @@ module _ (E : Engine) (laws : Laws E) where
       let L = settle (member (r .ticket) vacate ∷ []) (ledger p) in
       let next = p .head .next in
       let good = sound-valid E laws p ok in
-      let (x, y) = plan-done E p vacate r e in
+      let (x, y) = plan-done E p vacate r e refl in
+      let none-kept : (u : ℕ) → covers ρ u emptyRow ≡ false = λ u. covers-empty ρ u emptyRow refl in
       let holds = ap (λ (q : Pool). ledger q) y ∙ ledger-store E L next p in
       record {
         answer = x;
         holds = holds;
         next = ap (λ (q : Pool). q .head .next) y ∙ next-store E L next p;
         units = λ u.
-            ap (λ (M : Ledger). free ρ M u) holds ∙ free-settle ρ (wordCount p) next (ledger p) good (r .ticket) r e u;
+            ap (λ (M : Ledger). free ρ M u) holds
+            ∙ free-settle ρ (laws .unit (p .shape)) (wordCount p) next (ledger p) good (r .ticket) vacate r e u
+            ∙ ap (λ b. free ρ (ledger p) u || (covers ρ u r && not b)) (none-kept u)
+            ∙ ap (λ b. free ρ (ledger p) u || b) (and-true (covers ρ u r));
       }
 
   releases-only : (p : Pool) (r : Row) → (Held p r → ⊥)
@@ -125,7 +131,7 @@ module _ (E : Engine) (laws : Laws E) where
       act-by E (λ p a q. sound E p ≡ true → sound E q ≡ true)
       (λ p a ok. ok)
       (λ p c n k asked ok. grant-sound E laws p ok c n k asked)
-      (λ p x r e ok. settled-sound E laws p ok (member (r .ticket) x ∷ []))
+      (λ p x r e h ok. settled-sound E laws p ok (member (r .ticket) x ∷ []))
 
   acts-sound : (acts : List Act) (p : Pool) → sound E p ≡ true → Throughout E p acts
   acts-sound [] p ok = ok
@@ -134,7 +140,7 @@ module _ (E : Engine) (laws : Laws E) where
   pub act-shape : (p : Pool) (a : Act) → poolAfter E p a .shape ≡ p .shape
   unfolding grant store
   act-shape = act-by E (λ p a q. q .shape ≡ p .shape) (λ p a. refl) (λ p c n k asked. refl)
-      (λ p x r e. refl)
+      (λ p x r e h. refl)
 
   format-sound : (p : Pool) (first : ℕ) → accepted (step E (format first) p .answer) ≡ true
       → sound E (step E (format first) p .pool) ≡ true
@@ -166,7 +172,7 @@ module _ (E : Engine) (laws : Laws E) where
       let ms : List Member = member t x ∷ [] in
       let other : planFor (r .ticket) ms ≡ none = rw (eqb-ne t (r .ticket) d) in
       block-kept E laws p ok (p .arena) refl (settle ms (ledger p)) (p .head .next)
-      (valid-settle (ruleOf E p) (wordCount p) (p .head .next) ms (ledger p) (sound-valid E laws p ok)) r e
+      (valid-settle (ruleOf E p) (laws .unit (p .shape)) (wordCount p) (p .head .next) ms (ledger p) (sound-valid E laws p ok)) r e
       (record-kept (r .ticket) ms other (ledger p) ∙ e) (λ i h. refl)
 
   act-spares : (p : Pool) (a : Act) → sound E p ≡ true → (r : Row) → Held p r
@@ -175,11 +181,12 @@ module _ (E : Engine) (laws : Laws E) where
       act-by E (λ p a q. sound E p ≡ true → Held p r → (Names r a → ⊥) → Untouched E p q r)
       (λ p a ok e names. untouched-same p r e)
       (λ p c n k asked ok e names. grant-spares p ok c n k asked r e)
-      (λ p x s f ok e names. plan-spares p ok (s .ticket) x r e (λ t. names (named-so x s (one-record p s f e t))))
+      (λ p x s f h ok e names. plan-spares p ok (s .ticket) x r e (λ t. names (named-so x s (one-record p s f e t))))
       p a ok e
     where
       named-so : (x : Plan) (s : Row) → s ≡ r → Names r (planned x s)
       named-so vacate s e = e
+      named-so (keep n) s e = e
 
       -- a ticket has one record
       one-record : (p : Pool) (s : Row) → Held p s → Held p r → s .ticket ≡ r .ticket → s ≡ r
@@ -225,7 +232,7 @@ module _ (E : Engine) (laws : Laws E) where
       act-by E (λ p a q. wordCount q ≡ wordCount p) (λ p a. refl)
       (λ p c n k asked. ap (λ (q : Pool). wordCount q) (grant-store E p c n k)
       ∙ words-store E (entered E p c n k) (nextAfter (p .head .next)) (over p (zeroed E p c n k)) ∙ length-zeroed E p c n k)
-      (λ p x r e. words-store E (settle (member (r .ticket) x ∷ []) (ledger p)) (p .head .next) p)
+      (λ p x r e h. words-store E (settle (member (r .ticket) x ∷ []) (ledger p)) (p .head .next) p)
 
 pub demand2 : (E : Engine) → Laws E → Demand2 E
 unfolding freeRuns
@@ -237,6 +244,9 @@ demand2 E laws =
       refuses = no-room E laws;
       releases = releases-at E laws;
       others = releases-only E laws;
+      trims = λ p ok r n e h. trims-at E laws p ok r e n h;
+      otherTrims = trims-only E;
+      keepsAll = keeps-all E laws;
       finds = finds-at E laws;
       stays = act-sound E laws;
       throughout = λ p c. acts-sound E laws (actsOf c) p;

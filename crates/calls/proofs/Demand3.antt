@@ -2,10 +2,11 @@
 -- what it was lent, and that an act that is refused leaves the pool. Assumes nothing.
 use mathlib.Core.Path.{_≡_, refl, sym, ap, _∙_, subst}
 use mathlib.Core.Bool.{Bool, true, false, not, _||_, false≢true}
+use mathlib.Core.Logic.{_≢_}
 use mathlib.Core.List.{List, [], _∷_, _++_}
 use mathlib.Core.Option.{Option, none, some}
 use lib.ListN.{length, getD, drop}
-use Rattle.words.specs.Lists.{Words}
+use Rattle.words.specs.Lists.{Words, all}
 use Rattle.words.proofs.Tests.{and-l, and-r, not-true}
 use Rattle.ledger.specs.declared.Row.{Row}
 use Rattle.ledger.specs.Records.{Ledger, Plan, Member, planFor, settle, recordsOf, tableOf}
@@ -13,10 +14,10 @@ use Rattle.ledger.proofs.RecordLaws.{settle-same, length-table-settle}
 use Rattle.calls.specs.Pool.{Pool, ledger, wordCount, Engine, Laws, store, lengths, sound}
 use Rattle.calls.specs.Step.{Call, format, copy, single, look, list, zeroAnswer, accepted, Outcome, named, answersOf}
 use Rattle.calls.specs.Step.{answerWords, actsDone, step}
-use Rattle.calls.specs.Lent.{Buffer, see, Event, mapCall, brought, isWhole, headReturns, outcome, after}
-use Rattle.calls.specs.Lent.{laterEnd, laterOutcomes}
-use Rattle.calls.specs.Demand3.{Brings, Progress, isReplay, standAll, RightAll, afterActs, brings, elsewhere}
-use Rattle.calls.specs.Demand3.{RightList, follows, Answered, endOf, atStart, Sequence, Demand3}
+use Rattle.calls.specs.Lent.{Buffer, see, Event, mapCall, brought, isWhole, ownTable, headReturns, outcome}
+use Rattle.calls.specs.Lent.{after, laterEnd, laterOutcomes}
+use Rattle.calls.specs.Demand3.{Brings, Progress, isReplay, isOld, standAll, RightAll, afterActs, brings, elsewhere}
+use Rattle.calls.specs.Demand3.{RightList, follows, Answered, endOf, atStart, Sequence, settledFor, Demand3}
 use Rattle.calls.proofs.StoreLaws.{ledger-store, shape-store, words-store, store-keeps, settled-sound}
 use Rattle.calls.proofs.StoreLaws.{settled-none, sound-lengths, settled}
 use Rattle.calls.proofs.GateLaws.{step-sound, fills-head}
@@ -24,13 +25,14 @@ use Rattle.calls.proofs.LentLaws.{whole-brings, whole-table, own-table,
 use Rattle.calls.proofs.LentLaws.{outcome-is, returned-head, makes-seen}
 use Rattle.calls.proofs.ProgressLaws.{orElse, Inv}
 use Rattle.calls.proofs.Strays.{stray-step}
-use Rattle.calls.proofs.WholeCalls.{all-own, replay-six, WholeCall, whole-sound, whole-step}
+use Rattle.calls.proofs.WholeCalls.{all-own, spent-now, WholeCall, whole-sound, whole-step}
 
 or-first : (a b : Bool) → b ≡ false → (a || b) ≡ true → a ≡ true
 or-first true b h k = refl
 or-first false b h k = absurd (false≢true (sym h ∙ k))
 
-module _ (E : Engine) (laws : Laws E) (p : Pool) (ok : sound E p ≡ true) (ms : List Member) where
+module _ (E : Engine) (laws : Laws E) (p : Pool) (ok : sound E p ≡ true) (ms : List Member)
+    (suit : all (settledFor E (ledger p)) ms ≡ true) where
   -- ---- one event
 
   pub record Moved (s : Progress) (q : Pool) (e : Event) : Type 0 where
@@ -74,14 +76,15 @@ module _ (E : Engine) (laws : Laws E) (p : Pool) (ok : sound E p ≡ true) (ms :
   stray-event : (s : Progress) (q : Pool) (e : Event) → q ≡ settled E p (s .done) → Inv ms s → isWhole q e ≡ false
       → standAll (ledger p) (brings q e) s (outcome E q e .counted) ≡ true
       → (not (accepted (outcome E q e .answer)) || elsewhere (e .call)) ≡ true → Moved s q e
-  unfolding outcome isReplay
+  unfolding outcome isReplay isOld
   stray-event s q e d v w h b =
       let m = brought q e in
       let c = mapCall (see q) (e .call) in
-      let unknown : (r : Row) → isReplay (ledger p) (brings q e) s r ≡ true → named (ledger m) r ≡ 6 =
-      λ r y. ap (λ (t : Words). named (recordsOf t) r) (own-table q e (search and-l))
-      ∙ replay-six E laws p ok ms s q d v (brings q e) r y in
-      let k = stray-step E (ledger p) (brings q e) s w m unknown c h in
+      let b′ = brings q e in
+      let spent : (r : Row) → (isReplay (ledger p) b′ s r || isOld (ledger p) b′ s r) ≡ true → named (ledger m) r ≢ 0 =
+      λ r y z. spent-now E laws p ok ms suit s q d v b′ r y
+      (ap (λ (t : Words). named (recordsOf t) r) (sym (own-table q e (own (ownTable q e) refl r y))) ∙ z) in
+      let k = stray-step E (ledger p) b′ s w m spent c h in
       record {
         pool = quiet-after E q e (record {
           arena = k .arena;
@@ -98,6 +101,11 @@ module _ (E : Engine) (laws : Laws E) (p : Pool) (ok : sound E p ≡ true) (ms :
         right = k .right;
         listed = λ a. absurd (false≢true (sym w ∙ a));
       }
+    where
+      own : (t : Bool) → ownTable q e ≡ t → (r : Row)
+          → (isReplay (ledger p) (brings q e) s r || isOld (ledger p) (brings q e) s r) ≡ true → t ≡ true
+      own true o r y = refl
+      own false o r y = absurd (false≢true (rw o at y))
 
   list-right : (q : Pool) → sound E q ≡ true → (c : Call Buffer) (o : Outcome) → o ≡ step E (mapCall (see q) c) q
       → RightList q c o
@@ -122,7 +130,7 @@ module _ (E : Engine) (laws : Laws E) (p : Pool) (ok : sound E p ≡ true) (ms :
         ∙ ap (λ (x : Brings). settled E p (afterActs (ledger p) x s (o .counted) .done)) (sym own);
     inv = subst (λ (x : Brings). Inv ms (afterActs (ledger p) x s (o .counted))) (sym own) (call .inv);
     right = subst (λ (x : Brings). RightAll (ledger p) x s (o .counted)) (sym own) (call .right);
-    listed = λ _. list-right q (whole-sound E laws p ok ms s q d v) (e .call) o is-step;
+    listed = λ _. list-right q (whole-sound E laws p ok ms suit s q d v) (e .call) o is-step;
   }
     where
       o : Outcome
@@ -137,10 +145,10 @@ module _ (E : Engine) (laws : Laws E) (p : Pool) (ok : sound E p ≡ true) (ms :
       is-step : o ≡ step E c q
       is-step = outcome-is E q e ∙ ap (λ (z : Pool). step E c z) (whole-brings q e w)
 
-      call : WholeCall E laws p ok ms s q c o
+      call : WholeCall E laws p ok ms suit s q c o
       call =
-          subst (λ (z : Outcome). WholeCall E laws p ok ms s q c z) (sym is-step)
-          (whole-step E laws p ok ms s q d v c
+          subst (λ (z : Outcome). WholeCall E laws p ok ms suit s q c z) (sym is-step)
+          (whole-step E laws p ok ms suit s q d v c
           (subst (λ (z : Outcome). standAll (ledger p) all-own s (z .counted) ≡ true) is-step
           (subst (λ (x : Brings). standAll (ledger p) x s (o .counted) ≡ true) own h)))
 
@@ -212,8 +220,8 @@ module _ (E : Engine) (laws : Laws E) (p : Pool) (ok : sound E p ≡ true) (ms :
 
 pub demand3 : (E : Engine) → Laws E → Demand3 E
 unfolding Demand3 settled
-demand3 E laws p ok ms alive es h =
-    let r = sequence-end E laws p ok ms es h in
+demand3 E laws p ok ms suit es h =
+    let r = sequence-end E laws p ok ms suit es h in
     record {
       answered = r .0;
       form = r .1;
@@ -222,6 +230,6 @@ demand3 E laws p ok ms alive es h =
       kept = λ i k. ap (λ (q : Pool). getD (q .arena) i 0) (r .1)
           ∙ store-keeps E (settle ms (ledger p)) (p .head .next) p i k;
       same = λ others k ls.
-          let e : endOf E p es ≡ endOf E p others = r .1 ∙ sym (sequence-end E laws p ok ms others k .1) in
+          let e : endOf E p es ≡ endOf E p others = r .1 ∙ sym (sequence-end E laws p ok ms suit others k .1) in
           (e, ap (λ (q : Pool). laterOutcomes E q ls) e, ap (λ (q : Pool). laterEnd E q ls) e);
     }

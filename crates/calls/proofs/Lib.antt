@@ -7,6 +7,7 @@ pub mod RowLaws
 pub mod GrantLaws
 pub mod HeldLaws
 pub mod Demand1
+pub mod TrimLaws
 pub mod Demand2
 pub mod Monotone
 pub mod LentLaws

@@ -5,12 +5,15 @@ use mathlib.Core.Bool.{Bool, true, false, cond, false≢true, true≢false}
 use mathlib.Core.List.{List, [], _∷_}
 use mathlib.Core.Option.{Option, none, some}
 use lib.Dec.{eqb}
-use Rattle.words.specs.Lists.{isSome}
-use Rattle.words.proofs.Tests.{eqb-eq, eqb-same}
-use Rattle.ledger.specs.Records.{Ledger, Plan, vacate, Member, member, planFor}
+use Rattle.words.specs.Lists.{all, isSome}
+use Rattle.words.proofs.Tests.{and-l, and-r, eqb-eq, eqb-same, absurd-some}
+use Rattle.ledger.specs.declared.Row.{Row}
+use Rattle.ledger.specs.Records.{Ledger, recordOf, Plan, vacate, keep, feasible, Member, member, planFor}
 use Rattle.calls.specs.declared.Answer.{Answer}
+use Rattle.calls.specs.Pool.{Engine}
 use Rattle.calls.specs.Step.{accepted, Act, Kind, plans, reads, others, kindOf, Counted}
 use Rattle.calls.specs.Demand3.{Brings, Progress, remove, isPlan, isDue, RightAs, Right, afterAs, afterAct}
+use Rattle.calls.specs.Demand3.{settledFor}
 
 -- ---- plans and tickets
 
@@ -40,6 +43,30 @@ plan-removed t (m ∷ ms) = go (plan-removed t ms) (eqb (m .ticket) t) refl
 pub is-plan : (q : Plan) (o : Option Plan) → isPlan q o ≡ true → o ≡ some q
 is-plan q none h = absurd (false≢true h)
 is-plan vacate (some vacate) h = refl
+is-plan vacate (some (keep n)) h = absurd (false≢true h)
+is-plan (keep m) (some vacate) h = absurd (false≢true h)
+is-plan (keep m) (some (keep n)) h = ap (λ (k : ℕ). some (keep k)) (sym (eqb-eq m n h))
+
+pub plan-is : (q : Plan) → isPlan q (some q) ≡ true
+plan-is vacate = refl
+plan-is (keep n) = eqb-same n
+
+-- what is settled for a ticket can be carried out on its record
+pub set-feasible : (E : Engine) (L : Ledger) (ms : List Member) → all (settledFor E L) ms ≡ true
+    → (t : ℕ) (q : Plan) → planFor t ms ≡ some q → (r : Row) → recordOf t L ≡ some r → feasible q r ≡ true
+set-feasible E L [] h t q e r k = absurd (absurd-some e)
+set-feasible E L (m ∷ ms) h t q e r k =
+    let rest = set-feasible E L ms (and-r (settledFor E L m) (all (settledFor E L) ms) h) t q in
+    go (eqb (m .ticket) t) refl e (and-l (settledFor E L m) (all (settledFor E L) ms) h) rest
+  where
+    go : (b : Bool) → eqb (m .ticket) t ≡ b → cond b (some (m .plan)) (planFor t ms) ≡ some q
+        → settledFor E L m ≡ true
+        → (planFor t ms ≡ some q → (r : Row) → recordOf t L ≡ some r → feasible q r ≡ true) → feasible q r ≡ true
+    go false i e s rest = rest e r k
+    go true i e s rest =
+        let same : m .plan ≡ q = cc in
+        let here : recordOf (m .ticket) L ≡ some r = ap (λ (j : ℕ). recordOf j L) (eqb-eq (m .ticket) t i) ∙ k in
+        subst (λ (x : Plan). feasible x r ≡ true) same (rw (here, settledFor) at s)
 
 -- Where a sequence stands: `ms` is the set.
 pub record Inv (ms : List Member) (s : Progress) : Type 0 where
@@ -75,7 +102,7 @@ abbrev pub given : Act → Answer → Counted
 given a x = record { act = some a; answer = x }
 
 module _ (start : Ledger) (b : Brings) (s : Progress) where
-  -- an act of this kind is no release of the set
+  -- an act of this kind is no release or trim of the set
   abbrev pub NotDue : Kind → Type 0
   NotDue (plans q r) = isDue start b s q r ≡ false
   NotDue reads = Unit {0}
@@ -106,6 +133,7 @@ module _ (start : Ledger) (b : Brings) (s : Progress) where
         refuses = λ _. h;
         six = λ _ k _. absurd (true≢false (sym k ∙ w));
         twelve = λ _ k _. absurd (true≢false (sym k ∙ w));
+        seven = λ _ k. absurd (true≢false (sym k ∙ w));
       }
       go reads = tt
       go others = tt

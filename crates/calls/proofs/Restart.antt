@@ -9,16 +9,16 @@ use mathlib.Core.List.{List, [], _∷_}
 use mathlib.Core.Option.{Option, none, some}
 use lib.Dec.{eqb}
 use lib.ListN.{length, replicate}
-use Rattle.words.specs.Lists.{Words, all, isSome}
+use Rattle.words.specs.Lists.{Words, all}
 use Rattle.words.proofs.Tests.{and-l, and-r, not-true, eqb-eq, eqb-ne, eqb-false, false-of, absurd-some}
 use Rattle.ledger.specs.declared.Row.{Row}
 use Rattle.ledger.specs.Records.{Ledger, recordWords, emptyRow, recordsOf, tableOf, slots, hasTicket, recordOf, Plan}
-use Rattle.ledger.specs.Records.{Member, member, planFor, settle}
-use Rattle.ledger.proofs.RecordLaws.{has-ticket, record-zero, record-gone, record-kept, table-records}
+use Rattle.ledger.specs.Records.{vacate, keep, Member, member, planFor, settle}
+use Rattle.ledger.proofs.RecordLaws.{has-ticket, record-zero, carried, record-settled, table-records}
 use Rattle.ledger.proofs.RecordLaws.{length-table-settle, length-table-enter}
 use Rattle.calls.specs.Pool.{Head, Pool, ledger, Engine, nextAfter, store}
-use Rattle.calls.specs.Step.{Call, format, copy, single, look, list, accepted, Act, ask, give, query, bad, Counted, Outcome}
-use Rattle.calls.specs.Step.{numberOf, newRow, carry, grant, answerTo, poolAfter, countedOf, poolAfterAll}
+use Rattle.calls.specs.Step.{Call, format, copy, single, look, list, accepted, Act, ask, give, query, cut}
+use Rattle.calls.specs.Step.{bad, Counted, Outcome, numberOf, newRow, carry, grant, answerTo, poolAfter, countedOf, poolAfterAll}
 use Rattle.calls.specs.Step.{actsOf, fills, makesHead, blank, refusedBy, actsDone, perform, step}
 use Rattle.calls.specs.Lent.{Buffer, inArena, inTable, inIndex, Spot, own, other, isAllOf, see, leaveAt, leave}
 use Rattle.calls.specs.Lent.{leaveAll, Event, mapCall, headBrought, brought, sameHead, ownTable, headReturns}
@@ -98,19 +98,22 @@ module _ (E : Engine) (n long : ℕ) where
     plan-fresh : (p : Pool) (x : Plan) (t : ℕ) → Fresh n long p → Fresh n long (carry E p t x)
     plan-fresh p x t f =
         fresh-store p (carry E p t x) (settle ms (ledger p)) (p .head .next) refl
-        (λ u l. go u l (planFor u ms) refl) (f .next) (length-table-settle ms (ledger p) ∙ records-long p f)
+        (λ u l. record-settled u ms (ledger p) ∙ ap (carried (planFor u ms)) (f .dead u l) ∙ still (planFor u ms))
+        (f .next) (length-table-settle ms (ledger p) ∙ records-long p f)
       where
         ms : List Member
         ms = member t x ∷ []
 
-        go : (u : ℕ) → u < n → (o : Option Plan) → planFor u ms ≡ o → recordOf u (settle ms (ledger p)) ≡ none
-        go u l none e = record-kept u ms e (ledger p) ∙ f .dead u l
-        go u l (some y) e = record-gone u ms (ap (λ (o : Option Plan). isSome o) e) (ledger p)
+        -- a plan makes no record
+        still : (o : Option Plan) → carried o none ≡ none
+        still none = refl
+        still (some vacate) = refl
+        still (some (keep k)) = refl
 
     act-fresh : (p : Pool) (a : Act) → Fresh n long p → Fresh n long (poolAfter E p a)
     act-fresh =
         act-by E (λ p a q. Fresh n long p → Fresh n long q) (λ p a f. f) grant-fresh
-        (λ p x r held f. plan-fresh p x (r .ticket) f)
+        (λ p x r held h f. plan-fresh p x (r .ticket) f)
 
     acts-fresh : (more : List Act) (p : Pool) → Fresh n long p → Fresh n long (poolAfterAll E p more)
     acts-fresh [] p f = f
@@ -146,6 +149,7 @@ module _ (E : Engine) where
       go (ask c m) i = absurd (absurd-some i)
       go (give r) i = six (give r) (named-none (ledger p) r (names r i))
       go (query r) i = six (query r) (named-none (ledger p) r (names r i))
+      go (cut r m) i = six (cut r m) (rw (named-none (ledger p) r (names r i)))
       go bad i = absurd (absurd-some i)
 
   call-unknown : (c : Call Words) (p : Pool) (t : ℕ) → ticketNamed c ≡ some t → recordOf t (ledger p) ≡ none

@@ -151,7 +151,7 @@ record-first ρ (r ∷ L) h (suc i) l z =
     -- with r's slot emptied no record has its ticket
     gone : r .ticket ≡ t → recordOf t L ≡ none
     gone e =
-        let emptied = settle-slot ρ (r ∷ L) 0 t h (omega arith) z e in
+        let emptied = settle-slot ρ (r ∷ L) 0 t vacate h (omega arith) z e in
         let none-left = record-gone t (member t vacate ∷ []) (rw (eqb-same t)) (r ∷ L) in
         rw (eqb-ne 0 t (λ q. z (sym q)), and-false (not (eqb t 0))) at (ap (recordOf t) (sym emptied) ∙ none-left)
 

@@ -5,6 +5,7 @@ use native.Mathlib.Omega.{arith}
 use mathlib.Core.Path.{_≡_, refl, sym, ap, _∙_, subst}
 use mathlib.Core.Bool.{true, _&&_}
 use mathlib.Core.List.{List, [], _∷_}
+use mathlib.Core.Option.{none}
 use lib.Dec.{eqb, leb}
 use lib.ListN.{length, getD, length-replicate}
 use Rattle.words.specs.Flags.{Says}
@@ -12,7 +13,7 @@ use Rattle.words.specs.Places.{stamp}
 use Rattle.words.proofs.Tests.{and-l, and-r, and-i, eqb-eq, eqb-same}
 use Rattle.words.proofs.ListLaws.{sameWords-eq, sameWords-same}
 use Rattle.words.proofs.PlaceLaws.{length-stamp, stamp-twice, stamp-keeps}
-use Rattle.ledger.specs.Records.{Ledger, emptyRow, Member, settle, recordWords, slots, tableOf}
+use Rattle.ledger.specs.Records.{Ledger, emptyRow, Member, planFor, settle, recordWords, slots, tableOf}
 use Rattle.ledger.specs.Units.{valid, owned}
 use Rattle.ledger.proofs.RecordLaws.{records-table, length-tableOf, length-table-settle, settle-nil, settle-more}
 use Rattle.ledger.proofs.UnitLaws.{owned-settle, valid-settle, valid-blank}
@@ -167,7 +168,7 @@ module _ (E : Engine) where
       settled-sound ms =
           store-sound p (settle ms (ledger p)) (p .head .next) sound-lengths
           (length-table-settle ms (ledger p) ∙ ap length (sym is-table))
-          (valid-settle (ruleOf E p) (wordCount p) (p .head .next) ms (ledger p) sound-valid)
+          (valid-settle (ruleOf E p) (laws .unit (p .shape)) (wordCount p) (p .head .next) ms (ledger p) sound-valid)
 
       pub settled-none : store E (settle [] (ledger p)) (p .head .next) p ≡ p
       settled-none = rw (settle-nil (ledger p)) (sym is-store)
@@ -178,28 +179,27 @@ module _ (E : Engine) where
         store-sound p (blank E p) first h (blank-long p (whole-records p h))
         (valid-blank (ruleOf E p) (wordCount p) first (slots (p .table)))
 
-  -- one more plan carried out
+  -- one more plan carried out, of a ticket that has none yet
   unfoldable pub settled : Pool → List Member → Pool
   settled p ms = store E (settle ms (ledger p)) (p .head .next) p
 
-  owned-more : (p : Pool) (m : Member) (ms : List Member) (i : ℕ)
-      → owned (ruleOf E p) (settle (m ∷ ms) (ledger p)) i ≡ true → owned (ruleOf E p) (settle ms (ledger p)) i ≡ true
-  owned-more p m ms i h =
-      owned-settle (ruleOf E p) (m ∷ []) (settle ms (ledger p)) i
-      (subst (λ (L : Ledger). owned (ruleOf E p) L i ≡ true) (sym (settle-more m ms (ledger p))) h)
+  module _ (laws : Laws E) (p : Pool) (m : Member) (ms : List Member) (new : planFor (m .ticket) ms ≡ none) where
+    owned-more : (i : ℕ) → owned (ruleOf E p) (settle (m ∷ ms) (ledger p)) i ≡ true
+        → owned (ruleOf E p) (settle ms (ledger p)) i ≡ true
+    owned-more i h =
+        owned-settle (ruleOf E p) (laws .unit (p .shape)) (m ∷ []) (settle ms (ledger p)) i
+        (subst (λ (L : Ledger). owned (ruleOf E p) L i ≡ true) (sym (settle-more m ms new (ledger p))) h)
 
-  pub settled-more : (p : Pool) (m : Member) (ms : List Member)
-      → store E (settle (m ∷ []) (ledger (settled p ms))) (settled p ms .head .next) (settled p ms)
-      ≡ settled p (m ∷ ms)
-  unfolding settled store
-  settled-more p m ms =
-      rw (
-        ledger-store (settle ms (ledger p)) (p .head .next) p,
-        next-store (settle ms (ledger p)) (p .head .next) p,
-        settle-more m ms (ledger p),
-      )
-      (store-twice (settle ms (ledger p)) (settle (m ∷ ms) (ledger p)) (p .head .next) (p .head .next) p
-      (owned-more p m ms))
+    pub settled-more : store E (settle (m ∷ []) (ledger (settled p ms))) (settled p ms .head .next) (settled p ms)
+        ≡ settled p (m ∷ ms)
+    unfolding settled store
+    settled-more =
+        rw (
+          ledger-store (settle ms (ledger p)) (p .head .next) p,
+          next-store (settle ms (ledger p)) (p .head .next) p,
+          settle-more m ms new (ledger p),
+        )
+        (store-twice (settle ms (ledger p)) (settle (m ∷ ms) (ledger p)) (p .head .next) (p .head .next) p owned-more)
 
 -- Row 1, as 01 says it: a pool is sound exactly if its lengths are right and it is the stored form of some ledger.
 pub sound-form : (E : Engine) → Laws E → (p : Pool) → Says (sound E p) (StoredForm E p)

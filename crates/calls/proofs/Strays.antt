@@ -1,9 +1,9 @@
 -- Calls that do not bring the pool whole: in a sequence all that they count as is refused, and they change nothing.
 -- Assumes nothing.
 use Prim.Native.Nat.{ℕ}
-use native.Mathlib.Omega.{arith}
 use mathlib.Core.Path.{_≡_, refl, sym, ap, ap₂, _∙_, subst}
 use mathlib.Core.Bool.{Bool, true, false, not, _||_, false≢true}
+use mathlib.Core.Logic.{_≢_}
 use mathlib.Core.List.{List, [], _∷_}
 use lib.Dec.{eqb}
 use Rattle.words.specs.Lists.{Words}
@@ -14,8 +14,8 @@ use Rattle.calls.specs.Pool.{Pool, ledger, Engine}
 use Rattle.calls.specs.Step.{Call, format, copy, single, look, list, refusal, accepted, Act, Kind, plans, reads}
 use Rattle.calls.specs.Step.{others, kindOf, Outcome, named, answerTo, poolAfter, countedOf, poolAfterAll, actsOf}
 use Rattle.calls.specs.Step.{buffersOf, countedWhole, fills, refusedBy, actsDone, perform, step}
-use Rattle.calls.specs.Demand3.{Brings, Progress, isReplay, standsAs, stands, Right, afterAct, standAll, RightAll}
-use Rattle.calls.specs.Demand3.{afterActs}
+use Rattle.calls.specs.Demand3.{Brings, Progress, isReplay, isOld, standsAs, stands, Right, afterAct, standAll}
+use Rattle.calls.specs.Demand3.{RightAll, afterActs}
 use Rattle.calls.proofs.GateLaws.{Way, stops, runs, way, perform-acts}
 use Rattle.calls.proofs.ProgressLaws.{given, not-due, stays, right-stray}
 use Rattle.calls.proofs.CallLaws.{act-kept, plan-refused, own-buffers}
@@ -27,20 +27,23 @@ record Strayed (E : Engine) (start : Ledger) (b : Brings) (s : Progress) (m : Po
   right : RightAll start b s (countedOf E m more)
   progress : afterActs start b s (countedOf E m more) ≡ s
 
--- `unknown`: the memory brought has no record that a replay names
+-- `spent`: the memory brought has no record that a replay or an old release or trim names
 module _ (E : Engine) (start : Ledger) (b : Brings) (s : Progress) (w : b .whole ≡ false) (m : Pool)
-    (unknown : (r : Row) → isReplay start b s r ≡ true → named (ledger m) r ≡ 6) where
+    (spent : (r : Row) → (isReplay start b s r || isOld start b s r) ≡ true → named (ledger m) r ≢ 0) where
   stray-refused : (a : Act) → stands start b s (given a (answerTo E m a)) ≡ true → accepted (answerTo E m a) ≡ false
   unfolding stands
   stray-refused a h = go (kindOf a) refl h
     where
-      plan : (q : Plan) (r : Row) → kindOf a ≡ plans q r → (c : Bool) → isReplay start b s r ≡ c
+      plan : (q : Plan) (r : Row) → kindOf a ≡ plans q r → (c : Bool) → (isReplay start b s r || isOld start b s r) ≡ c
           → (c || not (accepted (answerTo E m a))) ≡ true → accepted (answerTo E m a) ≡ false
-      plan q r e true k h = ap accepted (plan-refused E m a q r e 6 (unknown r k) (λ z. omega arith))
+      plan q r e true k h =
+          let n = named (ledger m) r in
+          ap accepted (plan-refused E m a q r e n refl (spent r k)) ∙ eqb-ne n 0 (spent r k)
       plan q r e false k h = not-true (accepted (answerTo E m a)) h
 
       go : (k : Kind) → kindOf a ≡ k → standsAs start b s k (answerTo E m a) ≡ true → accepted (answerTo E m a) ≡ false
-      go (plans q r) e h = plan q r e (isReplay start b s r) refl (rw (not-due start b s w (plans q r)) at h)
+      go (plans q r) e h =
+          plan q r e (isReplay start b s r || isOld start b s r) refl (rw (not-due start b s w (plans q r)) at h)
       go reads e h = not-true (accepted (answerTo E m a)) (rw w at h)
       go others e h = not-true (accepted (answerTo E m a)) h
 
@@ -92,7 +95,7 @@ no-filling E start b s (look r hold) m f h = false≢true f
 no-filling E start b s (list c rs bs) m f h = false≢true f
 
 module _ (E : Engine) (start : Ledger) (b : Brings) (s : Progress) (w : b .whole ≡ false) (m : Pool)
-    (unknown : (r : Row) → isReplay start b s r ≡ true → named (ledger m) r ≡ 6) where
+    (spent : (r : Row) → (isReplay start b s r || isOld start b s r) ≡ true → named (ledger m) r ≢ 0) where
   stray-stopped : (c : Call Words) (n : ℕ) → eqb n 0 ≡ false → StrayCall E start b s c m (refusedBy E c m n)
   unfolding afterAct
   stray-stopped c n z = record {
@@ -123,7 +126,7 @@ module _ (E : Engine) (start : Ledger) (b : Brings) (s : Progress) (w : b .whole
       → StrayCall E start b s c m (actsDone E c m)
   unfolding actsDone
   stray-acted c f h =
-      let a = stray-acts E start b s w m unknown (actsOf c) h in
+      let a = stray-acts E start b s w m spent (actsOf c) h in
       record {
         arena = ap (λ (z : Pool). z .arena) (a .kept);
         table = ap (λ (z : Pool). z .table) (a .kept);

@@ -1,6 +1,6 @@
 -- Demand 1: any call on any memory gets the number that the table of 01 fixes, and a refused call leaves every word
--- as it stood. 01, "Calls and numbers"; a format's 6: 02, ticket 2; 12 and copies: ticket 6. Proved in proofs/Demand1; what row 8 says of each
--- engine's lengths is in proofs/Engines. That a call ends, and stays inside what was lent, is shown elsewhere: `step` is
+-- as it stood. 01, "Calls and numbers"; a format's 6: 02, ticket 2; 12 and copies: ticket 6; a trim's 2:
+-- ticket 13. Proved in proofs/Demand1; what row 8 says of each engine's lengths is in proofs/Engines. That a call ends, and stays inside what was lent, is shown elsewhere: `step` is
 -- a function on any memory, and the code's own proofs (the gate) show that every call of the code ends and stays
 -- inside. Assumes nothing.
 use Prim.Native.Nat.{ℕ, _+_, _*_, _/_, _%_, _≤_, _<_}
@@ -17,8 +17,8 @@ use Rattle.ledger.specs.Records.{row, isParty, slots, recordAt, isEmpty}
 use Rattle.ledger.specs.Units.{span, free}
 use Rattle.calls.specs.Pool.{Pool, withTable, ledger, wordCount, Engine, ruleOf, lengths, sound, StoredForm}
 use Rattle.calls.specs.Step.{Call, format, copy, find, look, zeroAnswer, refusal, accepted, arenaPart, placeholder}
-use Rattle.calls.specs.Step.{Act, ask, give, query, bad, Outcome, request, listSuits, copySuits, copied, countedOf}
-use Rattle.calls.specs.Step.{poolAfterAll, answerTo, poolAfter, actsOf, buffersOf, suits, fills, partyGiven}
+use Rattle.calls.specs.Step.{Act, ask, give, query, cut, bad, Outcome, request, listSuits, copySuits, copied}
+use Rattle.calls.specs.Step.{countedOf, poolAfterAll, answerTo, poolAfter, actsOf, buffersOf, suits, fills, partyGiven}
 use Rattle.calls.specs.Step.{rightParty, ownAnswer, shownBy, buffersAfter, knownForm, rightLengths, refusedHead}
 use Rattle.calls.specs.Step.{step}
 
@@ -53,7 +53,12 @@ Unknown p r =
 abbrev pub Same : Pool → Row → Type 0
 Same p r = (i : ℕ) × (i < slots (p .table)) × (recordAt (p .table) i ≡ r)
 
--- ---- the number of one act on a sound pool, each exactly when its row says, in 01's order: 2, 3, 4, 5; 6, 7
+-- 2, of a trim: the words to keep are 0 or above the words asked (02, ticket 13)
+abbrev pub BadKeep : Row → ℕ → Type 0
+BadKeep r n = (n ≡ 0) ⊎ (r .words < n)
+
+-- ---- the number of one act on a sound pool, each exactly when its row says, in 01's order: 2, 3, 4, 5; 6, 7; for a
+-- trim 6, 7, 2
 
 pub record AskNumbers (E : Engine) (p : Pool) (n : ℕ) (x : ℕ) : Type 0 where
   pub two : (x ≡ 2) ↔ BadSize E p n
@@ -67,11 +72,18 @@ pub record NameNumbers (p : Pool) (r : Row) (x : ℕ) : Type 0 where
   pub seven : (x ≡ 7) ↔ ((Unknown p r → ⊥) × (Same p r → ⊥))
   pub zero : (x ≡ 0) ↔ ((Unknown p r → ⊥) × Same p r)
 
+pub record CutNumbers (p : Pool) (r : Row) (n x : ℕ) : Type 0 where
+  pub six : (x ≡ 6) ↔ Unknown p r
+  pub seven : (x ≡ 7) ↔ ((Unknown p r → ⊥) × (Same p r → ⊥))
+  pub two : (x ≡ 2) ↔ ((Unknown p r → ⊥) × Same p r × BadKeep r n)
+  pub zero : (x ≡ 0) ↔ ((Unknown p r → ⊥) × Same p r × (BadKeep r n → ⊥))
+
 -- 12 comes before them (and from the gate, before any act)
 abbrev pub ActNumbers : Engine → Pool → Act → ℕ → Type 0
 ActNumbers E p (ask c n) x = (isParty c ≡ false → x ≡ 12) × (isParty c ≡ true → AskNumbers E p n x)
 ActNumbers E p (give r) x = NameNumbers p r x
 ActNumbers E p (query r) x = NameNumbers p r x
+ActNumbers E p (cut r n) x = CutNumbers p r n x
 ActNumbers E p bad x = x ≡ 9
 
 -- ---- 12: the party that a call gives is not 1 to 255

@@ -1,21 +1,23 @@
 -- Demand 2: exactly first fit, on any sound pool. 01, "The ledger": "Allocation takes the lowest starting unit from
 -- which enough units are free, from the low end of the run. The new record goes into the lowest empty slot.";
 -- "Release removes the record."; "Words of held blocks, the odd spare word of a tree block included, are never
--- touched by a call on another ticket or by a refused call." Proved in proofs/Demand2. Assumes nothing.
+-- touched by a call on another ticket or by a refused call." Trims: 02, ticket 13. Proved in proofs/Demand2. Assumes
+-- nothing.
 use Prim.Native.Nat.{ℕ, _+_, _*_, _/_, _≤_, _<_}
 use mathlib.Core.Path.{_≡_}
 use mathlib.Core.Bool.{true, false, not, _&&_, _||_}
 use mathlib.Core.List.{List, [], _∷_}
 use mathlib.Core.Option.{some}
 use lib.ListN.{getD}
+use Rattle.words.specs.Counted.{within}
 use Rattle.words.specs.Lists.{Words}
 use Rattle.ledger.specs.declared.Row.{Row}
-use Rattle.ledger.specs.Records.{isParty, recordOf, enter, vacate, member, settle}
+use Rattle.ledger.specs.Records.{isParty, recordOf, enter, vacate, keep, keepable, shortened, member, settle}
 use Rattle.ledger.specs.Units.{span, first, past, covers, free}
 use Rattle.ledger.specs.Runs.{AreRuns, freeRuns}
 use Rattle.calls.specs.Pool.{Pool, ledger, wordCount, Engine, nextAfter, ruleOf, sound}
-use Rattle.calls.specs.Step.{Call, format, success, zeroAnswer, refusal, accepted, Act, ask, give, query, Kind}
-use Rattle.calls.specs.Step.{plans, reads, others, kindOf, newRow, answerTo, poolAfter, actsOf, fills, blank, step}
+use Rattle.calls.specs.Step.{Call, format, success, zeroAnswer, refusal, accepted, Act, ask, give, query, cut}
+use Rattle.calls.specs.Step.{Kind, plans, reads, others, kindOf, newRow, answerTo, poolAfter, actsOf, fills, blank, step}
 use Rattle.calls.specs.Demand1.{BadSize, NoRecord, NoTicket, NoRoom}
 
 -- unit k is the lowest from which the units for n words are free
@@ -45,7 +47,21 @@ pub record Released (E : Engine) (p : Pool) (r : Row) : Type 0 where
   pub units : (u : ℕ) → free (ruleOf E p) (ledger (poolAfter E p (give r))) u
       ≡ (free (ruleOf E p) (ledger p) u || covers (ruleOf E p) u r)
 
--- The release of exactly r. One that names r's ticket with another address or other words is refused, and r's words
+-- The trim of the live record r to n words. "The record now reads the kept number" in its slot, the others' stay, the next
+-- ticket stays; "the units beyond its rounding become free", exactly; "and the kept words stay, with any spare words of
+-- their rounding".
+pub record Trimmed (E : Engine) (p : Pool) (r : Row) (n : ℕ) : Type 0 where
+  pub answer : answerTo E p (cut r n) ≡ success (shortened n r)
+  pub holds : ledger (poolAfter E p (cut r n)) ≡ settle (member (r .ticket) (keep n) ∷ []) (ledger p)
+  pub reads : recordOf (r .ticket) (ledger (poolAfter E p (cut r n))) ≡ some (shortened n r)
+  pub next : poolAfter E p (cut r n) .head .next ≡ p .head .next
+  pub units : (u : ℕ) → free (ruleOf E p) (ledger (poolAfter E p (cut r n))) u
+      ≡ (free (ruleOf E p) (ledger p) u
+      || within (first (ruleOf E p) r + span (ruleOf E p) n) (past (ruleOf E p) r) u)
+  pub words : (i : ℕ) → r .address ≤ i → i < ruleOf E p .unit * (first (ruleOf E p) r + span (ruleOf E p) n)
+      → getD (poolAfter E p (cut r n) .arena) i 0 ≡ getD (p .arena) i 0
+
+-- The release or trim of exactly r. One that names r's ticket with another address or other words is refused, and r's words
 -- stay.
 abbrev pub NamesAs : Row → Kind → Type 0
 NamesAs r (plans q s) = s ≡ r
@@ -85,6 +101,14 @@ pub record Demand2 (E : Engine) : Type 0 where
   pub releases : (p : Pool) → sound E p ≡ true → (r : Row) → recordOf (r .ticket) (ledger p) ≡ some r → Released E p r
   pub others : (p : Pool) (r : Row) → (recordOf (r .ticket) (ledger p) ≡ some r → ⊥)
       → accepted (answerTo E p (give r)) ≡ false
+  -- so is a trim, if it keeps from 1 to the words asked; "Keeping everything changes nothing."
+  pub trims : (p : Pool) → sound E p ≡ true → (r : Row) (n : ℕ) → recordOf (r .ticket) (ledger p) ≡ some r
+      → keepable n r ≡ true → Trimmed E p r n
+  pub otherTrims : (p : Pool) (r : Row) (n : ℕ)
+      → (recordOf (r .ticket) (ledger p) ≡ some r → keepable n r ≡ true → ⊥)
+      → accepted (answerTo E p (cut r n)) ≡ false
+  pub keepsAll : (p : Pool) → sound E p ≡ true → (r : Row)
+      → (answerTo E p (cut r (r .words)) ≡ answerTo E p (query r)) × (poolAfter E p (cut r (r .words)) ≡ p)
   -- find echoes the three of a live record, and changes nothing
   pub finds : (p : Pool) → sound E p ≡ true → (r : Row) → recordOf (r .ticket) (ledger p) ≡ some r
       → (answerTo E p (query r) ≡ success r) × (poolAfter E p (query r) ≡ p)
@@ -103,7 +127,7 @@ pub record Demand2 (E : Engine) : Type 0 where
   pub merged : (p : Pool)
       → AreRuns (free (ruleOf E p) (ledger p)) (wordCount p / ruleOf E p .unit)
       (freeRuns (ruleOf E p) (wordCount p) (ledger p))
-  -- words of held blocks: an act that is not the block's release, and a call none of whose acts is, leave them
+  -- words of held blocks: an act that is not the block's release or trim, and a call none of whose acts is, leave them
   pub spares : (p : Pool) (a : Act) → sound E p ≡ true → (r : Row) → recordOf (r .ticket) (ledger p) ≡ some r
       → (Names r a → ⊥) → Untouched E p (poolAfter E p a) r
   pub sparesCall : (p : Pool) (c : Call Words) → sound E p ≡ true → fills c ≡ false → (r : Row)

@@ -1,19 +1,20 @@
 -- Demand 3: order makes no difference. One claim over whole sequences of calls, for any engine; 01, "Demand 3 is one
--- single claim ..". Proved in proofs/Demand3. Assumes nothing.
+-- single claim .."; with trims: 02, ticket 13. Proved in proofs/Demand3. Assumes nothing.
 use Prim.Native.Nat.{ℕ}
 use mathlib.Core.Path.{_≡_}
 use mathlib.Core.Bool.{Bool, true, false, cond, not, _&&_, _||_}
 use mathlib.Core.List.{List, [], _∷_, _++_}
 use mathlib.Core.Option.{Option, none, some}
-use lib.Dec.{eqb}
+use lib.Dec.{eqb, ltb}
 use lib.ListN.{length, getD, drop}
 use Rattle.words.specs.Lists.{all, isSome}
 use Rattle.ledger.specs.declared.Row.{Row}
-use Rattle.ledger.specs.Records.{Ledger, isParty, recordOf, Plan, vacate, Member, member, planFor, settle}
+use Rattle.ledger.specs.Records.{Ledger, isParty, recordOf, Plan, vacate, keep, feasible, Member, member, planFor}
+use Rattle.ledger.specs.Records.{settle}
 use Rattle.ledger.specs.Units.{owned}
 use Rattle.calls.specs.declared.Answer.{Answer}
 use Rattle.calls.specs.Pool.{Pool, ledger, Engine, ruleOf, store, sound}
-use Rattle.calls.specs.Step.{Call, format, copy, single, look, list, success, zeroAnswer, refusal, accepted, Act}
+use Rattle.calls.specs.Step.{Call, format, copy, single, look, list, told, zeroAnswer, refusal, accepted, Act}
 use Rattle.calls.specs.Step.{Kind, plans, reads, others, kindOf, Counted, Outcome, named, listSuits, answerWords}
 use Rattle.calls.specs.Step.{answersOf}
 use Rattle.calls.specs.Lent.{Buffer, see, isOther, Event, isWhole, ownTable, writtenBy, outcome, after, Later}
@@ -27,7 +28,7 @@ pub record Brings : Type 0 where
   pub table : Bool
 
 -- Where a sequence stands: the members of the set that are still due, and the plans that were carried out, each by a
--- release that was accepted.
+-- release or trim that was accepted.
 pub record Progress : Type 0 where
   pub due : List Member
   pub done : List Member
@@ -40,36 +41,54 @@ remove t (m ∷ ms) = cond (eqb (m .ticket) t) (remove t ms) (m ∷ remove t ms)
 abbrev pub isPlan : Plan → Option Plan → Bool
 isPlan q none = false
 isPlan vacate (some vacate) = true
+isPlan vacate (some (keep n)) = false
+isPlan (keep m) (some vacate) = false
+isPlan (keep m) (some (keep n)) = eqb m n
+
+-- it leaves fewer than w words of the record
+abbrev pub leavesFewer : Option Plan → ℕ → Bool
+leavesFewer none w = false
+leavesFewer (some vacate) w = false
+leavesFewer (some (keep n)) w = ltb n w
 
 -- `start` is the ledger at the start. A ticket is live at a call if it has it and no release of it was accepted
--- earlier.
+-- earlier: "A trimmed ticket stays live".
 unfoldable pub live : Ledger → List Member → ℕ → Bool
 live start did t = isSome (recordOf t start) && not (isPlan vacate (planFor t did))
 
--- a release of the set: brings the pool whole, and names ticket, address and words as the ledger at the start has them,
--- "made by its ticket's own party" (02, ticket 6): `named` gives another's 6
+-- a release or trim of the set: brings the pool whole, is the one of the two and keeps the words that were "settled
+-- beforehand", and names ticket, address and words as the ledger at the start has them, "by its own party": `named` gives
+-- another's 6
 unfoldable pub isDue : Ledger → Brings → Progress → Plan → Row → Bool
 isDue start b s q r = b .whole && isPlan q (planFor (r .ticket) (s .due)) && eqb (named start r) 0
 
--- a replay: a release whose ticket is not live there. It may bring any head, S, arena and index with the pool's own
+-- a replay: a release or trim whose ticket is not live there. It may bring any head, S, arena and index with the pool's own
 -- table.
 unfoldable pub isReplay : Ledger → Brings → Progress → Row → Bool
 isReplay start b s r = b .table && not (live start (s .done) (r .ticket))
 
--- What is assumed of an act and its answer, by its kind: nothing of a release of the set, of a replay, and of a find
--- or look that brings the pool whole; every other act is refused.
+-- "An old release with the longer length", or an old trim: it names the record as it was at the start, and the ticket was
+-- trimmed to fewer words.
+unfoldable pub isOld : Ledger → Brings → Progress → Row → Bool
+isOld start b s r = b .table && leavesFewer (planFor (r .ticket) (s .done)) (r .words) && eqb (named start r) 0
+
+-- What is assumed of an act and its answer, by its kind: nothing of a release or trim of the set, of a replay, of an old
+-- one, and of a find or look that brings the pool whole; every other act is refused.
 abbrev pub standsAs : Ledger → Brings → Progress → Kind → Answer → Bool
-standsAs start b s (plans q r) x = isDue start b s q r || isReplay start b s r || not (accepted x)
+standsAs start b s (plans q r) x =
+    isDue start b s q r || (isReplay start b s r || isOld start b s r) || not (accepted x)
 standsAs start b s reads x = b .whole || not (accepted x)
 standsAs start b s others x = not (accepted x)
 
--- What is claimed: a release of the set is accepted, with its three echoed; a replay, by whichever party, is refused, by
--- 6 where it brings the pool whole and its party is one, by 12 where it is none.
+-- What is claimed: a release of the set is accepted, with its three echoed, a trim of it with the words kept in place of
+-- the words; a replay, by whichever party, is refused, by 6 where it brings the pool whole and its party is one, by 12
+-- where it is none; an old one is refused, by 7 where it brings the pool whole.
 pub record RightPlan (start : Ledger) (b : Brings) (s : Progress) (q : Plan) (r : Row) (x : Answer) : Type 0 where
-  pub accepts : isDue start b s q r ≡ true → x ≡ success r
-  pub refuses : isReplay start b s r ≡ true → accepted x ≡ false
+  pub accepts : isDue start b s q r ≡ true → x ≡ told q r
+  pub refuses : (isReplay start b s r || isOld start b s r) ≡ true → accepted x ≡ false
   pub six : isReplay start b s r ≡ true → b .whole ≡ true → isParty (r .party) ≡ true → x ≡ refusal 6
   pub twelve : isReplay start b s r ≡ true → b .whole ≡ true → isParty (r .party) ≡ false → x ≡ refusal 12
+  pub seven : isOld start b s r ≡ true → b .whole ≡ true → x ≡ refusal 7
 
 abbrev pub RightAs : Ledger → Brings → Progress → Kind → Answer → Type 0
 RightAs start b s (plans q r) x = RightPlan start b s q r x
@@ -164,10 +183,10 @@ module _ (E : Engine) where
   Sequence p ms es = follows E (ledger p) (atStart ms) p es ≡ true
 
   pub record Claim (p : Pool) (ms : List Member) (es : List Event) : Type 0 where
-    -- each release of the set is accepted, and each replay is refused
+    -- each release or trim of the set is accepted, and each replay and each old one is refused
     pub answered : Answered E (ledger p) (atStart ms) p es
-    -- Every stored word at the end: the stored form of the start's ledger with the set's plans carried out, the
-    -- others in their slots, next ticket as it was.
+    -- Every stored word at the end: the stored form of the start's ledger with the set's plans carried out, trimmed
+    -- records and the others in their slots, next ticket as it was.
     pub form : endOf p es ≡ store E (settle ms (ledger p)) (p .head .next) p
     pub holds : ledger (endOf p es) ≡ settle ms (ledger p)
     pub isSound : sound E (endOf p es) ≡ true
@@ -182,9 +201,13 @@ module _ (E : Engine) where
         × (laterOutcomes E (endOf p es) ls ≡ laterOutcomes E (endOf p others) ls)
         × (laterEnd E (endOf p es) ls ≡ laterEnd E (endOf p others) ls)
 
-  -- Any sound pool, any set of its live tickets, any such sequence.
+  -- a live ticket, to be released, or trimmed to "from 1 to the words asked"
+  abbrev pub settledFor : Ledger → Member → Bool
+  settledFor start m = elim (recordOf (m .ticket) start) [ none ↦ false | some r ↦ feasible (m .plan) r ]
+
+  -- Any sound pool, any set of its live tickets with what is settled for each, any such sequence.
   unfoldable pub Demand3 : Type 0
   Demand3 =
       (p : Pool) → sound E p ≡ true
-      → (ms : List Member) → all (λ m. live (ledger p) [] (m .ticket)) ms ≡ true
+      → (ms : List Member) → all (settledFor (ledger p)) ms ≡ true
       → (es : List Event) → Sequence p ms es → Claim p ms es

@@ -10,8 +10,8 @@ use mathlib.Core.Option.{Option, none, some}
 use Rattle.words.specs.Lists.{all}
 use Rattle.ledger.specs.Records.{recordOf}
 use Rattle.calls.specs.Pool.{Pool, ledger, Engine}
-use Rattle.calls.specs.Step.{Call, format, copy, single, look, list, accepted, Act, ask, give, query, bad, Counted}
-use Rattle.calls.specs.Step.{fills, step}
+use Rattle.calls.specs.Step.{Call, format, copy, single, look, list, accepted, Act, ask, give, query, cut, bad}
+use Rattle.calls.specs.Step.{Counted, fills, step}
 use Rattle.calls.specs.Lent.{inArena, inTable, inIndex, Spot, own, other, Event, headBrought, sameHead, ownTable}
 use Rattle.calls.specs.Lent.{writtenBy, outcome, Later, calls, writes, laterPool}
 use Rattle.calls.specs.Demand3.{elsewhere}
@@ -22,6 +22,7 @@ abbrev pub ticketOf : Act → Option ℕ
 ticketOf (ask c n) = none
 ticketOf (give r) = some (r .ticket)
 ticketOf (query r) = some (r .ticket)
+ticketOf (cut r n) = some (r .ticket)
 ticketOf bad = none
 
 abbrev pub ticketNamed : {B : Type 0} → Call B → Option ℕ

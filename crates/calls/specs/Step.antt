@@ -1,5 +1,5 @@
--- Calls, answers, numbers in their order, and one total step over an engine. 01, "Calls and numbers"; 02, tickets 2
--- and 6. Assumes nothing.
+-- Calls, answers, numbers in their order, and one total step over an engine. 01, "Calls and numbers"; 02, tickets 2,
+-- 6 and 13. Assumes nothing.
 use Prim.Native.Nat.{ℕ, _+_, _*_, _/_, _%_}
 use mathlib.Core.Path.{_≡_}
 use mathlib.Core.Bool.{Bool, true, false, cond, _&&_, _||_}
@@ -11,7 +11,7 @@ use Rattle.words.specs.Lists.{Words, listFrom}
 use Rattle.words.specs.Places.{wiped}
 use Rattle.ledger.specs.declared.Row.{Row}
 use Rattle.ledger.specs.Records.{Ledger, row, isParty, emptyRow, recordWords, tableOf, slots, recordOf, sameBlock}
-use Rattle.ledger.specs.Records.{full, enter, Plan, vacate, member, settle}
+use Rattle.ledger.specs.Records.{full, enter, Plan, vacate, keep, keepable, shortened, member, settle}
 use Rattle.ledger.specs.Units.{span, addressAt, past, free, lowestFit}
 use Rattle.calls.specs.declared.Answer.{Answer}
 use Rattle.calls.specs.Pool.{Head, Pool, withHead, withTable, ledger, wordCount, Engine, mostRecords, nextAfter}
@@ -26,11 +26,13 @@ pub data Act : Type 0 where
   ask : ℕ → ℕ → Act
   give : Row → Act
   query : Row → Act
+  -- a record, and the words of it to keep (02, ticket 13)
+  cut : Row → ℕ → Act
   -- a listed request of unknown kind or with spare words not zero
   bad : Act
 
--- What an act is to the records: a release carries out a plan on the record that it names, a find or look changes
--- nothing, and every other act makes a record or fails.
+-- What an act is to the records: a release or trim carries out a plan on the record that it names, a find or look
+-- changes nothing, and every other act makes a record or fails.
 pub data Kind : Type 0 where
   plans : Plan → Row → Kind
   reads : Kind
@@ -40,6 +42,7 @@ abbrev pub kindOf : Act → Kind
 kindOf (ask c n) = others
 kindOf (give r) = plans vacate r
 kindOf (query r) = reads
+kindOf (cut r n) = plans (keep n) r
 kindOf bad = others
 
 -- ---- calls and answers
@@ -50,7 +53,7 @@ pub data Call (B : Type 0) : Type 0 where
   format : ℕ → Call B
   -- with an old table, of three words to a record, into the pool's table; it takes nothing else of the pool
   copy : B → Call B
-  -- a call that is one act: allocate, release, find
+  -- a call that is one act: allocate, release, find, trim
   single : Act → Call B
   -- with the placeholder
   look : Row → B → Call B
@@ -66,9 +69,18 @@ release r = single (give r)
 abbrev pub find : {B : Type 0} → Row → Call B
 find r = single (query r)
 
+abbrev pub trim : {B : Type 0} → Row → ℕ → Call B
+trim r n = single (cut r n)
+
 -- "Success is 0 with ticket, address, words", or with zeros
 abbrev pub success : Row → Answer
 success r = record { number = 0; ticket = r .ticket; address = r .address; words = r .words }
+
+-- what is answered where a plan was carried out on r: a release echoes its three, a trim "gives the words kept in place of
+-- the words"
+abbrev pub told : Plan → Row → Answer
+told vacate r = success r
+told (keep n) r = success (shortened n r)
 
 abbrev pub zeroAnswer : Answer
 zeroAnswer = success emptyRow
@@ -171,6 +183,8 @@ module _ (E : Engine) where
       12
   numberOf p (give r) = named (ledger p) r
   numberOf p (query r) = named (ledger p) r
+  -- "words to keep, from 1 to the words asked, else 2, after 6 and 7"
+  numberOf p (cut r n) = cond (eqb (named (ledger p) r) 0) (cond (keepable n r) 0 2) (named (ledger p) r)
   numberOf p bad = 9
 
   -- n words from unit k on for party c, under the next ticket: the record goes into the lowest empty slot, and the
@@ -189,17 +203,20 @@ module _ (E : Engine) where
   abbrev pub carry : Pool → ℕ → Plan → Pool
   carry p t q = store E (settle (member t q ∷ []) (ledger p)) (p .head .next) p
 
-  -- a successful act's answer, and the pool after it: a release empties the record's slot
+  -- a successful act's answer, and the pool after it: a release empties the record's slot, a trim leaves the record with
+  -- the words kept
   unfoldable pub answerDone : Pool → Act → Answer
   answerDone p (ask c n) = elim (fitOf p n) [ none ↦ refusal 5 | some k ↦ success (newRow p c n k) ]
   answerDone p (give r) = success r
   answerDone p (query r) = success r
+  answerDone p (cut r n) = told (keep n) r
   answerDone p bad = refusal 9
 
   unfoldable pub poolDone : Pool → Act → Pool
   poolDone p (ask c n) = elim (fitOf p n) [ none ↦ p | some k ↦ grant p c n k ]
   poolDone p (give r) = carry p (r .ticket) vacate
   poolDone p (query r) = p
+  poolDone p (cut r n) = carry p (r .ticket) (keep n)
   poolDone p bad = p
 
   -- a refused act leaves the pool as it was
@@ -277,6 +294,7 @@ abbrev pub partyOf : Act → Option ℕ
 partyOf (ask c n) = some c
 partyOf (give r) = some (r .party)
 partyOf (query r) = some (r .party)
+partyOf (cut r n) = some (r .party)
 partyOf bad = none
 
 abbrev pub partyGiven : {B : Type 0} → Call B → Option ℕ

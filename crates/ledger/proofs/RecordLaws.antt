@@ -1,5 +1,5 @@
 -- Laws of records in the slots of the table, and of the changes of a ledger. Assumes nothing.
-use Prim.Native.Nat.{ℕ, zero, suc, _+_, _*_, _%_, _<_}
+use Prim.Native.Nat.{ℕ, zero, suc, _+_, _*_, _%_, _≤_, _<_}
 use native.Mathlib.Nat.{zero-add, le-of-suc-le-suc}
 use native.Mathlib.Omega.{arith}
 use mathlib.Core.Path.{_≡_, refl, sym, ap, ap₂, _∙_}
@@ -7,21 +7,22 @@ use mathlib.Core.Logic.{_≢_}
 use mathlib.Core.Bool.{Bool, true, false, cond, not, false≢true, and-false}
 use mathlib.Core.List.{List, [], _∷_}
 use mathlib.Core.Option.{Option, none, some}
-use lib.Dec.{eqb}
+use lib.Dec.{eqb, leb}
 use lib.ListN.{length, getD, set, length-map}
 use Rattle.words.proofs.ByPlace.{all-of, firstThat-at, listFrom-shift}
 use Rattle.words.specs.Flags.{Says}
 use Rattle.words.specs.Lists.{Words, all, pairwise, listFrom, isSome}
 use Rattle.words.specs.Counted.{lowest}
 use Rattle.words.proofs.Tests.{and-l, and-r, not-true, of-not, eqb-eq, eqb-same, eqb-ne, eqb-false, absurd-some}
+use Rattle.words.proofs.Tests.{le-of, of-gt}
 use Rattle.words.proofs.ListLaws.{all-getD, firstThat-some, length-listFrom, getD-listFrom}
 use Rattle.words.proofs.CountedLaws.{lowest-some, lowest-none, lowest-nothing}
 use Rattle.ledger.specs.declared.Row.{Row}
 use Rattle.ledger.specs.declared.Rule.{Rule}
 use Rattle.ledger.specs.Records.{row, Ledger, recordWords, recordAt, slots, recordsOf, tableOf, emptyRow}
 use Rattle.ledger.specs.Records.{isEmpty, isLive}
-use Rattle.ledger.specs.Records.{hasTicket, recordOf, full, enter, Plan, vacate, Member, member}
-use Rattle.ledger.specs.Records.{planFor, carryIf, settle}
+use Rattle.ledger.specs.Records.{hasTicket, recordOf, full, enter, Plan, vacate, keep, Member, member}
+use Rattle.ledger.specs.Records.{planFor, keepable, shortened, carryOut, carryIf, settle}
 use Rattle.ledger.specs.Units.{apart}
 
 -- ---- the table, and its records
@@ -108,25 +109,54 @@ pub settle-same : (ms ns : List Member) → ((t : ℕ) → planFor t ms ≡ plan
 settle-same ms ns h [] = refl
 settle-same ms ns h (r ∷ L) = ap₂ (λ (s : Row) (M : Ledger). s ∷ M) (rw (h (r .ticket))) (settle-same ms ns h L)
 
--- an emptied record stays empty, and every plan empties a record
+-- what holds of an emptied record, of a shorter one and of one that stays holds of every record that is carried
+pub carry-by : (P : Row → Plan → Row → Type 0) → ((r : Row) → P r vacate emptyRow)
+    → ((r : Row) (n : ℕ) → 1 ≤ n → n ≤ r .words → P r (keep n) (shortened n r))
+    → ((r : Row) (q : Plan) → P r q r) → (r : Row) (q : Plan) → P r q (carryOut q r)
+carry-by P gone cut same r vacate = gone r
+carry-by P gone cut same r (keep n) = go (keepable n r) refl
+  where
+    go : (b : Bool) → keepable n r ≡ b
+        → P r (keep n) (cond b (shortened n r) r)
+    go true h =
+        cut r n (le-of 1 n (and-l (leb 1 n) (leb n (r .words)) h))
+        (le-of n (r .words) (and-r (leb 1 n) (leb n (r .words)) h))
+    go false h = same r (keep n)
+
+-- an emptied record stays empty
+carry-empty : (q : Plan) → carryOut q emptyRow ≡ emptyRow
+carry-empty vacate = refl
+carry-empty (keep zero) = refl
+carry-empty (keep (suc n)) = rw (of-gt (suc n) 0 (omega arith), and-false (leb 1 (suc n)))
+
 empty-stays : (o : Option Plan) → carryIf o emptyRow ≡ emptyRow
 empty-stays none = refl
-empty-stays (some vacate) = refl
+empty-stays (some q) = carry-empty q
 
-empties : (b : Bool) (p q : Plan) (r : Row) → carryIf (cond b (some p) (some q)) r ≡ emptyRow
-empties true vacate q r = refl
-empties false p vacate r = refl
-
-pub settle-more : (m : Member) (ms : List Member) (L : Ledger) → settle (m ∷ []) (settle ms L) ≡ settle (m ∷ ms) L
-settle-more m ms [] = refl
-settle-more m ms (r ∷ L) =
-    ap₂ (λ (s : Row) (M : Ledger). s ∷ M) (go (planFor (r .ticket) ms)) (settle-more m ms L)
+-- a shorter record keeps its ticket
+pub keep-ticket : (n : ℕ) (r : Row) → carryOut (keep n) r .ticket ≡ r .ticket
+keep-ticket n r = go (keepable n r)
   where
-    go : (o : Option Plan) → carryIf (planFor (carryIf o r .ticket) (m ∷ [])) (carryIf o r)
+    go : (b : Bool) → cond b (shortened n r) r .ticket ≡ r .ticket
+    go true = refl
+    go false = refl
+
+-- one more plan, for a ticket that has none yet
+pub settle-more : (m : Member) (ms : List Member) → planFor (m .ticket) ms ≡ none → (L : Ledger)
+    → settle (m ∷ []) (settle ms L) ≡ settle (m ∷ ms) L
+settle-more m ms new [] = refl
+settle-more m ms new (r ∷ L) =
+    ap₂ (λ (s : Row) (M : Ledger). s ∷ M) (go (planFor (r .ticket) ms) refl) (settle-more m ms new L)
+  where
+    -- a record with a plan has another ticket
+    other : (q : Plan) → planFor (r .ticket) ms ≡ some q → eqb (m .ticket) (r .ticket) ≡ false
+    other q e = eqb-ne (m .ticket) (r .ticket) (λ t. absurd-some (sym new ∙ ap (λ k. planFor k ms) t ∙ e))
+
+    go : (o : Option Plan) → planFor (r .ticket) ms ≡ o → carryIf (planFor (carryIf o r .ticket) (m ∷ [])) (carryIf o r)
         ≡ carryIf (cond (eqb (m .ticket) (r .ticket)) (some (m .plan)) o) r
-    go none = refl
-    go (some vacate) =
-        empty-stays (planFor 0 (m ∷ [])) ∙ sym (empties (eqb (m .ticket) (r .ticket)) (m .plan) vacate r)
+    go none e = refl
+    go (some vacate) e = rw (other vacate e) (empty-stays (planFor 0 (m ∷ [])))
+    go (some (keep n)) e = rw (other (keep n) e, keep-ticket n r, other (keep n) e)
 
 pub length-settle : (ms : List Member) (L : Ledger) → length (settle ms L) ≡ length L
 length-settle ms L = length-map L (λ r. carryIf (planFor (r .ticket) ms) r)
@@ -179,30 +209,48 @@ no-ticket (suc t) = rw (eqb-ne 0 (suc t) (λ e. omega arith)) (and-false (not (e
 other-ticket : (t : ℕ) (r : Row) → r .ticket ≢ t → hasTicket t r ≡ false
 other-ticket t r h = rw (eqb-ne (r .ticket) t h) (and-false (not (eqb t 0)))
 
--- a ticket whose plan is carried out has no record, and any other has the one it had
-pub record-gone : (t : ℕ) (ms : List Member) → isSome (planFor t ms) ≡ true → (L : Ledger)
-    → recordOf t (settle ms L) ≡ none
-record-gone t ms h [] = refl
-record-gone t ms h (r ∷ L) = go (planFor (r .ticket) ms) refl (record-gone t ms h L)
+-- what a ticket has after the plans: a released one no record, a trimmed one its record with the words kept, and any
+-- other the one it had
+abbrev pub carried : Option Plan → Option Row → Option Row
+carried none x = x
+carried (some vacate) x = none
+carried (some (keep n)) none = none
+carried (some (keep n)) (some r) = some (carryOut (keep n) r)
+
+pub record-settled : (t : ℕ) (ms : List Member) (L : Ledger)
+    → recordOf t (settle ms L) ≡ carried (planFor t ms) (recordOf t L)
+record-settled t ms [] = nothing (planFor t ms)
   where
-    go : (o : Option Plan) → planFor (r .ticket) ms ≡ o → recordOf t (settle ms L) ≡ none
-        → recordOf t (carryIf o r ∷ settle ms L) ≡ none
-    go none e ih =
-        let other : r .ticket ≢ t = λ q. false≢true (sym (ap isSome (ap (λ k. planFor k ms) (sym q) ∙ e)) ∙ h) in
-        rw (other-ticket t r other) ih
-    go (some vacate) e ih = rw (no-ticket t) ih
+    nothing : (o : Option Plan) → none ≡ carried o none
+    nothing none = refl
+    nothing (some vacate) = refl
+    nothing (some (keep n)) = refl
+record-settled t ms (r ∷ L) = go (hasTicket t r) refl (planFor (r .ticket) ms) refl (record-settled t ms L)
+  where
+    go : (b : Bool) → hasTicket t r ≡ b → (o : Option Plan) → planFor (r .ticket) ms ≡ o
+        → recordOf t (settle ms L) ≡ carried (planFor t ms) (recordOf t L)
+        → recordOf t (carryIf o r ∷ settle ms L) ≡ carried (planFor t ms) (cond b (some r) (recordOf t L))
+    go false h none e ih = rw h ih
+    go false h (some vacate) e ih = rw (no-ticket t) ih
+    go false h (some (keep n)) e ih = rw (keep-ticket n r, h) ih
+    go true h none e ih =
+        let q : r .ticket ≡ t = has-ticket t r .0 h .1 in
+        rw (h, ap (λ k. planFor k ms) (sym q) ∙ e)
+    go true h (some vacate) e ih =
+        let q : r .ticket ≡ t = has-ticket t r .0 h .1 in
+        let p : planFor t ms ≡ some vacate = ap (λ k. planFor k ms) (sym q) ∙ e in
+        rw (no-ticket t, p) (ih ∙ rw p)
+    go true h (some (keep n)) e ih =
+        let q : r .ticket ≡ t = has-ticket t r .0 h .1 in
+        rw (keep-ticket n r, h, ap (λ k. planFor k ms) (sym q) ∙ e)
+
+pub record-gone : (t : ℕ) (ms : List Member) → planFor t ms ≡ some vacate → (L : Ledger)
+    → recordOf t (settle ms L) ≡ none
+record-gone t ms h L = record-settled t ms L ∙ rw h
 
 pub record-kept : (t : ℕ) (ms : List Member) → planFor t ms ≡ none → (L : Ledger)
     → recordOf t (settle ms L) ≡ recordOf t L
-record-kept t ms h [] = refl
-record-kept t ms h (r ∷ L) = go (planFor (r .ticket) ms) refl (record-kept t ms h L)
-  where
-    go : (o : Option Plan) → planFor (r .ticket) ms ≡ o → recordOf t (settle ms L) ≡ recordOf t L
-        → recordOf t (carryIf o r ∷ settle ms L) ≡ recordOf t (r ∷ L)
-    go none e ih = rw ih
-    go (some vacate) e ih =
-        let other : r .ticket ≢ t = λ q. absurd-some (sym h ∙ ap (λ k. planFor k ms) (sym q) ∙ e) in
-        rw (no-ticket t, other-ticket t r other) ih
+record-kept t ms h L = record-settled t ms L ∙ rw h
 
 -- ---- one slot
 
@@ -216,28 +264,28 @@ module _ (ρ : Rule) where
 
   -- no record that is apart from the one of a ticket has that ticket
   settle-others : (r : Row) (L : Ledger) → r .ticket ≢ 0 → all (apart ρ r) L ≡ true
-      → settle (member (r .ticket) vacate ∷ []) L ≡ L
-  settle-others r [] z h = refl
-  settle-others r (s ∷ L) z h =
+      → (q : Plan) → settle (member (r .ticket) q ∷ []) L ≡ L
+  settle-others r [] z h q = refl
+  settle-others r (s ∷ L) z h q =
       let d = tickets-differ r s (and-l (apart ρ r s) (all (apart ρ r) L) h) z in
       rw (eqb-ne (r .ticket) (s .ticket) d)
-      (ap (λ (M : Ledger). s ∷ M) (settle-others r L z (and-r (apart ρ r s) (all (apart ρ r) L) h)))
+      (ap (λ (M : Ledger). s ∷ M) (settle-others r L z (and-r (apart ρ r s) (all (apart ρ r) L) h) q))
 
-  -- to empty the record of a ticket is to empty its slot
-  pub settle-slot : (L : Ledger) (i t : ℕ) → pairwise (apart ρ) L ≡ true → i < length L → t ≢ 0
-      → getD L i emptyRow .ticket ≡ t → settle (member t vacate ∷ []) L ≡ set L i emptyRow
-  settle-slot [] i t h l z e = refl
-  settle-slot (r ∷ L) zero t h l z e =
+  -- to carry out the plan of a ticket is to do it in its slot
+  pub settle-slot : (L : Ledger) (i t : ℕ) (q : Plan) → pairwise (apart ρ) L ≡ true → i < length L → t ≢ 0
+      → getD L i emptyRow .ticket ≡ t → settle (member t q ∷ []) L ≡ set L i (carryOut q (getD L i emptyRow))
+  settle-slot [] i t q h l z e = refl
+  settle-slot (r ∷ L) zero t q h l z e =
       let apart-all = and-l (all (apart ρ r) L) (pairwise (apart ρ) L) h in
       rw (sym e, eqb-same (r .ticket))
-      (ap (λ (M : Ledger). emptyRow ∷ M) (settle-others r L (λ q. z (sym e ∙ q)) apart-all))
-  settle-slot (r ∷ L) (suc i) t h l z e =
+      (ap (λ (M : Ledger). carryOut q r ∷ M) (settle-others r L (λ y. z (sym e ∙ y)) apart-all q))
+  settle-slot (r ∷ L) (suc i) t q h l z e =
       let first = and-l (all (apart ρ r) L) (pairwise (apart ρ) L) h in
       let x = all-getD (apart ρ r) emptyRow L first i (le-of-suc-le-suc l) in
-      let d : t ≢ r .ticket = λ q. tickets-differ r (getD L i emptyRow) x (λ y. z (q ∙ y)) (sym q ∙ sym e) in
+      let d : t ≢ r .ticket = λ y. tickets-differ r (getD L i emptyRow) x (λ k. z (y ∙ k)) (sym y ∙ sym e) in
       rw (eqb-ne t (r .ticket) d)
       (ap (λ (M : Ledger). r ∷ M)
-      (settle-slot L i t (and-r (all (apart ρ r) L) (pairwise (apart ρ) L) h) (le-of-suc-le-suc l) z e))
+      (settle-slot L i t q (and-r (all (apart ρ r) L) (pairwise (apart ρ) L) h) (le-of-suc-le-suc l) z e))
 
 -- slot k is empty
 abbrev pub emptyAt : Ledger → ℕ → Bool

@@ -4,27 +4,28 @@ use Prim.Native.Nat.{ℕ, zero, suc, _+_, _-_, _/_, _≤_, _<_, max}
 use native.Mathlib.Nat.{sub-zero}
 use native.Mathlib.Omega.{arith}
 use native.Mathlib.Decide.{ℕ-discrete, decLe}
-use mathlib.Core.Path.{_≡_, refl, sym, ap, _∙_, subst}
+use mathlib.Core.Path.{_≡_, refl, sym, ap, ap₂, _∙_, subst}
 use mathlib.Core.Logic.{_≢_}
 use mathlib.Core.Bool.{Bool, true, false, cond, not, _&&_, _||_, false≢true, true≢false, and-true, or-true, or-false}
-use mathlib.Core.Bool.{or-assoc, or-comm}
+use mathlib.Core.Bool.{or-assoc, or-comm, and-false}
 use mathlib.Core.List.{List, [], _∷_, _++_}
 use mathlib.Core.Option.{some}
 use lib.Dec.{eqb, leb, ltb}
 use lib.ListN.{length}
 use Rattle.words.specs.Lists.{any}
 use Rattle.words.specs.Counted.{within}
-use Rattle.words.proofs.Tests.{and-l, and-map, or-l, or-r, not-true, not-false, eqb-eq, eqb-ne, eqb-false}
+use Rattle.words.proofs.Tests.{and-l, and-r, and-map, or-l, or-r, not-true, not-false, eqb-eq, eqb-ne, eqb-false}
 use Rattle.words.proofs.Tests.{le-of, of-le, lt-of, not-lt}
 use Rattle.words.proofs.Tests.{of-gt, within-in, within-low, within-high, within-of}
 use Rattle.ledger.specs.declared.Row.{Row}
 use Rattle.ledger.specs.declared.Rule.{Rule}
-use Rattle.ledger.specs.Records.{row, Ledger, isLive, recordOf, full, enter, vacate, member, settle}
-use Rattle.ledger.specs.Units.{span, addressAt, first, past, valid, covers, free}
+use Rattle.ledger.specs.Records.{row, Ledger, isLive, recordOf, full, enter, Plan, vacate, keep}
+use Rattle.ledger.specs.Records.{shortened, feasible, member, settle}
+use Rattle.ledger.specs.Units.{span, addressAt, first, past, valid, covers, free, freedBy, keptUnits, tailUnits}
 use Rattle.ledger.specs.Runs.{Run, run, grow, runsFrom, freeRuns, covered, Gapped, AreRuns}
 use Rattle.ledger.specs.Runs.{addRun, shorten, liveCount}
 use Rattle.ledger.proofs.UnitLaws.{valid-record, span-pos, first-new, covers-of, covers-in, free-not}
-use Rattle.ledger.proofs.UnitLaws.{free-settle, free-enter}
+use Rattle.ledger.proofs.UnitLaws.{free-settle, span-mono, free-enter}
 
 -- ---- a gapped list
 
@@ -559,26 +560,92 @@ runs-after-grant f g N m xs r ys e part h =
 
 -- ---- the free runs of a ledger
 
+-- k units from a on, without the first m
+within-less : (a m k u : ℕ) → m ≤ k
+    → (within a (a + k) u && not (within a (a + m) u)) ≡ within (a + m) (a + m + (k - m)) u
+within-less a m k u l =
+    let e : a + m + (k - m) ≡ a + k = omega arith in
+    go (decLe a u) (decLe (a + m) u) (decLe (a + k) u) ∙ ap (λ b. within (a + m) b u) (sym e)
+  where
+    go : Dec (a ≤ u) → Dec (a + m ≤ u) → Dec (a + k ≤ u)
+        → (within a (a + k) u && not (within a (a + m) u)) ≡ within (a + m) (a + k) u
+    go (no x) y w = rw (within-low a (a + k) u (omega arith), within-low (a + m) (a + k) u (omega arith))
+    go (yes x) (no y) w =
+        rw (within-in a (a + m) u x (omega arith), within-low (a + m) (a + k) u (omega arith))
+        (and-false (within a (a + k) u))
+    go (yes x) (yes y) (yes w) = rw (within-high a (a + k) u w, within-high (a + m) (a + k) u w)
+    go (yes x) (yes y) (no w) =
+        rw (
+          within-in a (a + k) u x (omega arith),
+          within-high a (a + m) u y,
+          within-in (a + m) (a + k) u y (omega arith),
+        )
+
+within-none : (a b u : ℕ) → b ≤ a → within a b u ≡ false
+within-none a b u h = go (decLe b u)
+  where
+    go : Dec (b ≤ u) → within a b u ≡ false
+    go (yes x) = within-high a b u x
+    go (no x) = within-low a b u (omega arith)
+
 module _ (ρ : Rule) (pos : 0 < ρ .unit) where
   covers-live : (r : Row) → r .ticket ≢ 0 → (u : ℕ)
       → covers ρ u r ≡ within (first ρ r) (first ρ r + span ρ (r .words)) u
   unfolding covers past
   covers-live r z u = rw (eqb-ne (r .ticket) 0 z)
 
-  -- a release makes a run of the record's units
-  pub freeRuns-settle : (W next : ℕ) (L : Ledger) → valid ρ W next L ≡ true → (t : ℕ) (r : Row)
-      → recordOf t L ≡ some r
-      → freeRuns ρ W (settle (member t vacate ∷ []) L) ≡ addRun (first ρ r) (span ρ (r .words)) (freeRuns ρ W L)
+  pub kept-few : (q : Plan) (r : Row) → feasible q r ≡ true → keptUnits ρ q ≤ span ρ (r .words)
+  kept-few vacate r h = omega arith
+  kept-few (keep n) r h = span-mono ρ pos n (r .words) (le-of n (r .words) (and-r (leb 1 n) (leb n (r .words)) h))
+
+  -- the units that a plan frees are the tail
+  pub freed-tail : (q : Plan) (r : Row) → feasible q r ≡ true → r .ticket ≢ 0 → (u : ℕ)
+      → freedBy ρ q r u
+      ≡ within (first ρ r + keptUnits ρ q) (first ρ r + keptUnits ρ q + tailUnits ρ q r) u
+  unfolding covers first
+  freed-tail vacate r h z u =
+      rw (covers-live r z u, and-true (within (first ρ r) (first ρ r + span ρ (r .words)) u))
+      (ap₂ (λ (a b : ℕ). within a b u) (omega arith) (omega arith))
+  freed-tail (keep n) r h z u =
+      rw (h, covers-live r z u, covers-live (shortened n r) z u)
+      (within-less (first ρ r) (span ρ n) (span ρ (r .words)) u (kept-few (keep n) r h))
+
+  -- a release or a trim makes a run of the units that it frees, if there are any
+  pub freeRuns-settle : (W next : ℕ) (L : Ledger) → valid ρ W next L ≡ true → (t : ℕ) (q : Plan) (r : Row)
+      → recordOf t L ≡ some r → feasible q r ≡ true → 0 < tailUnits ρ q r
+      → freeRuns ρ W (settle (member t q ∷ []) L)
+      ≡ addRun (first ρ r + keptUnits ρ q) (tailUnits ρ q r) (freeRuns ρ W L)
   unfolding freeRuns past
-  freeRuns-settle W next L good t r e =
+  freeRuns-settle W next L good t q r e suit long =
       let facts = valid-record ρ pos W next L good t r e in
-      let k = first ρ r in
-      let m = span ρ (r .words) in
-      let live = covers-live r (facts .ticket) in
-      runs-after-release (free ρ L) (free ρ (settle (member t vacate ∷ []) L)) (W / ρ .unit) k m
-      (span-pos ρ pos (r .words) (facts .asked)) (facts .units)
-      (λ u a b. free-not ρ t L r e u (live u ∙ within-in k (k + m) u a b))
-      (λ u b. free-settle ρ W next L good t r e u ∙ ap (λ c. free ρ L u || c) (live u))
+      let k = first ρ r + keptUnits ρ q in
+      let m = tailUnits ρ q r in
+      let units = facts .units in
+      let block : (u : ℕ) → k ≤ u → u < k + m → covers ρ u r ≡ true =
+      λ u a b. covers-in ρ u r (facts .live) (omega arith) (omega arith) in
+      runs-after-release (free ρ L) (free ρ (settle (member t q ∷ []) L)) (W / ρ .unit) k m long (omega arith)
+      (λ u a b. free-not ρ t L r e u (block u a b))
+      (λ u b. free-settle ρ pos W next L good t q r e u
+      ∙ ap (λ c. free ρ L u || c) (freed-tail q r suit (facts .ticket) u))
+
+  pub freeRuns-stay : (W next : ℕ) (L : Ledger) → valid ρ W next L ≡ true → (t : ℕ) (q : Plan) (r : Row)
+      → recordOf t L ≡ some r → feasible q r ≡ true → tailUnits ρ q r ≡ 0
+      → freeRuns ρ W (settle (member t q ∷ []) L) ≡ freeRuns ρ W L
+  unfolding freeRuns
+  freeRuns-stay W next L good t q r e suit empty =
+      let rest = settle (member t q ∷ []) L in
+      let k = first ρ r + keptUnits ρ q in
+      let old = runs-are (free ρ L) (W / ρ .unit) in
+      let none : (u : ℕ) → freedBy ρ q r u ≡ false =
+      λ u. freed-tail q r suit (valid-record ρ pos W next L good t r e .ticket) u
+      ∙ within-none k (k + tailUnits ρ q r) u (omega arith) in
+      runs-unique (free ρ rest) (W / ρ .unit) (runsFrom (free ρ L) 0 (W / ρ .unit))
+      (record {
+        gapped = old .gapped;
+        cover = λ u b.
+            old .cover u b
+            ∙ sym (free-settle ρ pos W next L good t q r e u ∙ ap (λ c. free ρ L u || c) (none u) ∙ or-false (free ρ L u));
+      })
 
   -- a grant takes the new record's units from the run that begins with them
   pub freeRuns-enter : (W : ℕ) (L : Ledger) → full L ≡ false → (t n c : ℕ) → t ≢ 0

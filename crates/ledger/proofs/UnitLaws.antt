@@ -6,9 +6,9 @@ use native.Mathlib.Nat.{mul-le-mul-left, le-div-iff-mul-le, div-lt-iff-lt-mul, o
 use native.Mathlib.Omega.{arith}
 use native.Mathlib.Decide.{decLe}
 use mathlib.Core.Path.{_≡_, refl, sym, ap, _∙_, subst}
-use mathlib.Core.Logic.{_≢_}
+use mathlib.Core.Logic.{_≢_, _⊎_, inl, inr}
 use mathlib.Core.Bool.{Bool, true, false, cond, not, _&&_, _||_, false≢true, true≢false, or-true, or-false, or-assoc}
-use mathlib.Core.Bool.{or-comm}
+use mathlib.Core.Bool.{or-comm, and-false}
 use mathlib.Core.List.{List, [], _∷_}
 use mathlib.Core.Option.{Option, none, some}
 use lib.Dec.{eqb, leb, ltb}
@@ -24,9 +24,11 @@ use Rattle.words.proofs.CountedLaws.{every-at}
 use Rattle.ledger.specs.declared.Row.{Row}
 use Rattle.ledger.specs.declared.Rule.{Rule}
 use Rattle.ledger.specs.Records.{row, Ledger, isParty, emptyRow, isEmpty, isLive, hasTicket, recordOf, full}
-use Rattle.ledger.specs.Records.{enter, Plan, vacate, Member, member, planFor, carryIf, settle}
-use Rattle.ledger.specs.Units.{span, addressAt, first, past, fits, apart, valid, covers, free, owns, owned}
-use Rattle.ledger.proofs.RecordLaws.{has-ticket, record-ticket, record-slot, settle-slot}
+use Rattle.ledger.specs.Records.{enter, Plan, Member, member, planFor, shortened, carryOut, carryIf}
+use Rattle.ledger.specs.Records.{settle}
+use Rattle.ledger.specs.Units.{span, addressAt, first, past, fits, apart, valid, covers, free, freedBy, owns}
+use Rattle.ledger.specs.Units.{owned}
+use Rattle.ledger.proofs.RecordLaws.{has-ticket, record-ticket, record-slot, settle-slot, carry-by}
 
 -- ---- a record that fits
 
@@ -123,7 +125,7 @@ module _ (ρ : Rule) where
   unfolding valid
   valid-apart W next L good = and-r (all (λ r. isEmpty r || fits ρ W next r) L) (pairwise (apart ρ) L) good
 
-  covers-empty : (u : ℕ) (r : Row) → isEmpty r ≡ true → covers ρ u r ≡ false
+  pub covers-empty : (u : ℕ) (r : Row) → isEmpty r ≡ true → covers ρ u r ≡ false
   unfolding covers
   covers-empty u r e = rw e
 
@@ -189,82 +191,170 @@ module _ (ρ : Rule) where
 
   -- ---- plans carried out
 
-  owns-carried : (i : ℕ) (r : Row) (o : Option Plan) → owns ρ i (carryIf o r) ≡ true → owns ρ i r ≡ true
-  unfolding owns
-  owns-carried i r none h = h
-  owns-carried i r (some vacate) h = absurd (false≢true h)
+  -- a record that is carried is empty, or stands where it stood with no more units
+  record Shrunk (r s : Row) : Type 0 where
+    ticket : s .ticket ≡ r .ticket
+    first : first ρ s ≡ first ρ r
+    past : past ρ s ≤ past ρ r
+    held : isEmpty r ≡ false
 
-  pub owned-settle : (ms : List Member) (L : Ledger) (i : ℕ) → owned ρ (settle ms L) i ≡ true → owned ρ L i ≡ true
-  unfolding owned
-  owned-settle ms L i h =
-      any-map (λ r. carryIf (planFor (r .ticket) ms) r) (owns ρ i) (λ r. owns-carried i r (planFor (r .ticket) ms)) L h
+  asked-live : (r : Row) → 1 ≤ r .words → isEmpty r ≡ false
+  asked-live r h = rw (eqb-ne (r .words) 0 (omega arith), and-false (eqb (r .ticket) 0 && eqb (r .address) 0))
 
-  apart-carried : (r s : Row) (o p : Option Plan) → apart ρ r s ≡ true → apart ρ (carryIf o r) (carryIf p s) ≡ true
-  unfolding apart
-  apart-carried r s (some vacate) p h = refl
-  apart-carried r s none none h = h
-  apart-carried r s none (some vacate) h = rw (or-true (isEmpty r))
+  module _ (pos : 0 < ρ .unit) where
+    past-cut : (r : Row) (n : ℕ) → n ≤ r .words → past ρ (shortened n r) ≤ past ρ r
+    unfolding past first
+    past-cut r n h = let s = span-mono ρ pos n (r .words) h in omega arith
 
-  fits-carried : (W next : ℕ) (r : Row) (o : Option Plan) → (isEmpty r || fits ρ W next r) ≡ true
-      → (isEmpty (carryIf o r) || fits ρ W next (carryIf o r)) ≡ true
-  fits-carried W next r none h = h
-  fits-carried W next r (some vacate) h = refl
+    shrunk-cut : (r : Row) (n : ℕ) → 1 ≤ n → n ≤ r .words → Shrunk r (shortened n r)
+    unfolding first
+    shrunk-cut r n a b =
+        record { ticket = refl; first = refl; past = past-cut r n b; held = asked-live r (omega arith) }
 
-  pub valid-settle : (W next : ℕ) (ms : List Member) (L : Ledger) → valid ρ W next L ≡ true
-      → valid ρ W next (settle ms L) ≡ true
-  unfolding valid
-  valid-settle W next ms L good =
-      let carry : Row → Row = λ r. carryIf (planFor (r .ticket) ms) r in
-      let each : Row → Bool = λ r. isEmpty r || fits ρ W next r in
-      and-map (all each L) (pairwise (apart ρ) L) (all each (settle ms L)) (pairwise (apart ρ) (settle ms L))
-      (all-map carry each (λ r. fits-carried W next r (planFor (r .ticket) ms)) L)
-      (pairwise-map carry (apart ρ) (λ r s. apart-carried r s (planFor (r .ticket) ms) (planFor (s .ticket) ms)) L)
-      good
+    stays-put : (r : Row) → (isEmpty r ≡ true) ⊎ Shrunk r r
+    stays-put r = go (isEmpty r) refl
+      where
+        go : (b : Bool) → isEmpty r ≡ b → (isEmpty r ≡ true) ⊎ Shrunk r r
+        go true e = inl e
+        go false e = inr (record { ticket = refl; first = refl; past = omega arith; held = e })
 
-  -- exactly the units of a record become free with it
-  freed : (t u : ℕ) (r : Row) (L : Ledger) → pairwise (apart ρ) L ≡ true → recordOf t L ≡ some r
-      → not (any (covers ρ u) (settle (member t vacate ∷ []) L)) ≡ (not (any (covers ρ u) L) || covers ρ u r)
-  freed t u r [] h e = absurd (absurd-some e)
-  freed t u r (s ∷ L) h e =
-      go (hasTicket t s) refl e (freed t u r L (and-r (all (apart ρ s) L) (pairwise (apart ρ) L) h))
-    where
-      rest : Ledger
-      rest = settle (member t vacate ∷ []) L
+    shrinks : (r : Row) (o : Option Plan) → (isEmpty (carryIf o r) ≡ true) ⊎ Shrunk r (carryIf o r)
+    shrinks r none = stays-put r
+    shrinks r (some q) =
+        carry-by (λ r q s. (isEmpty s ≡ true) ⊎ Shrunk r s) (λ r. inl refl) (λ r n a b. inr (shrunk-cut r n a b))
+        (λ r q. stays-put r) r q
 
-      -- s is the record, and no other covers its units
-      here : (b : Bool) → covers ρ u s ≡ b → not (any (covers ρ u) L) ≡ (not (b || any (covers ρ u) L) || b)
-      here true x = rw (apart-none u s L (and-l (all (apart ρ s) L) (pairwise (apart ρ) L) h) x)
-      here false x = sym (or-false (not (any (covers ρ u) L)))
+    owns-carried : (i : ℕ) (r : Row) (o : Option Plan) → owns ρ i (carryIf o r) ≡ true → owns ρ i r ≡ true
+    unfolding owns
+    owns-carried i r none = λ h. h
+    owns-carried i r (some q) =
+        carry-by (λ r q s. owns ρ i s ≡ true → owns ρ i r ≡ true) (λ r h. absurd (false≢true h)) shorter
+        (λ r q h. h) r q
+      where
+        shorter : (r : Row) (n : ℕ) → 1 ≤ n → n ≤ r .words → owns ρ i (shortened n r) ≡ true → owns ρ i r ≡ true
+        shorter r n a b h =
+            let hi = ρ .unit * past ρ (shortened n r) in
+            let (lo, up) = within-of (r .address) hi i (and-r (isLive (shortened n r)) (within (r .address) hi i) h) in
+            rw (asked-live r (omega arith))
+            (within-in (r .address) (ρ .unit * past ρ r) i lo
+            (omega (arith, mul-le-mul-left (ρ .unit) (past-cut r n b))))
 
-      -- the record is a later one, apart from s
-      later : (b : Bool) → covers ρ u s ≡ b → recordOf t L ≡ some r
-          → not (any (covers ρ u) rest) ≡ (not (any (covers ρ u) L) || covers ρ u r)
-          → not (b || any (covers ρ u) rest) ≡ (not (b || any (covers ρ u) L) || covers ρ u r)
-      later true x e ih =
-          let (i, l, q) = record-slot t L r e in
-          let y = all-getD (apart ρ s) emptyRow L (and-l (all (apart ρ s) L) (pairwise (apart ρ) L) h) i l in
-          sym (apart-covers u s r (ap (apart ρ s) (sym q) ∙ y) x)
-      later false x e ih = ih
+    pub owned-settle : (ms : List Member) (L : Ledger) (i : ℕ) → owned ρ (settle ms L) i ≡ true → owned ρ L i ≡ true
+    unfolding owned
+    owned-settle ms L i h =
+        any-map (λ r. carryIf (planFor (r .ticket) ms) r) (owns ρ i)
+        (λ r. owns-carried i r (planFor (r .ticket) ms)) L h
 
-      go : (b : Bool) → hasTicket t s ≡ b → cond b (some s) (recordOf t L) ≡ some r
-          → (recordOf t L ≡ some r → not (any (covers ρ u) rest) ≡ (not (any (covers ρ u) L) || covers ρ u r))
-          → not (any (covers ρ u) (settle (member t vacate ∷ []) (s ∷ L)))
-          ≡ (not (covers ρ u s || any (covers ρ u) L) || covers ρ u r)
-      go true x e ih =
-          let (z, q) = has-ticket t s .0 x in
-          let p : s ≡ r = cc in
-          ap (λ (M : Ledger). not (any (covers ρ u) M)) (settle-slot ρ (s ∷ L) 0 t h (omega arith) z q)
-          ∙ ap (λ b. not (b || any (covers ρ u) L)) (covers-empty u emptyRow refl)
-          ∙ here (covers ρ u s) refl
-          ∙ ap (λ (v : Row). not (covers ρ u s || any (covers ρ u) L) || covers ρ u v) p
-      go false x e ih =
-          let d : t ≢ s .ticket = λ q. true≢false (sym (has-ticket t s .1 (record-ticket t L r e .0, sym q)) ∙ x) in
-          rw (eqb-ne t (s .ticket) d) (later (covers ρ u s) refl e (ih e))
+    apart-shrunk : (r s r′ s′ : Row) → apart ρ r s ≡ true → (isEmpty r′ ≡ true) ⊎ Shrunk r r′
+        → (isEmpty s′ ≡ true) ⊎ Shrunk s s′ → apart ρ r′ s′ ≡ true
+    unfolding apart
+    apart-shrunk r s r′ s′ h (inl e) y = rw e
+    apart-shrunk r s r′ s′ h (inr x) (inl e) = rw (e, or-true (isEmpty r′))
+    apart-shrunk r s r′ s′ h (inr x) (inr y) =
+        let differ = not (eqb (r .ticket) (s .ticket)) in
+        let beside = leb (past ρ r) (first ρ s) || leb (past ρ s) (first ρ r) in
+        let k : (differ && beside) ≡ true = rw (x .held, y .held) at h in
+        let d : not (eqb (r′ .ticket) (s′ .ticket)) ≡ true = rw (x .ticket, y .ticket) (and-l differ beside k) in
+        rw (d, x .first, y .first)
+        (or-tail (isEmpty r′ || isEmpty s′) (leb (past ρ r′) (first ρ s) || leb (past ρ s′) (first ρ r))
+        (or-map (leb (past ρ r) (first ρ s)) (leb (past ρ s) (first ρ r)) (leb (past ρ r′) (first ρ s))
+        (leb (past ρ s′) (first ρ r))
+        (λ e. of-le (past ρ r′) (first ρ s) (omega (arith, le-of (past ρ r) (first ρ s) e, x .past)))
+        (λ e. of-le (past ρ s′) (first ρ r) (omega (arith, le-of (past ρ s) (first ρ r) e, y .past)))
+        (and-r differ beside k)))
+      where
+        or-tail : (a b : Bool) → b ≡ true → (a || b) ≡ true
+        or-tail a b e = rw (e, or-true a)
 
-  pub free-settle : (W next : ℕ) (L : Ledger) → valid ρ W next L ≡ true → (t : ℕ) (r : Row) → recordOf t L ≡ some r
-      → (u : ℕ) → free ρ (settle (member t vacate ∷ []) L) u ≡ (free ρ L u || covers ρ u r)
+    apart-carried : (r s : Row) (o p : Option Plan) → apart ρ r s ≡ true
+        → apart ρ (carryIf o r) (carryIf p s) ≡ true
+    apart-carried r s o p h = apart-shrunk r s (carryIf o r) (carryIf p s) h (shrinks r o) (shrinks s p)
+
+    fits-carried : (W next : ℕ) (r : Row) (o : Option Plan) → (isEmpty r || fits ρ W next r) ≡ true
+        → (isEmpty (carryIf o r) || fits ρ W next (carryIf o r)) ≡ true
+    unfolding fits
+    fits-carried W next r none = λ h. h
+    fits-carried W next r (some q) =
+        carry-by (λ r q s. (isEmpty r || fits ρ W next r) ≡ true → (isEmpty s || fits ρ W next s) ≡ true)
+        (λ r h. refl) shorter (λ r q h. h) r q
+      where
+        shorter : (r : Row) (n : ℕ) → 1 ≤ n → n ≤ r .words → (isEmpty r || fits ρ W next r) ≡ true
+            → (isEmpty (shortened n r) || fits ρ W next (shortened n r)) ≡ true
+        shorter r n a b h =
+            let k : fits ρ W next r ≡ true = rw (asked-live r (omega arith)) at h in
+            let inside = le-of (ρ .unit * past ρ r) W (search (and-l, and-r)) in
+            let less = of-le (ρ .unit * past ρ (shortened n r)) W
+            (omega (arith, mul-le-mul-left (ρ .unit) (past-cut r n b))) in
+            let one = of-le 1 n a in
+            rw (asked-live (shortened n r) a) (search (and-i, and-l, and-r))
+
+    pub valid-settle : (W next : ℕ) (ms : List Member) (L : Ledger) → valid ρ W next L ≡ true
+        → valid ρ W next (settle ms L) ≡ true
+    unfolding valid
+    valid-settle W next ms L good =
+        let carry : Row → Row = λ r. carryIf (planFor (r .ticket) ms) r in
+        let each : Row → Bool = λ r. isEmpty r || fits ρ W next r in
+        and-map (all each L) (pairwise (apart ρ) L) (all each (settle ms L)) (pairwise (apart ρ) (settle ms L))
+        (all-map carry each (λ r. fits-carried W next r (planFor (r .ticket) ms)) L)
+        (pairwise-map carry (apart ρ) (λ r s. apart-carried r s (planFor (r .ticket) ms) (planFor (s .ticket) ms)) L)
+        good
+
+  -- a carried record covers no unit that it did not cover
+  covers-shrunk : (u : ℕ) (r s : Row) → (isEmpty s ≡ true) ⊎ Shrunk r s → covers ρ u r ≡ false → covers ρ u s ≡ false
+  covers-shrunk u r s (inl e) h = covers-empty u s e
+  covers-shrunk u r s (inr x) h =
+      false-of (covers ρ u s) (λ y.
+      let (live, lo, hi) = covers-of u s y in
+      true≢false (sym (covers-in u r (of-not (isEmpty r) (x .held)) (omega (arith, x .first)) (omega (arith, x .past)))
+      ∙ h))
+
+  -- exactly the units that the record has no more become free
+  module _ (pos : 0 < ρ .unit) (t u : ℕ) (q : Plan) (r : Row) where
+    freed : (L : Ledger) → pairwise (apart ρ) L ≡ true → recordOf t L ≡ some r
+        → not (any (covers ρ u) (settle (member t q ∷ []) L)) ≡ (not (any (covers ρ u) L) || freedBy ρ q r u)
+    freed [] h e = absurd (absurd-some e)
+    freed (s ∷ L) h e =
+        go (hasTicket t s) refl e (freed L (and-r (all (apart ρ s) L) (pairwise (apart ρ) L) h))
+      where
+        rest : Ledger
+        rest = settle (member t q ∷ []) L
+
+        -- s is the record, and no other covers its units
+        here : (b c : Bool) → covers ρ u s ≡ b → (b ≡ false → c ≡ false)
+            → not (c || any (covers ρ u) L) ≡ (not (b || any (covers ρ u) L) || (b && not c))
+        here true c x y = rw (apart-none u s L (and-l (all (apart ρ s) L) (pairwise (apart ρ) L) h) x, or-false c)
+        here false c x y = rw (y refl) (sym (or-false (not (any (covers ρ u) L))))
+
+        -- the record is a later one, apart from s
+        later : (b : Bool) → covers ρ u s ≡ b → recordOf t L ≡ some r
+            → not (any (covers ρ u) rest) ≡ (not (any (covers ρ u) L) || freedBy ρ q r u)
+            → not (b || any (covers ρ u) rest) ≡ (not (b || any (covers ρ u) L) || freedBy ρ q r u)
+        later true x e ih =
+            let (i, l, y) = record-slot t L r e in
+            let z = all-getD (apart ρ s) emptyRow L (and-l (all (apart ρ s) L) (pairwise (apart ρ) L) h) i l in
+            rw (apart-covers u s r (ap (apart ρ s) (sym y) ∙ z) x)
+        later false x e ih = ih
+
+        go : (b : Bool) → hasTicket t s ≡ b → cond b (some s) (recordOf t L) ≡ some r
+            → (recordOf t L ≡ some r → not (any (covers ρ u) rest) ≡ (not (any (covers ρ u) L) || freedBy ρ q r u))
+            → not (any (covers ρ u) (settle (member t q ∷ []) (s ∷ L)))
+            ≡ (not (covers ρ u s || any (covers ρ u) L) || freedBy ρ q r u)
+        go true x e ih =
+            let (z, y) = has-ticket t s .0 x in
+            let p : s ≡ r = cc in
+            ap (λ (M : Ledger). not (any (covers ρ u) M)) (settle-slot ρ (s ∷ L) 0 t q h (omega arith) z y)
+            ∙ here (covers ρ u s) (covers ρ u (carryOut q s)) refl
+            (covers-shrunk u s (carryOut q s) (shrinks pos s (some q)))
+            ∙ ap (λ (v : Row). not (covers ρ u s || any (covers ρ u) L) || freedBy ρ q v u) p
+        go false x e ih =
+            let d : t ≢ s .ticket = λ y. true≢false (sym (has-ticket t s .1 (record-ticket t L r e .0, sym y)) ∙ x) in
+            rw (eqb-ne t (s .ticket) d) (later (covers ρ u s) refl e (ih e))
+
+  pub free-settle : 0 < ρ .unit → (W next : ℕ) (L : Ledger) → valid ρ W next L ≡ true → (t : ℕ) (q : Plan) (r : Row)
+      → recordOf t L ≡ some r → (u : ℕ)
+      → free ρ (settle (member t q ∷ []) L) u ≡ (free ρ L u || freedBy ρ q r u)
   unfolding free
-  free-settle W next L good t r e u = freed t u r L (valid-apart W next L good) e
+  free-settle pos W next L good t q r e u = freed pos t u q r L (valid-apart W next L good) e
 
 -- ---- a new record
 

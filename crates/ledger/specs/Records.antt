@@ -1,7 +1,7 @@
 -- Records in the slots of the table, and the changes of a ledger. 01, "The ledger" and "Stored form of the tree pool";
--- their party: 02, ticket 6. Assumes nothing.
+-- their party: 02, ticket 6; a trim: ticket 13. Assumes nothing.
 use Prim.Native.Nat.{ℕ, _+_, _*_, _/_}
-use mathlib.Core.Bool.{Bool, cond, not, _&&_}
+use mathlib.Core.Bool.{Bool, true, cond, not, _&&_}
 use mathlib.Core.List.{List, [], _∷_, _++_, map}
 use mathlib.Core.Option.{Option, none, some}
 use lib.Dec.{eqb, leb}
@@ -72,13 +72,27 @@ abbrev pub enter : Row → Ledger → Ledger
 enter new [] = []
 enter new (r ∷ L) = cond (isEmpty r) (new ∷ L) (r ∷ enter new L)
 
--- What is done to the record that a call names: a release empties it. (A change that keeps part of a block would
--- stand beside it.)
+-- What is done to the record that a call names: a release empties it; a trim (02, ticket 13) keeps n of its words.
 pub data Plan : Type 0 where
   vacate : Plan
+  keep : ℕ → Plan
+
+-- "words to keep, from 1 to the words asked"
+abbrev pub keepable : ℕ → Row → Bool
+keepable n r = leb 1 n && leb n (r .words)
+
+-- the record with n words
+abbrev pub shortened : ℕ → Row → Row
+shortened n r = row (r .ticket) (r .address) n (r .party)
 
 abbrev pub carryOut : Plan → Row → Row
 carryOut vacate r = emptyRow
+carryOut (keep n) r = cond (keepable n r) (shortened n r) r
+
+-- a plan that can be carried out on a record: any release, a trim to words that can be kept
+abbrev pub feasible : Plan → Row → Bool
+feasible vacate r = true
+feasible (keep n) r = keepable n r
 
 -- A ticket, with what is to be done to its record.
 pub record Member : Type 0 where

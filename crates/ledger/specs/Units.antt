@@ -1,5 +1,5 @@
 -- The unit rule: where records lie, which ledgers are valid, which units are free, and the lowest fit.
--- 01, "The ledger" and row 1 of "Calls and numbers"; 02, ticket 6. Assumes nothing.
+-- 01, "The ledger" and row 1 of "Calls and numbers"; 02, tickets 6 and 13. Assumes nothing.
 use Prim.Native.Nat.{ℕ, suc, _+_, _-_, _*_, _/_, _%_}
 use mathlib.Core.Bool.{Bool, not, _&&_, _||_}
 use mathlib.Core.Option.{Option}
@@ -8,7 +8,7 @@ use Rattle.words.specs.Lists.{all, any, pairwise}
 use Rattle.words.specs.Counted.{every, lowest, within}
 use Rattle.ledger.specs.declared.Row.{Row}
 use Rattle.ledger.specs.declared.Rule.{Rule}
-use Rattle.ledger.specs.Records.{Ledger, isParty, isEmpty, isLive}
+use Rattle.ledger.specs.Records.{Ledger, isParty, isEmpty, isLive, Plan, vacate, keep, carryOut}
 
 -- The unit rule is the code's struct `Rule`: words to a unit, and words of a block before its address.
 -- Tree pool: 2 and 0. Segment pool: 1 and 1, the control word.
@@ -55,6 +55,18 @@ module _ (ρ : Rule) where
 
   unfoldable pub free : Ledger → ℕ → Bool
   free L u = not (any (covers u) L)
+
+  -- the units that a record has no more after a plan: "the units beyond its rounding become free" (02, ticket 13)
+  abbrev pub freedBy : Plan → Row → ℕ → Bool
+  freedBy q r u = covers u r && not (covers u (carryOut q r))
+
+  -- They are the last ones: a plan that feasible the record leaves this many, from the first on, and frees the rest.
+  abbrev pub keptUnits : Plan → ℕ
+  keptUnits vacate = 0
+  keptUnits (keep n) = span n
+
+  abbrev pub tailUnits : Plan → Row → ℕ
+  tailUnits q r = span (r .words) - keptUnits q
 
   -- word i of the arena is its holder's: it lies in a held block, at or past the address, spare words included
   unfoldable pub owns : ℕ → Row → Bool

@@ -4,7 +4,7 @@ use ledger::Row;
 ghost use mathlib.Core.Path.{_≡_};
 ghost use mathlib.Core.List.{[], _∷_};
 ghost use Rattle.ledger.specs.Records.{row};
-ghost use Rattle.calls.specs.Step.{format, allocate, release, find, list, step};
+ghost use Rattle.calls.specs.Step.{format, allocate, release, find, trim, list, step};
 ghost use Rattle.calls.specs.Engines.{treeEngine, segmentEngine};
 ghost use Rattle.call_parts.specs.Results.{resultOf};
 ghost use Rattle.old_tables.specs.Copies.{copyOf};
@@ -189,6 +189,36 @@ pub extern "C" fn lf_tree_release(
 }
 
 #[no_mangle]
+pub extern "C" fn lf_tree_trim(
+    head: TreeHead,
+    arena: &mut [u32],
+    table: &mut [u32],
+    party: u32,
+    ticket: u32,
+    address: u32,
+    words: u32,
+    keep: u32,
+) -> TreeOutcome
+    ensures { λ r. ⌜ tree.handed (treeOutcome r) (now (arena .exit)) (now (table .exit)) []
+        ≡ resultOf (step treeEngine (trim (row ticket address words party) keep)
+        (treePool (headOf head) (now (arena .entry)) (now (table .entry)))) ⌝ }
+{
+    let pool = tree_check::Head {
+        root: head.root,
+        next: head.next,
+        form: head.form,
+    };
+    let named = Row {
+        ticket,
+        address,
+        words,
+        party,
+    };
+    let done = tree_pool::trim(pool, arena, table, named, keep);
+    c_tree_outcome(done)
+}
+
+#[no_mangle]
 pub extern "C" fn lf_tree_find(
     head: TreeHead,
     arena: &[u32],
@@ -307,6 +337,35 @@ pub extern "C" fn lf_segment_release(
         party,
     };
     let done = segment_pool::release(head, segments, arena, table, index, named);
+    c_segment_outcome(done)
+}
+
+#[no_mangle]
+pub extern "C" fn lf_segment_trim(
+    next: u32,
+    arena: &mut [i32],
+    table: &mut [u32],
+    segments: u32,
+    index: &mut [u32],
+    party: u32,
+    ticket: u32,
+    address: u32,
+    words: u32,
+    keep: u32,
+) -> SegmentOutcome
+    ensures { λ r. ⌜
+        segment.handed segments (segmentOutcome r) (now (arena .exit)) (now (table .exit)) (now (index .exit)) []
+        ≡ resultOf (step segmentEngine (trim (row ticket address words party) keep)
+        (segmentPool segments (segmentHead next) (now (arena .entry)) (now (table .entry)) (now (index .entry)))) ⌝ }
+{
+    let head = segment_check::Head { next };
+    let named = Row {
+        ticket,
+        address,
+        words,
+        party,
+    };
+    let done = segment_pool::trim(head, segments, arena, table, index, named, keep);
     c_segment_outcome(done)
 }
 

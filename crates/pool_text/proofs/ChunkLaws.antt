@@ -14,7 +14,6 @@ use Rattle.words.proofs.Tests.{eqb-eq}
 use Rattle.calls.specs.declared.Answer.{Answer}
 use Rattle.calls.specs.Step.{accepted, answerTo}
 use Rattle.calls.specs.Engines.{treeEngine}
-use Rattle.call_parts.specs.Parts.{actOf}
 use Rattle.text.specs.declared.Pair.{Pair}
 use Rattle.text.specs.declared.Pair.the-variants as pair
 use Rattle.text.specs.declared.Triple.{Triple}
@@ -25,7 +24,7 @@ use Rattle.text.specs.Lines.{Served, Fed, also, feed, finish, keep, Run, run}
 use Rattle.text.proofs.WriteLaws.{sets-after}
 use Rattle.text.proofs.CutLaw.{feed-run}
 use Rattle.pool_text.specs.Meaning.{Standing, before, serving, stopped, served, serve, fresh, opening, opened}
-use Rattle.pool_text.specs.Meaning.{begins, badFirst, threeNumbers, twoNumbers, firstLine, requestOf, answerLine}
+use Rattle.pool_text.specs.Meaning.{begins, badFirst, threeNumbers, twoNumbers, firstLine, actOf, requestOf, answerLine}
 use Rattle.pool_text.specs.Meaning.{refusalLine, mostTextWords}
 use Rattle.pool_text.specs.Session.{landed}
 use Rattle.pool_text.proofs.RoomLaws.{choice-long, line-room}

@@ -1,42 +1,18 @@
 -- What a line is read as. Assumes nothing.
 use Prim.Native.Nat.{ℕ, _-_, _≤_}
-use mathlib.Core.Path.{_≡_, refl, sym, ap, _∙_}
-use mathlib.Core.Bool.{Bool, true, false, cond}
+use mathlib.Core.Path.{_≡_, sym, ap, _∙_}
+use mathlib.Core.Bool.{true, false}
 use lib.ListN.{length, take, drop}
 use Rattle.words.proofs.Tests.{and-l, le-of}
-use Rattle.ledger.specs.Records.{isParty}
-use Rattle.calls.specs.Step.{partied}
-use Rattle.call_parts.specs.declared.Request.{Request}
-use Rattle.call_parts.specs.declared.Request.the-variants as request
-use Rattle.call_parts.specs.Parts.{actOf}
 use Rattle.text.specs.declared.Number.{Number}
-use Rattle.text.specs.declared.Number.the-variants as number
-use Rattle.text.specs.declared.Pair.the-variants as pair
 use Rattle.text.specs.declared.Triple.{Triple}
-use Rattle.text.specs.declared.Triple.the-variants as triple
+use Rattle.text.specs.declared.Quad.{Quad}
 use Rattle.text.specs.Numbers.{Bytes, valueOf}
-use Rattle.text.specs.Fields.{pairOf, tripleOf}
+use Rattle.text.specs.Fields.{pairOf, tripleOf, quadOf}
 use Rattle.text.proofs.FieldLaws.{part-rest}
-use Rattle.pool_text.specs.Meaning.{begins, badFirst, twoNumbers, firstLine, requestOf, askOf, giveOf}
-
--- every line is the text program's own party's
-pub request-partied : (s : Bytes) → partied (actOf (requestOf s)) ≡ true
-unfolding requestOf isParty
-request-partied s = go (begins s 65) (begins s 82) (valueOf (drop 2 s)) (tripleOf (drop 2 s))
-  where
-    asks : (n : Number) → partied (actOf (askOf n)) ≡ true
-    asks (number.Value n) = refl
-    asks number.Bad = refl
-
-    gives : (t : Triple) → partied (actOf (giveOf t)) ≡ true
-    gives (triple.Three t a n) = refl
-    gives triple.Bad = refl
-
-    go : (a b : Bool) (n : Number) (t : Triple)
-        → partied (actOf (cond a (askOf n) (cond b (giveOf t) request.Bad))) ≡ true
-    go true b n t = asks n
-    go false true n t = gives t
-    go false false n t = refl
+use Rattle.pool_text.specs.declared.Request.{Request}
+use Rattle.pool_text.specs.declared.Request.the-variants as request
+use Rattle.pool_text.specs.Meaning.{begins, badFirst, twoNumbers, firstLine, requestOf, askOf, giveOf, cutOf}
 
 -- there is something after the tab to slice
 pub begins-long : (s : Bytes) (letter : ℕ) → begins s letter ≡ true → 2 ≤ length s
@@ -64,6 +40,11 @@ module _ (s : Bytes) where
   unfolding requestOf
   give-line t r a b e z = rw (a, b) (z ∙ ap giveOf (e ∙ ap tripleOf (part-rest 2 s)))
 
-  pub bad-line : begins s 65 ≡ false → begins s 82 ≡ false → request.Bad ≡ requestOf s
+  pub cut-line : (q : Quad) (r : Request) → begins s 65 ≡ false → begins s 82 ≡ false → begins s 84 ≡ true
+      → q ≡ quadOf rest → r ≡ cutOf q → r ≡ requestOf s
   unfolding requestOf
-  bad-line a b = rw (a, b)
+  cut-line q r a b t e z = rw (a, b, t) (z ∙ ap cutOf (e ∙ ap quadOf (part-rest 2 s)))
+
+  pub bad-line : begins s 65 ≡ false → begins s 82 ≡ false → begins s 84 ≡ false → request.Bad ≡ requestOf s
+  unfolding requestOf
+  bad-line a b t = rw (a, b, t)

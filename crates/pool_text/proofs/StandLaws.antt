@@ -12,8 +12,6 @@ use Rattle.calls.specs.Pool.{sound}
 use Rattle.calls.specs.Step.{poolAfter}
 use Rattle.calls.specs.Engines.{treeEngine}
 use Rattle.calls.proofs.Engines.{tree-laws}
-use Rattle.call_parts.specs.declared.Request.{Request}
-use Rattle.call_parts.specs.Parts.{actOf}
 use Rattle.call_parts.specs.Results.{Result, acted}
 use Rattle.call_parts.proofs.ResultLaws.{acted-sound}
 use Rattle.tree_requests.specs.declared.Outcome.{Outcome}
@@ -21,11 +19,12 @@ use Rattle.tree_requests.specs.Outcomes.{handed}
 use Rattle.text.specs.Numbers.{Bytes}
 use Rattle.text.specs.Fields.{Wrote}
 use Rattle.text.specs.Lines.{Served}
+use Rattle.pool_text.specs.declared.Request.{Request}
 use Rattle.pool_text.specs.declared.Own.{Own}
 use Rattle.pool_text.specs.declared.Stage.{Stage}
 use Rattle.pool_text.specs.declared.Stage.the-variants.{Serving, Stopped}
 use Rattle.pool_text.specs.Meaning.{Standing, serving, stopped, served, serve, actLine}
-use Rattle.pool_text.specs.Meaning.{requestOf, answerLine, refusalLine}
+use Rattle.pool_text.specs.Meaning.{actOf, requestOf, answerLine, refusalLine}
 use Rattle.pool_text.specs.Session.{ownPool, standingOf, ready, Lent, Became}
 
 -- what is known of a session with a pool

@@ -1,5 +1,5 @@
 -- The meaning of the text program, from input bytes to output bytes, over the machine. 01, "The text program". Letters
--- and tabs are bytes: A is 65, K 75, N 78, P 80, R 82, a tab 9. Assumes nothing.
+-- and tabs are bytes: A is 65, K 75, N 78, P 80, R 82, T 84, a tab 9. Assumes nothing.
 use Prim.Native.Nat.{ℕ, _*_}
 use mathlib.Core.Bool.{Bool, cond, _&&_}
 use mathlib.Core.List.{List, [], _∷_, _++_}
@@ -8,11 +8,8 @@ use lib.ListN.{length, getD, drop, replicate}
 use Rattle.ledger.specs.Records.{row, recordWords}
 use Rattle.calls.specs.declared.Answer.{Answer}
 use Rattle.calls.specs.Pool.{Pool}
-use Rattle.calls.specs.Step.{Outcome, Act, accepted, answerTo, poolAfter, format, step}
+use Rattle.calls.specs.Step.{Outcome, Act, ask, give, cut, bad, accepted, answerTo, poolAfter, format, step}
 use Rattle.calls.specs.Engines.{treeEngine}
-use Rattle.call_parts.specs.declared.Request.{Request}
-use Rattle.call_parts.specs.declared.Request.the-variants as request
-use Rattle.call_parts.specs.Parts.{actOf}
 use Rattle.tree_check.specs.Gate.{treePool, noHead}
 use Rattle.text.specs.declared.Number.{Number}
 use Rattle.text.specs.declared.Number.the-variants as number
@@ -20,9 +17,13 @@ use Rattle.text.specs.declared.Pair.{Pair}
 use Rattle.text.specs.declared.Pair.the-variants as pair
 use Rattle.text.specs.declared.Triple.{Triple}
 use Rattle.text.specs.declared.Triple.the-variants as triple
+use Rattle.text.specs.declared.Quad.{Quad}
+use Rattle.text.specs.declared.Quad.the-variants as quad
 use Rattle.text.specs.Numbers.{Bytes, valueOf}
-use Rattle.text.specs.Fields.{pairOf, tripleOf, lineOf}
+use Rattle.text.specs.Fields.{pairOf, tripleOf, quadOf, lineOf}
 use Rattle.text.specs.Lines.{mostBytes, Served, answered, finish, feedAll}
+use Rattle.pool_text.specs.declared.Request.{Request}
+use Rattle.pool_text.specs.declared.Request.the-variants as request
 
 -- ---- what a line asks
 
@@ -36,19 +37,33 @@ begins s letter =
 abbrev pub textParty : ℕ
 textParty = 1
 
+-- the act of a request
+abbrev pub actOf : Request → Act
+actOf (request.Ask n) = ask textParty n
+actOf (request.Give r) = give r
+actOf (request.Cut r n) = cut r n
+actOf request.Bad = bad
+
 -- "Then A, words or R, ticket, address, words."
 abbrev pub askOf : Number → Request
-askOf (number.Value n) = request.Ask textParty n
+askOf (number.Value n) = request.Ask n
 askOf number.Bad = request.Bad
 
 abbrev pub giveOf : Triple → Request
 giveOf (triple.Three t a n) = request.Give (row t a n textParty)
 giveOf triple.Bad = request.Bad
 
+-- "T with the same four": ticket, address, words, and words to keep (02, ticket 13)
+abbrev pub cutOf : Quad → Request
+cutOf (quad.Four t a n k) = request.Cut (row t a n textParty) k
+cutOf quad.Bad = request.Bad
+
 -- every other line is bad, an empty one and a second P too
 unfoldable pub requestOf : Bytes → Request
 requestOf s =
-    cond (begins s 65) (askOf (valueOf (drop 2 s))) (cond (begins s 82) (giveOf (tripleOf (drop 2 s))) request.Bad)
+    cond (begins s 65) (askOf (valueOf (drop 2 s)))
+    (cond (begins s 82) (giveOf (tripleOf (drop 2 s)))
+    (cond (begins s 84) (cutOf (quadOf (drop 2 s))) request.Bad))
 
 -- ---- what a line does
 
@@ -107,7 +122,7 @@ twoNumbers pair.Bad t = threeNumbers t
 unfoldable pub firstLine : Bytes → Served Standing
 firstLine s = cond (begins s 80) (twoNumbers (pairOf (drop 2 s)) (tripleOf (drop 2 s))) badFirst
 
--- "Answers: K, ticket, address, words or N, number."
+-- "Answers: K, ticket, address, words or N, number."; of a trim "K, ticket, address, kept"
 unfoldable pub answerLine : Answer → Bytes
 answerLine x = cond (accepted x) (lineOf 75 (x .ticket ∷ x .address ∷ x .words ∷ [])) (refusalLine (x .number))
 

@@ -1,10 +1,10 @@
 // The text program's lines on a tree pool: a chunk of input bytes in, answer bytes out. It runs the pool's cores, not
 // its checked calls: the pool is its own, made by P and kept sound from chunk to chunk.
-use call_parts::Request;
 use calls::Answer;
 use ledger::Row;
 use text::Number;
 use text::Pair;
+use text::Quad;
 use text::Triple;
 use tree_check::Head;
 use tree_requests::Outcome;
@@ -14,16 +14,15 @@ ghost use mathlib.Core.List.{[]};
 ghost use Prim.Native.Nat.{_+_, _*_, _≤_, _<_};
 ghost use lib.ListN.{length, take};
 ghost use Rattle.calls.specs.Pool.{sound};
-ghost use Rattle.calls.specs.Step.{format, partied, step};
+ghost use Rattle.calls.specs.Step.{format, step};
 ghost use Rattle.calls.specs.Engines.{treeEngine};
-ghost use Rattle.call_parts.specs.Parts.{actOf};
 ghost use Rattle.call_parts.specs.Results.{resultOf, acted};
 ghost use Rattle.tree_check.specs.Gate.{treePool, noHead};
 ghost use Rattle.tree_requests.specs.Outcomes.{handed, formatted};
 ghost use Rattle.text.specs.Fields.{pairOf, tripleOf, Wrote};
 ghost use Rattle.text.specs.Lines.{feed, finish};
-ghost use Rattle.pool_text.specs.Meaning.{begins, askOf, giveOf, requestOf, opened, threeNumbers, twoNumbers};
-ghost use Rattle.pool_text.specs.Meaning.{textForm, firstLine, refusalLine, answerLine, serve};
+ghost use Rattle.pool_text.specs.Meaning.{begins, actOf, askOf, giveOf, cutOf, requestOf, opened};
+ghost use Rattle.pool_text.specs.Meaning.{threeNumbers, twoNumbers, textForm, firstLine, refusalLine, answerLine, serve};
 ghost use Rattle.pool_text.specs.Session.{begun, standingOf, Lent, Became, Going, ahead, landed, mostAnswer};
 
 // ---- what a line asks
@@ -42,11 +41,20 @@ fn begins(s: &[u8], letter: u8) -> bool
 // The party of the program's records.
 const PARTY: u32 = 1;
 
+// The request of a line: words, the record that a release names, or the one that a trim names with the words to keep. A
+// list's requests know no trim.
+pub enum Request {
+    Ask(u32),
+    Give(Row),
+    Cut(Row, u32),
+    Bad,
+}
+
 fn ask_of(n: Number) -> Request
     ensures { λ r. ⌜ r ≡ askOf n ⌝ }
 {
     match n {
-        Number::Value(words) => Request::Ask(PARTY, words),
+        Number::Value(words) => Request::Ask(words),
         Number::Bad => Request::Bad,
     }
 }
@@ -65,6 +73,23 @@ fn give_of(t: Triple) -> Request
     }
 }
 
+fn cut_of(q: Quad) -> Request
+    ensures { λ r. ⌜ r ≡ cutOf q ⌝ }
+{
+    match q {
+        Quad::Four(ticket, address, words, keep) => Request::Cut(
+            Row {
+                ticket,
+                address,
+                words,
+                party: PARTY,
+            },
+            keep,
+        ),
+        Quad::Bad => Request::Bad,
+    }
+}
+
 // The request of a line after P.
 fn request_of(s: &[u8]) -> Request
     ensures { λ r. ⌜ r ≡ requestOf (now (s .entry)) ⌝ }
@@ -75,6 +100,9 @@ fn request_of(s: &[u8]) -> Request
     }
     if begins(s, 82) {
         return give_of(text::read_triple(&s[two..]));
+    }
+    if begins(s, 84) {
+        return cut_of(text::read_quad(&s[two..]));
     }
     Request::Bad
 }
@@ -243,6 +271,30 @@ fn serve_first(line: &[u8], arena: &mut [u32], table: &mut [u32], out: &mut [u8]
     open_two(&line[two..], arena, table, out, at)
 }
 
+// A request on a sound pool.
+fn act(head: Head, arena: &mut [u32], table: &mut [u32], request: Request) -> Outcome
+    requires { ⌜ sound treeEngine (treePool head (now arena) (now table)) ≡ true ⌝ }
+    ensures { λ r. ⌜ handed r (now (arena .exit)) (now (table .exit)) []
+        ≡ acted treeEngine (actOf request) (treePool head (now (arena .entry)) (now (table .entry))) ⌝ }
+{
+    match request {
+        Request::Ask(words) => {
+            let done = tree_requests::grant(head, arena, table, PARTY, words);
+            tree_requests::outcome_of_grant(head, words, done)
+        }
+        Request::Give(named) => {
+            let done = tree_requests::vacate(head, arena, table, named);
+            tree_requests::outcome_of_release(head, named, done)
+        }
+        Request::Cut(named, keep) => {
+            let done = tree_requests::trim(head, arena, table, named, keep);
+            let kept = call_parts::shortened(named, keep);
+            tree_requests::outcome_of_release(head, kept, done)
+        }
+        Request::Bad => tree_requests::refused_with(head, 9),
+    }
+}
+
 // A request on the pool in the first n words of the arena and the first t words of the table.
 fn serve_front(
     head: Head,
@@ -253,13 +305,12 @@ fn serve_front(
     request: Request,
 ) -> Outcome
     requires { ⌜ (n ≤ length (now arena)) × (t ≤ length (now table)) ⌝ }
-    requires { ⌜ (sound treeEngine (treePool head (take n (now arena)) (take t (now table))) ≡ true)
-        × (partied (actOf request) ≡ true) ⌝ }
+    requires { ⌜ sound treeEngine (treePool head (take n (now arena)) (take t (now table))) ≡ true ⌝ }
     ensures { λ r. ⌜ handed r (take n (now (arena .exit))) (take t (now (table .exit))) []
         ≡ acted treeEngine (actOf request) (treePool head (take n (now (arena .entry))) (take t (now (table .entry)))) ⌝ }
 {
     let start = 0;
-    tree_requests::serve(head, &mut arena[start..n], &mut table[start..t], request)
+    act(head, &mut arena[start..n], &mut table[start..t], request)
 }
 
 // A line after P.

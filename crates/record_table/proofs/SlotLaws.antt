@@ -18,7 +18,7 @@ use Rattle.words.proofs.CountedLaws.{lowest-end}
 use Rattle.ledger.specs.declared.Row.{Row}
 use Rattle.ledger.specs.declared.Rule.{Rule}
 use Rattle.ledger.specs.Records.{Ledger, emptyRow, recordAt, recordsOf, slots, hasTicket, recordOf, full, enter, isEmpty}
-use Rattle.ledger.specs.Records.{vacate, member, settle}
+use Rattle.ledger.specs.Records.{Plan, carryOut, member, settle}
 use Rattle.ledger.specs.Units.{valid}
 use Rattle.ledger.proofs.RecordLaws.{length-records, record-at, has-ticket, record-ticket}
 use Rattle.ledger.proofs.RecordLaws.{settle-slot, enter-slot, full-none}
@@ -196,15 +196,16 @@ module _ (k : ℕ) (t : Words) where
       let n = lowest-none (ticketAt k L) 0 (length L) (found-nothing (lowest (ticketAt k L) 0 (length L)) e) in
       first-nowhere (hasTicket k) L (λ i h. n i (omega arith) (omega arith))
 
-  -- to vacate a ticket of a valid ledger is to empty the slot that the search finds
-  pub ticket-settle : (ρ : Rule) (W next : ℕ) → valid ρ W next (recordsOf t) ≡ true
+  -- to carry out a ticket's plan in a valid ledger is to do it in the slot that the search finds
+  pub ticket-settle : (q : Plan) (ρ : Rule) (W next : ℕ) → valid ρ W next (recordsOf t) ≡ true
       → (i : ℕ) → ticketSlot k (recordsOf t) ≡ At i
-      → settle (member k vacate ∷ []) (recordsOf t) ≡ set (recordsOf t) i emptyRow
-  ticket-settle ρ W next good i e =
+      → settle (member k q ∷ []) (recordsOf t) ≡ set (recordsOf t) i (carryOut q (recordAt t i))
+  ticket-settle q ρ W next good i e =
       let (h, held) = ticket-found i e in
       let (live, same) = record-ticket k (recordsOf t) (recordAt t i) held in
-      settle-slot ρ (recordsOf t) i k (valid-apart ρ W next (recordsOf t) good) (omega (arith, length-records t)) live
+      settle-slot ρ (recordsOf t) i k q (valid-apart ρ W next (recordsOf t) good) (omega (arith, length-records t)) live
       (ap (λ (r : Row). r .ticket) (record-at t i h) ∙ same)
+      ∙ ap (λ (r : Row). set (recordsOf t) i (carryOut q r)) (record-at t i h)
 
 -- ---- the lowest empty slot
 

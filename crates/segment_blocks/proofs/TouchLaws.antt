@@ -1,6 +1,6 @@
 -- The index follows a change of three control words: its segments are brought up to date one after another.
 -- Assumes nothing.
-use Prim.Native.Nat.{ℕ, _+_, _*_, _/_, _<_, _≤_}
+use Prim.Native.Nat.{ℕ, _+_, _*_, _/_, _<_, _≤_, min}
 use native.Mathlib.Decide.{decLt, ℕ-discrete}
 use native.Mathlib.Omega.{arith}
 use mathlib.Core.Bool.{Bool, true, false, not, _&&_, true≢false, and-self}
@@ -8,16 +8,16 @@ use mathlib.Core.List.{List}
 use mathlib.Core.Logic.{_≢_, _⊎_, inl, inr}
 use mathlib.Core.Path.{_≡_, refl, sym, ap, subst, _∙_}
 use lib.Dec.{eqb, ltb}
-use lib.IntN.{ℤ, natAbs}
+use lib.IntN.{ℤ}
 use lib.ListN.{length, getD}
 use Rattle.words.specs.Lists.{Words}
 use Rattle.words.proofs.Tests.{and-l, and-r, not-true, not-false, eqb-eq, eqb-same, eqb-ne, eqb-false, lt-of}
 use Rattle.words.proofs.Tests.{of-lt}
-use Rattle.stored_forms.specs.Segments.{firstBlock, segmentSize}
+use Rattle.stored_forms.specs.Segments.{weight, firstBlock, segmentSize}
 use Rattle.segment_index.specs.Index.{indexOf, Agree}
 use Rattle.segment_index.specs.Tree.{Heap}
 use Rattle.segment_index.proofs.IndexLaws.{length-indexOf, index-zero, index-heap, index-agrees, index-is, agree-moves}
-use Rattle.segment_index.proofs.RangeLaws.{FirstIn, first-found}
+use Rattle.segment_index.proofs.RangeLaws.{first-found, first-either}
 use Rattle.segment_index.proofs.SizeLaws.{segment-low, segment-high, segment-is, segment-in, segment-below}
 use Rattle.segment_blocks.specs.Upkeep.{Ready, Refreshed, RefreshedIf, Touched}
 use Rattle.segment_blocks.proofs.UpkeepLaws.{sizes-some, sizes-each, not-refreshed, is-refreshed}
@@ -84,47 +84,43 @@ module _ {b c : ℕ → ℤ} {v : List ℤ} {t : Words} {s g a p e end y : ℕ} 
   pub was-long : length t ≡ 3 * s
   was-long = rw (X .was) (length-indexOf b W s)
 
-  -- ---- the segment of a is scanned from its first block, which is the same before and after
+  -- ---- the segment of a is scanned from its first block: the one it had, or the one at a
 
   module _ {ka : ℕ} (ia : ka ≡ a / g) where
     pub a-segment : ka < s
     a-segment = segment a ka ia a-in
 
-    from : ℕ
-    from = getD t (2 * s + ka) 0
+    low : ka * g ≤ a
+    low = rw ia (segment-low a g)
 
-    found : (from ≤ a) × FirstIn b (ka * g) g from
-    unfolding from
-    found =
-        let f : getD t (2 * s + ka) 0 ≡ firstBlock b W (ka * g) g =
+    high : a < ka * g + g
+    high = rw ia (segment-high a g each-pos)
+
+    now-first : min (getD t (2 * s + ka) 0) a ≡ firstBlock c W (ka * g) g
+    now-first =
+        let was : getD t (2 * s + ka) 0 ≡ firstBlock b W (ka * g) g =
         ap (λ (t : Words). getD t (2 * s + ka) 0) (X .was) ∙ index-agrees b W s ka a-segment .first
         ∙ rw (X .sizes .each) in
-        rw f (first-found b W (ka * g) g a (rw ia (segment-low a g)) (rw ia (segment-high a g each-pos)) (X .before))
+        rw was
+        (first-either b c W (ka * g) g a low high (omega (arith, a-in)) (X .after)
+        (λ u x y.
+        X .same u (omega arith) (omega (arith, X .low)) (λ i. absurd (omega (arith, X .low, X .mid)))))
 
-    below : (u : ℕ) → u < a → c u ≡ b u
-    below u h = X .same u (omega arith) (omega (arith, X .low)) (λ i. absurd (omega (arith, X .low, X .mid)))
-
-    pub ready-a : Ready v c t s g ka (getD t (2 * s + ka) 0)
-    unfolding from
-    ready-a = record {
-      facing = record {
-        sizes = X .sizes;
-        is = a-segment;
-        low = omega (arith, found .1 .low);
-        scan = record {
-          blocks = X .blocks;
-          inside = omega (arith, found .0, a-in);
-          begins = λ h. go (ℕ-discrete from a);
-        };
-        quiet = λ u h i. below u (omega (arith, found .0)) ∙ found .1 .quiet u h i;
-      };
-      heap = was-heap;
-      long = was-long;
-    }
-      where
-        go : Dec (from ≡ a) → 0 < natAbs (c from)
-        go (yes i) = rw i (X .after)
-        go (no i) = rw (below from (omega (arith, found .0))) (found .1 .begins)
+    pub ready-a : Ready v c t s g ka (min (getD t (2 * s + ka) 0) a)
+    ready-a =
+        let (l, r) = first-found c W (ka * g) g a low high (X .after) in
+        rw now-first
+        (record {
+          facing = record {
+            sizes = X .sizes;
+            is = a-segment;
+            low = omega (arith, r .low);
+            scan = record { blocks = X .blocks; inside = omega (arith, l, a-in); begins = λ h. r .begins };
+            quiet = r .quiet;
+          };
+          heap = was-heap;
+          long = was-long;
+        })
 
   -- ---- the three segments
 
@@ -140,7 +136,7 @@ module _ {b c : ℕ → ℤ} {v : List ℤ} {t : Words} {s g a p e end y : ℕ} 
     D k = (k ≡ ka) ⊎ ((k ≡ kp) ⊎ ((k ≡ ke) × (0 < y)))
 
     untouched : (k : ℕ) → (D k → ⊥) → (u : ℕ) → k * segmentSize W s ≤ u → u < k * segmentSize W s + segmentSize W s
-        → b u ≡ c u
+        → weight (b u) ≡ weight (c u)
     untouched k n u h i =
         sym
         (X .same u (λ j. n (inl (at j ∙ sym ia))) (λ j. n (inr (inl (at j ∙ sym ip)))) (λ j. none j (decLt 0 y)))

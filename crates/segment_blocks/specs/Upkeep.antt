@@ -8,7 +8,7 @@ use lib.Dec.{ltb}
 use lib.IntN.{ℤ, pos, natAbs}
 use lib.ListN.{length, getD}
 use Rattle.words.specs.Lists.{Words}
-use Rattle.stored_forms.specs.Segments.{segmentSize, isPower, depth, mostWords}
+use Rattle.stored_forms.specs.Segments.{weight, segmentSize, isPower, depth, mostWords}
 use Rattle.segment_index.specs.Index.{indexOf, Agree}
 use Rattle.segment_index.specs.Tree.{Heap}
 use Rattle.segment_blocks.specs.Blocks.{Blocks, Scan}
@@ -61,14 +61,13 @@ pub record RefreshedIf (on : Bool) (c : ℕ → ℤ) (W s k : ℕ) (t u : Words)
 abbrev pub firstFrom : ℕ → ℕ → ℕ → ℕ
 firstFrom from hi W = cond (ltb from hi) from W
 
--- The control words b have become c, and t is still the index of b. At most three words differ: those at a, at p, and
--- at e unless y is 0. A block begins at a before and after, and none of c's between a and `end`.
+-- The control words b have become c, and t is still the index of b. At most three weights differ: those at a, at p, and
+-- at e unless y is 0. A block of c's begins at a, and none between a and `end`.
 pub record Touched (b c : ℕ → ℤ) (v : List ℤ) (t : Words) (s g a p e end y : ℕ) : Type 0 where
   pub sizes : Sizes (length v) s g
   pub was : t ≡ indexOf b (length v) s
   pub blocks : Blocks v c
-  pub same : (u : ℕ) → u ≢ a → u ≢ p → (u ≡ e → y ≡ 0) → c u ≡ b u
-  pub before : 0 < natAbs (b a)
+  pub same : (u : ℕ) → u ≢ a → u ≢ p → (u ≡ e → y ≡ 0) → weight (c u) ≡ weight (b u)
   pub after : 0 < natAbs (c a)
   pub low : a ≤ p
   pub mid : p < e

@@ -127,8 +127,9 @@ fn refresh_if(on: bool, v: &[i32], t: &mut [u32], segments: Segments, k: usize, 
     refresh_segment(v, t, segments, k, from);
 }
 
-// The index follows a release, which changes at most three control words: at a and p, and at e if the y words there
-// were free. The merged block begins at a, and no other before `end`. A segment that holds two of them is scanned once.
+// The index follows a release or a trim, which changes the weights of at most three control words: at a and p, and at e
+// if the y words there were free. The merged block begins at a, and no other before `end`. A segment that holds two of
+// them is scanned once; that of a from its first block, which may be the one at a.
 pub fn reindex(
     v: &[i32],
     t: &mut [u32],
@@ -152,7 +153,7 @@ pub fn reindex(
     let ka = segment_of(a, g);
     let kp = segment_of(p, g);
     let ke = segment_of(e, g);
-    let from = index_word(t, 2 * s + ka);
+    let from = lesser(index_word(t, 2 * s + ka), a);
     refresh_segment(v, t, segments, ka, from);
     refresh_if(kp != ka, v, t, segments, kp, end);
     refresh_if((0 < y) & ((ke != ka) & (ke != kp)), v, t, segments, ke, end);
@@ -172,7 +173,7 @@ pub fn reindex_grant(v: &[i32], t: &mut [u32], segments: Segments, p: usize, e: 
     let s = segments.count;
     let g = segments.size;
     let kp = segment_of(p, g);
-    let from = index_word(t, 2 * s + kp);
+    let from = lesser(index_word(t, 2 * s + kp), p);
     refresh_segment(v, t, segments, kp, from);
     let ke = segment_of(e, g);
     refresh_if((0 < y) & (ke != kp), v, t, segments, ke, e);

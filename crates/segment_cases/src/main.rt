@@ -8,7 +8,7 @@
 //   head N             next ticket
 //   party C            the party of the calls that follow
 //   format F           with first ticket F, or 1 if there is no number
-//   allocate N         release T A W      find T A W      look T A W
+//   allocate N         release T A W      find T A W      look T A W      trim T A W K
 //   list N K V..       a list of N words, V over and over, with K words for its answers, which start as sevens
 //   copy N T V..       an old table of N words, V over and over, copied into the first T words of the table
 use ledger::Row;
@@ -182,6 +182,21 @@ fn run_release(
     show_outcome(outcome, arena, table, index)
 }
 
+// The fourth given number is the words to keep.
+fn run_trim(
+    head: Head,
+    s: u32,
+    arena: &mut [i32],
+    table: &mut [u32],
+    index: &mut [u32],
+    party: u32,
+    given: &[u32],
+) -> Head {
+    let named = row(given, party);
+    let outcome = segment_pool::trim(head, s, arena, table, index, named, word(given, 3));
+    show_outcome(outcome, arena, table, index)
+}
+
 fn run_find(head: Head, s: u32, arena: &[i32], table: &[u32], index: &[u32], named: Row) -> Head {
     let answer = segment_pool::find(head, s, arena, table, index, named);
     show_answer(answer);
@@ -243,6 +258,9 @@ fn serve(
     }
     if is(line, b'r', b'e') {
         return run_release(head, s, arena, table, index, row(given, party));
+    }
+    if is(line, b't', b'r') {
+        return run_trim(head, s, arena, table, index, party, given);
     }
     if is(line, b'f', b'i') {
         return run_find(head, s, arena, table, index, row(given, party));

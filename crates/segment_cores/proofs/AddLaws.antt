@@ -1,5 +1,5 @@
--- A grant adds a block to the readings of a ledger, and a release takes one away. Assumes nothing.
-use Prim.Native.Nat.{ℕ, zero, suc, _+_, _<_, _≤_}
+-- A grant adds a block to the readings of a ledger, a release takes one away, and a trim cuts one. Assumes nothing.
+use Prim.Native.Nat.{ℕ, zero, suc, _+_, _-_, _<_, _≤_}
 use native.Mathlib.Nat.{one-mul}
 use native.Mathlib.Omega.{arith}
 use mathlib.Core.Bool.{Bool, true, false, cond, not, _&&_, _||_, true≢false, and-true, and-false, or-false, or-true}
@@ -7,20 +7,24 @@ use mathlib.Core.List.{[], _∷_}
 use mathlib.Core.Logic.{_≢_}
 use mathlib.Core.Option.{some}
 use mathlib.Core.Path.{_≡_, refl, sym, ap, _∙_}
-use lib.Dec.{eqb}
+use lib.Dec.{eqb, leb}
 use lib.ListN.{length, getD, set}
 use Rattle.words.proofs.CountedLaws.{every-at}
-use Rattle.words.proofs.Tests.{eqb-ne, eqb-same, false-of}
-use Rattle.ledger.specs.Records.{Ledger, row, emptyRow, isEmpty, isLive, recordOf, full, enter, vacate, member, settle}
+use Rattle.words.specs.Counted.{within}
+use Rattle.words.proofs.Tests.{and-l, eqb-ne, eqb-same, false-of, le-of, within-in, within-of}
+use Rattle.ledger.specs.Records.{Ledger, row, emptyRow, isEmpty, isLive, recordOf, full, enter}
+use Rattle.ledger.specs.Records.{Plan, vacate, keep, keepable, shortened, carryOut, feasible, member, settle}
 use Rattle.ledger.specs.Units.{span, addressAt, first, past, valid, covers, free, lowestFit}
+use Rattle.ledger.specs.Units.{keptUnits, tailUnits}
 use Rattle.ledger.specs.declared.Row.{Row}
 use Rattle.ledger.proofs.FitLaws.{fit-lowest}
-use Rattle.ledger.proofs.RecordLaws.{record-slot, record-ticket, settle-slot}
+use Rattle.ledger.proofs.RecordLaws.{record-slot, record-ticket, record-settled, settle-slot}
+use Rattle.ledger.proofs.RunLaws.{freed-tail}
 use Rattle.ledger.proofs.UnitLaws.{Fitted, valid-record, valid-apart, span-pos, first-new, past-new, covers-in}
-use Rattle.ledger.proofs.UnitLaws.{covers-of, free-not, free-settle, free-enter}
+use Rattle.ledger.proofs.UnitLaws.{covers-of, free-not, free-settle, free-enter, valid-settle}
 use Rattle.stored_forms.specs.Segments.{segmentRule, startsAt}
 use Rattle.stored_forms.proofs.SegmentLaws.{starts-held}
-use Rattle.segment_cores.specs.Views.{Adds}
+use Rattle.segment_cores.specs.Views.{Adds, Cuts}
 use Rattle.segment_cores.proofs.ViewLaws.{free-nowhere}
 
 -- a record begins at unit u
@@ -111,63 +115,121 @@ module _ (W next : ℕ) (L : Ledger) (good : valid segmentRule W next L ≡ true
         starts-other new L u (rw (new-first, eqb-ne k u (λ e. d (sym e))) (and-false (isLive new)));
   }
 
--- ---- a release
+-- ---- a release and a trim
 
-starts-without : (L : Ledger) (i u : ℕ) → begins u (getD L i emptyRow) ≡ false
-    → startsAt (set L i emptyRow) u ≡ startsAt L u
-starts-without [] i u h = refl
-starts-without (r ∷ L) zero u h = sym (ap (sizeOr r (startsAt L u)) h)
-starts-without (r ∷ L) (suc i) u h = ap (λ n. sizeOr r n (begins u r)) (starts-without L i u h)
+-- a record is exchanged for one that begins at no other unit
+starts-changed : (L : Ledger) (i : ℕ) (s : Row) (u : ℕ) → begins u (getD L i emptyRow) ≡ false → begins u s ≡ false
+    → startsAt (set L i s) u ≡ startsAt L u
+starts-changed [] i s u h l = refl
+starts-changed (r ∷ L) zero s u h l = ap (sizeOr s (startsAt L u)) l ∙ sym (ap (sizeOr r (startsAt L u)) h)
+starts-changed (r ∷ L) (suc i) s u h l = ap (λ n. sizeOr r n (begins u r)) (starts-changed L i s u h l)
 
--- the record of a ticket is emptied
-module _ (W next : ℕ) (L : Ledger) (good : valid segmentRule W next L ≡ true) (t : ℕ) (r : Row)
-    (live : recordOf t L ≡ some r) where
+-- a plan is carried out that feasible the record of its ticket
+module _ (W next : ℕ) (L : Ledger) (good : valid segmentRule W next L ≡ true) (t : ℕ) (q : Plan) (r : Row)
+    (live : recordOf t L ≡ some r) (suit : feasible q r ≡ true) where
   abbrev gone : Ledger
-  gone = settle (member t vacate ∷ []) L
+  gone = settle (member t q ∷ []) L
 
   abbrev p : ℕ
   p = first segmentRule r
+
+  abbrev a : ℕ
+  a = p + keptUnits segmentRule q
+
+  abbrev e : ℕ
+  e = a + tailUnits segmentRule q r
+
+  facts : Fitted segmentRule W next r
+  facts = valid-record segmentRule (omega arith) W next L good t r live
+
+  tail : (u : ℕ) → free segmentRule gone u ≡ (free segmentRule L u || within a e u)
+  tail u =
+      free-settle segmentRule (omega arith) W next L good t q r live u
+      ∙ ap (λ x. free segmentRule L u || x) (freed-tail segmentRule (omega arith) q r suit (facts .ticket) u)
+
+  in-tail : (u : ℕ) → a ≤ u → u < e → free segmentRule gone u ≡ true
+  in-tail u h l =
+      tail u ∙ ap (λ x. free segmentRule L u || x) (within-in a e u h l) ∙ or-true (free segmentRule L u)
+
+  out-of-tail : (u : ℕ) → (a ≤ u → u < e → ⊥) → free segmentRule gone u ≡ free segmentRule L u
+  out-of-tail u h =
+      let c = false-of (within a e u) (λ x. let (l, m) = within-of a e u x in h l m) in
+      tail u ∙ ap (λ x. free segmentRule L u || x) c ∙ or-false (free segmentRule L u)
 
   units : past segmentRule r ≡ p + span segmentRule (r .words)
   unfolding past
   units = refl
 
+  block-inside : p + span segmentRule (r .words) ≤ W
+  block-inside = let inside = facts .inside in omega (arith, units, one-mul (past segmentRule r))
+
   in-block : (u : ℕ) → p ≤ u → u < p + span segmentRule (r .words) → covers segmentRule u r ≡ true
-  in-block u a b =
-      covers-in segmentRule u r (valid-record segmentRule (omega arith) W next L good t r live .live) a
-      (omega (arith, units))
+  in-block u h l = covers-in segmentRule u r (facts .live) h (omega (arith, units))
 
-  out-of-block : (u : ℕ) → (p ≤ u → u < p + span segmentRule (r .words) → ⊥)
-      → free segmentRule L u ≡ free segmentRule gone u
-  out-of-block u h =
-      let c = false-of (covers segmentRule u r) (λ x.
-      let (l, a, b) = covers-of segmentRule u r x in h a (omega (arith, units))) in
-      sym (free-settle segmentRule W next L good t r live u ∙ ap (λ x. free segmentRule L u || x) c
-      ∙ or-false (free segmentRule L u))
+  block-head : startsAt L p ≡ span segmentRule (r .words)
+  block-head = starts-held W next L good r (ap (λ (s : ℕ). recordOf s L) (record-ticket t L r live .1) ∙ live)
 
-  emptied : (u : ℕ) → u ≢ p → startsAt L u ≡ startsAt gone u
-  emptied u d =
-      let (i, l, q) = record-slot t L r live in
-      let (z, e) = record-ticket t L r live in
+  moved : (s : Row) → carryOut q r ≡ s → (u : ℕ) → u ≢ p → begins u s ≡ false → startsAt gone u ≡ startsAt L u
+  moved s is u d h =
+      let (i, l, c) = record-slot t L r live in
+      let (z, same) = record-ticket t L r live in
       let slot =
-      settle-slot segmentRule L i t (valid-apart segmentRule W next L good) l z (ap (λ (s : Row). s .ticket) q ∙ e) in
+      settle-slot segmentRule L i t q (valid-apart segmentRule W next L good) l z (ap (λ (s : Row). s .ticket) c ∙ same) in
       let other : begins u (getD L i emptyRow) ≡ false =
-      ap (begins u) q ∙ rw (eqb-ne p u (λ j. d (sym j))) (and-false (isLive r)) in
-      sym (ap (λ (M : Ledger). startsAt M u) slot ∙ starts-without L i u other)
+      ap (begins u) c ∙ rw (eqb-ne p u (λ j. d (sym j))) (and-false (isLive r)) in
+      ap (λ (M : Ledger). startsAt M u)
+      (slot ∙ ap (λ (v : Row). set L i (carryOut q v)) c ∙ ap (λ (v : Row). set L i v) is)
+      ∙ starts-changed L i s u other h
 
+module _ (W next : ℕ) (L : Ledger) (good : valid segmentRule W next L ≡ true) (t : ℕ) (r : Row)
+    (live : recordOf t L ≡ some r) where
   pub release-adds : Adds (settle (member t vacate ∷ []) L) L W (first segmentRule r) (span segmentRule (r .words))
   release-adds = record {
-    some = span-pos segmentRule (omega arith) (r .words) (facts .asked);
-    inside = let inside = facts .inside in omega (arith, units, one-mul (past segmentRule r));
-    gap = λ u a b.
-        free-settle segmentRule W next L good t r live u ∙ ap (λ x. free segmentRule L u || x) (in-block u a b)
-        ∙ or-true (free segmentRule L u);
-    held = λ u a b. free-not segmentRule t L r live u (in-block u a b);
-    below = λ u a. out-of-block u (λ x y. omega arith);
-    above = λ u a. out-of-block u (λ x y. omega arith);
-    head = starts-held W next L good r (ap (λ (s : ℕ). recordOf s L) (record-ticket t L r live .1) ∙ live);
-    heads = emptied;
+    some = span-pos segmentRule (omega arith) (r .words) (facts W next L good t vacate r live refl .asked);
+    inside = block-inside W next L good t vacate r live refl;
+    gap = λ u a b. in-tail W next L good t vacate r live refl u (omega arith) (omega arith);
+    held = λ u a b. free-not segmentRule t L r live u (in-block W next L good t vacate r live refl u a b);
+    below = λ u a. sym (out-of-tail W next L good t vacate r live refl u (λ x y. omega arith));
+    above = λ u a. sym (out-of-tail W next L good t vacate r live refl u (λ x y. omega arith));
+    head = block-head W next L good t vacate r live refl;
+    heads = λ u d. sym (moved W next L good t vacate r live refl emptyRow refl u d refl);
   }
-    where
-      facts : Fitted segmentRule W next r
-      facts = valid-record segmentRule (omega arith) W next L good t r live
+
+  -- n words are kept, and some units are not
+  module _ (n : ℕ) (suit : keepable n r ≡ true) (less : span segmentRule n < span segmentRule (r .words)) where
+    abbrev short : Row
+    short = shortened n r
+
+    is-short : carryOut (keep n) r ≡ short
+    is-short = rw suit
+
+    same-first : first segmentRule short ≡ first segmentRule r
+    unfolding first
+    same-first = refl
+
+    cut-head : startsAt (settle (member t (keep n) ∷ []) L) (first segmentRule r) ≡ span segmentRule n
+    cut-head =
+        let M = settle (member t (keep n) ∷ []) L in
+        let same = record-ticket t L r live .1 in
+        let now : recordOf t M ≡ some short =
+        record-settled t (member t (keep n) ∷ []) L
+        ∙ rw (eqb-same t, live) (ap (λ (s : Row). some s) is-short) in
+        ap (startsAt M) (sym same-first)
+        ∙ starts-held W next M (valid-settle segmentRule (omega arith) W next (member t (keep n) ∷ []) L good) short
+        (ap (λ (s : ℕ). recordOf s M) same ∙ now)
+
+    pub trim-cuts : Cuts L (settle (member t (keep n) ∷ []) L) W (first segmentRule r) (span segmentRule n)
+        (span segmentRule (r .words) - span segmentRule n)
+    trim-cuts = record {
+      some = span-pos segmentRule (omega arith) n (le-of 1 n (and-l (leb 1 n) (leb n (r .words)) suit));
+      more = omega arith;
+      inside = omega (arith, block-inside W next L good t (keep n) r live suit);
+      block = omega (arith, block-head W next L good t (keep n) r live suit);
+      freed = λ u a b. in-tail W next L good t (keep n) r live suit u a b;
+      below = λ u a. out-of-tail W next L good t (keep n) r live suit u (λ x y. omega arith);
+      above = λ u a. out-of-tail W next L good t (keep n) r live suit u (λ x y. omega arith);
+      head = cut-head;
+      heads = λ u d.
+          moved W next L good t (keep n) r live suit short is-short u d
+          (rw (same-first, eqb-ne (first segmentRule r) u (λ j. d (sym j))) (and-false (isLive short)));
+    }

@@ -1,6 +1,6 @@
--- What a call has to show before it grants or releases, from the sound pool and the facts that it checked. Assumes
+-- What a call has to show before it grants, releases or trims, from the sound pool and the facts that it checked. Assumes
 -- nothing.
-use Prim.Native.Nat.{ℕ, _≤_, _^_}
+use Prim.Native.Nat.{ℕ, _-_, _≤_, _<_, _^_}
 use native.Mathlib.Nat.{div-one}
 use native.Mathlib.Omega.{arith}
 use mathlib.Core.Bool.{true, false, _||_}
@@ -12,14 +12,15 @@ use lib.Dec.{eqb, ltb}
 use lib.IntN.{ℤ}
 use lib.ListN.{length}
 use Rattle.words.specs.Lists.{Words}
-use Rattle.ledger.specs.Records.{Ledger, row, isParty, recordOf, full, enter, vacate, member, settle}
+use Rattle.ledger.specs.Records.{Ledger, isParty, row, recordOf, full, enter, vacate, keep}
+use Rattle.ledger.specs.Records.{keepable, member, settle}
 use Rattle.ledger.specs.Units.{span, addressAt, first, free, lowestFit}
 use Rattle.ledger.specs.declared.Row.{Row}
 use Rattle.ledger.proofs.FitLaws.{fit-lowest}
 use Rattle.ledger.proofs.UnitLaws.{valid-enter, valid-settle}
 use Rattle.stored_forms.specs.Segments.{segmentRule, startsAt, depth}
-use Rattle.segment_cores.specs.Stores.{Sound, Granting, Releasing}
-use Rattle.segment_cores.proofs.AddLaws.{grant-adds, release-adds}
+use Rattle.segment_cores.specs.Stores.{Sound, Granting, Releasing, Trimming}
+use Rattle.segment_cores.proofs.AddLaws.{grant-adds, release-adds, trim-cuts}
 use Rattle.segment_cores.proofs.ChangeLaws.{sound-whole}
 use Rattle.segment_cores.proofs.FitWords.{fit-opens}
 use Rattle.segment_cores.proofs.UnitLaws.{span-words}
@@ -51,6 +52,18 @@ module _ (L : Ledger) (v : List ℤ) (t : Words) (s g : ℕ) (S : Sound L v t s 
     power = power;
     few = few;
     next = S .next;
-    good = valid-settle segmentRule (length v) (S .next) (member ticket vacate ∷ []) L (S .good);
+    good = valid-settle segmentRule (omega arith) (length v) (S .next) (member ticket vacate ∷ []) L (S .good);
     adds = release-adds (length v) (S .next) L (S .good) ticket r live;
+  }
+
+  -- and some of its units are given back
+  pub trimming : (ticket n : ℕ) (r : Row) → recordOf ticket L ≡ some r → keepable n r ≡ true
+      → span segmentRule n < span segmentRule (r .words)
+      → Trimming L (settle (member ticket (keep n) ∷ []) L) v t s g (first segmentRule r) (span segmentRule n)
+      (span segmentRule (r .words) - span segmentRule n)
+  trimming ticket n r live suit less = record {
+    sound = S;
+    next = S .next;
+    good = valid-settle segmentRule (omega arith) (length v) (S .next) (member ticket (keep n) ∷ []) L (S .good);
+    cuts = trim-cuts (length v) (S .next) L (S .good) ticket r live n suit less;
   }

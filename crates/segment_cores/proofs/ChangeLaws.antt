@@ -1,31 +1,34 @@
--- A grant and a release on a sound pool: the control words that they touch, and the stored form that they leave.
+-- A grant, a release and a trim on a sound pool: the control words that they touch, and the stored form that they leave.
 -- Assumes nothing.
-use Prim.Native.Nat.{ℕ, _+_, _-_, _<_, _≤_}
-use native.Mathlib.Decide.{decLt}
+use Prim.Native.Nat.{ℕ, zero, suc, _+_, _-_, _<_, _≤_}
+use native.Mathlib.Decide.{decLt, ℕ-discrete}
 use native.Mathlib.Omega.{arith}
 use mathlib.Core.Bool.{Bool, true, false}
 use mathlib.Core.List.{List}
+use mathlib.Core.Logic.{_≢_}
 use mathlib.Core.Path.{_≡_, refl, sym, ap, _∙_}
-use lib.IntN.{ℤ, pos, natAbs}
-use lib.ListN.{length, getD}
+use lib.IntN.{ℤ, pos, negℤ, natAbs}
+use lib.ListN.{length, getD, set}
 use Rattle.words.specs.Lists.{Words}
 use Rattle.words.specs.Places.{stamp, wiped}
 use Rattle.words.proofs.PlaceLaws.{length-stamp, stamp-same, stamp-sets, length-wiped}
 use Rattle.ledger.specs.Records.{Ledger}
 use Rattle.ledger.specs.Units.{valid, free, owned}
-use Rattle.stored_forms.specs.Segments.{segmentRule, controlWord, segmentIndex, startsAt}
+use Rattle.stored_forms.specs.Segments.{segmentRule, controlWord, segmentIndex, startsAt, weight}
 use Rattle.segment_index.proofs.SignLaws.{abs-neg}
 use Rattle.segment_index.specs.Index.{indexOf}
 use Rattle.segment_blocks.specs.Blocks.{Blocks}
 use Rattle.segment_blocks.specs.Upkeep.{Touched}
-use Rattle.segment_cores.specs.Stores.{arenaOf, Sound, Granting, Releasing, Becomes, granted, merged}
+use Rattle.segment_cores.specs.Stores.{arenaOf, Sound, Granting, Releasing, Trimming, Becomes, granted}
+use Rattle.segment_cores.specs.Stores.{merged, trimmed}
 use Rattle.segment_cores.specs.Views.{word, ownedBy, Whole, RunOf, Rest}
+use Rattle.segment_cores.proofs.CutLaws.{parted, cut-placed, same-control, trims}
 use Rattle.segment_cores.proofs.PlaceLaws.{Placed, placed}
 use Rattle.segment_cores.proofs.StoreLaws.{released, grants}
 use Rattle.segment_cores.proofs.ViewLaws.{ledger-whole, ledger-owned, control-word}
 use Rattle.segment_cores.proofs.WholeLaws.{Kind, held, free as free-kind, none, kind, whole-blocks}
 use Rattle.segment_cores.proofs.WholeLaws.{begins-free}
-use Rattle.segment_cores.proofs.WordLaws.{clash}
+use Rattle.segment_cores.proofs.WordLaws.{clash, word-held}
 
 -- the readings of a ledger
 abbrev pub controls : Ledger → ℕ → ℕ → ℤ
@@ -179,8 +182,7 @@ module _ (L L′ : Ledger) (v : List ℤ) (t : Words) (s g p n : ℕ) (G : Grant
         sizes = rw long (G .sound .sizes);
         was = rw long (sound-index L v t s g (G .sound));
         blocks = blocks;
-        same = λ u i j k. D .same u i j k;
-        before = rw (D .run) (omega (arith, G .adds .some));
+        same = λ u i j k. ap weight (D .same u i j k);
         after = omega (arith, block-size, G .adds .some);
         low = omega arith;
         mid = omega (arith, G .adds .some);
@@ -231,7 +233,7 @@ module _ (L L′ : Ledger) (v : List ℤ) (t : Words) (s d g p n : ℕ) (F : Rel
         stores
         ∙ released (free segmentRule L′) (startsAt L′) (free segmentRule L) (startsAt L) v N M p n (F .adds) a x y
         low right
-        (sound-word L v t s g (F .sound))
+        (λ u l h o. sound-word L v t s g (F .sound) u l o)
         ∙ sym (arena-view (F .next) L′ v (F .good) v refl)
 
     now-long : length v′ ≡ U
@@ -245,8 +247,7 @@ module _ (L L′ : Ledger) (v : List ℤ) (t : Words) (s d g p n : ℕ) (F : Rel
       sizes = rw now-long (F .sound .sizes);
       was = rw now-long (sound-index L v t s g (F .sound));
       blocks = now-blocks;
-      same = λ u i j k. sym (R .same u i j k);
-      before = was-begun (decLt 0 x);
+      same = λ u i j k. ap weight (sym (R .same u i j k));
       after = rw (R .run) (omega (arith, F .adds .some));
       low = omega arith;
       mid = omega (arith, F .adds .some);
@@ -259,14 +260,87 @@ module _ (L L′ : Ledger) (v : List ℤ) (t : Words) (s d g p n : ℕ) (F : Rel
           (rw (R .run) (omega (arith, F .adds .some))) (rw end-is h));
     }
       where
-        was-begun : Dec (0 < x) → 0 < natAbs (controls L U a)
-        was-begun (yes h) = rw (R .left h) h
-        was-begun (no h) =
-            let e : a ≡ p = omega arith in
-            rw e (omega (arith, ap natAbs (R .block) ∙ abs-neg (pos n), F .adds .some))
-
         end-is : a + natAbs (controls L′ U a) ≡ p + n + y
         end-is = rw (R .run) (omega arith)
 
     pub release-becomes : (t′ : Words) → t′ ≡ indexOf (controls L′ U) (length v′) s → Becomes L′ v s v′ t′
     release-becomes t′ e = record { arena = now-is; index = e ∙ rw now-long (sym (index-view s U L′)) }
+
+-- ---- a trim
+
+weight-neg : (n : ℕ) → 0 < n → weight (negℤ (pos n)) ≡ 1
+weight-neg zero h = absurd (omega arith)
+weight-neg (suc n) h = refl
+
+module _ (L L′ : Ledger) (v : List ℤ) (t : Words) (s g p m k : ℕ) (T : Trimming L L′ v t s g p m k) (y : ℕ)
+    (right : RunOf (free segmentRule L′) (p + m + k) (length v - (p + m + k)) y) where
+  abbrev Z : ℕ
+  Z = length v
+
+  old : Whole (free segmentRule L) (startsAt L) Z
+  old = sound-whole L v t s g (T .sound)
+
+  new : Whole (free segmentRule L′) (startsAt L′) Z
+  new = ledger-whole Z (T .next) L′ (T .good)
+
+  -- the control words with the block in two parts
+  abbrev parts : ℕ → ℤ
+  parts = word (free segmentRule L) (parted (startsAt L) p m k) Z
+
+  K : Placed (controls L′ Z) parts (p + m) 0 (p + m) k y
+  K = cut-placed (free segmentRule L) (startsAt L) (free segmentRule L′) (startsAt L′) Z old new p m k (T .cuts) y right
+
+  same-weight : (u : ℕ) → u ≢ p + m → (u ≡ p + m + k → y ≡ 0) → weight (controls L′ Z u) ≡ weight (controls L Z u)
+  same-weight u i j = go (ℕ-discrete u p)
+    where
+      go : Dec (u ≡ p) → weight (controls L′ Z u) ≡ weight (controls L Z u)
+      go (yes e) =
+          rw (
+            e,
+            word-held (free segmentRule L′) (startsAt L′) Z p m (T .cuts .head) (T .cuts .some),
+            word-held (free segmentRule L) (startsAt L) Z p (m + k) (T .cuts .block) (omega (arith, T .cuts .some)),
+          ) (weight-neg m (T .cuts .some) ∙ sym (weight-neg (m + k) (omega (arith, T .cuts .some))))
+      go (no d) =
+          ap weight (same-control (free segmentRule L) (startsAt L) (free segmentRule L′) (startsAt L′) Z old new
+          p m k (T .cuts) y right u d i j)
+
+  pub trim-fits : p + m + k + y ≤ length v
+  trim-fits = omega (arith, right .fits, T .cuts .inside)
+
+  module _ (v′ : List ℤ) (stores : v′ ≡ trimmed v p m k y) where
+    left-is : v′ ≡ arenaOf L′ v
+    left-is =
+        stores
+        ∙ trims (free segmentRule L) (startsAt L) (free segmentRule L′) (startsAt L′) Z old new p m k (T .cuts) y right
+        v (set v p (negℤ (pos m))) refl refl (sound-word L v t s g (T .sound))
+        ∙ sym (arena-view (T .next) L′ v (T .good) v refl)
+
+    left-long : length v′ ≡ Z
+    left-long = stored-long (T .next) L′ v (T .good) v′ v refl left-is
+
+    left-blocks : Blocks v′ (controls L′ Z)
+    left-blocks = stored-blocks (T .next) L′ v (T .good) v′ v refl left-is
+
+    pub trim-touches : Touched (controls L Z) (controls L′ Z) v′ t s g (p + m) (p + m) (p + m + k) (p + m + k + y) y
+    trim-touches = record {
+      sizes = rw left-long (T .sound .sizes);
+      was = rw left-long (sound-index L v t s g (T .sound));
+      blocks = left-blocks;
+      same = λ u i j l. same-weight u i l;
+      after = rw (K .run) (omega (arith, T .cuts .more));
+      low = omega arith;
+      mid = omega (arith, T .cuts .more);
+      high = omega arith;
+      top = rw left-long trim-fits;
+      last = λ h. rw left-long (omega (arith, trim-fits));
+      quiet = λ u i j. K .quiet u i j;
+      begins = λ h.
+          rw ends at (left-blocks .next (p + m) (rw left-long (omega (arith, trim-fits, T .cuts .more)))
+          (rw (K .run) (omega (arith, T .cuts .more))) (rw ends h));
+    }
+      where
+        ends : p + m + natAbs (controls L′ Z (p + m)) ≡ p + m + k + y
+        ends = rw (K .run) (omega arith)
+
+    pub trim-becomes : (t′ : Words) → t′ ≡ indexOf (controls L′ Z) (length v′) s → Becomes L′ v s v′ t′
+    trim-becomes t′ e = record { arena = left-is; index = e ∙ rw left-long (sym (index-view s Z L′)) }

@@ -7,6 +7,7 @@ pub mod FitWords
 pub mod ViewLaws
 pub mod AddLaws
 pub mod StoreLaws
+pub mod CutLaws
 pub mod ChangeLaws
 pub mod BlankLaws
 pub mod BitLaws

@@ -23,7 +23,7 @@ use Rattle.segment_index.proofs.RangeLaws.{weight-size, begins-not, FirstIn, fi
 use Rattle.segment_index.proofs.SizeLaws.{segment-low, segment-high, segment-in}
 use Rattle.segment_blocks.specs.Blocks.{Blocks, Chain, EndsAt}
 use Rattle.segment_blocks.proofs.UpkeepLaws.{sizes-some, sizes-few, sizes-each, sizes-narrow}
-use Rattle.segment_cores.specs.Stores.{Releasing}
+use Rattle.segment_cores.specs.Stores.{Sound, Releasing, Trimming}
 use Rattle.segment_cores.specs.Views.{Whole, RunOf, Rest}
 use Rattle.segment_cores.proofs.ChangeLaws.{controls, sound-whole, sound-blocks, sound-index}
 use Rattle.segment_cores.proofs.WholeLaws.{Kind, held, free as free-kind, none, kind}
@@ -209,6 +209,60 @@ module _ (L : Ledger) (v : List ℤ) (t : Words) (s d g p : ℕ) (K : Sitting L 
           })
       go (none e) = absurd (omega (arith, E .begins, ap natAbs e))
 
+-- ---- above a block that a release or a trim changes
+
+module _ (L M : Ledger) (v : List ℤ) (t : Words) (s g : ℕ) (S : Sound L v t s g) (p n : ℕ) (held-there : startsAt L p ≡ n)
+    (some : 0 < n) (inside : p + n ≤ length v)
+    (same : (u : ℕ) → p + n ≤ u → free segmentRule M u ≡ free segmentRule L u) where
+  abbrev top : ℕ
+  top = p + n
+
+  pub rest-above : RunOf (free segmentRule M) (p + n) (length v - (p + n)) (restAt v (p + n))
+  rest-above = go (decLt (p + n) (length v))
+    where
+      X : Whole (free segmentRule L) (startsAt L) (length v)
+      X = sound-whole L v t s g S
+
+      walk : Blocks v (controls L (length v))
+      walk = sound-blocks L v t s g S
+
+      size : natAbs (controls L (length v) p) ≡ n
+      size =
+          ap natAbs (word-held (free segmentRule L) (startsAt L) (length v) p n held-there some)
+          ∙ abs-neg (pos n)
+
+      on : top < length v → Kind (free segmentRule L) (startsAt L) (length v) X top
+          → 0 < natAbs (controls L (length v) top)
+          → RunOf (free segmentRule M) top (length v - top) (freeSize (controls L (length v) top))
+      on l (held h i) b =
+          let none : freeSize (controls L (length v) top) ≡ 0 =
+          ap freeSize (word-held (free segmentRule L) (startsAt L) (length v) top (startsAt L top) refl h)
+          ∙ free-neg (startsAt L top) in
+          let z : top + 0 ≡ top = omega arith in
+          rw none (record {
+            passes = λ k a c. absurd (omega arith);
+            fits = omega arith;
+            stops =
+                λ c.
+                ap (free segmentRule M) z ∙ same top (omega arith)
+                ∙ X .covers top top (omega arith) (omega arith);
+          })
+      on l (free-kind z h r o i) b =
+          rw i (run-moves (free segmentRule L) (free segmentRule M) top (length v - top) z r
+          (λ k a c m. same k a))
+      on l (none i) b = absurd (omega (arith, ap natAbs i))
+
+      go : Dec (top < length v) → RunOf (free segmentRule M) top (length v - top) (restAt v top)
+      go (no l) =
+          rw (of-ge top (length v) (omega arith))
+          (record { passes = λ k a c. absurd (omega arith); fits = omega arith; stops = λ c. absurd (omega arith) })
+      go (yes l) =
+          let here : p < length v = omega (arith, inside, some) in
+          let begun : 0 < natAbs (controls L (length v) top) =
+          rw size at (walk .next p here (omega (arith, size, some)) (rw size l)) in
+          rw (of-lt top (length v) l, walk .shown top l begun)
+          (on l (kind (free segmentRule L) (startsAt L) (length v) X top l) begun)
+
 -- ---- a release
 
 module _ (L M : Ledger) (v : List ℤ) (t : Words) (s d g p n : ℕ) (F : Releasing L M v t s d g p n) where
@@ -232,51 +286,17 @@ module _ (L M : Ledger) (v : List ℤ) (t : Words) (s d g p n : ℕ) (F : Releas
       opening zero h = refl
       opening (suc u) h = ap not (F .adds .below u (omega arith))
 
-  abbrev top : ℕ
-  top = p + n
+  pub release-above : RunOf (free segmentRule M) (p + n) (length v - (p + n)) (restAt v (p + n))
+  release-above =
+      rest-above L M v t s g (F .sound) p n (F .adds .head) (F .adds .some) (F .adds .inside)
+      (λ u h. sym (F .adds .above u h))
 
-  pub rest-above : RunOf (free segmentRule M) (p + n) (length v - (p + n)) (restAt v (p + n))
-  rest-above = go (decLt (p + n) (length v))
-    where
-      X : Whole (free segmentRule L) (startsAt L) (length v)
-      X = sound-whole L v t s g (F .sound)
+-- ---- a trim
 
-      walk : Blocks v (controls L (length v))
-      walk = sound-blocks L v t s g (F .sound)
-
-      size : natAbs (controls L (length v) p) ≡ n
-      size =
-          ap natAbs (word-held (free segmentRule L) (startsAt L) (length v) p n (F .adds .head) (F .adds .some))
-          ∙ abs-neg (pos n)
-
-      on : top < length v → Kind (free segmentRule L) (startsAt L) (length v) X top
-          → 0 < natAbs (controls L (length v) top)
-          → RunOf (free segmentRule M) top (length v - top) (freeSize (controls L (length v) top))
-      on l (held h i) b =
-          let none : freeSize (controls L (length v) top) ≡ 0 =
-          ap freeSize (word-held (free segmentRule L) (startsAt L) (length v) top (startsAt L top) refl h)
-          ∙ free-neg (startsAt L top) in
-          let z : top + 0 ≡ top = omega arith in
-          rw none (record {
-            passes = λ k a c. absurd (omega arith);
-            fits = omega arith;
-            stops =
-                λ c.
-                ap (free segmentRule M) z ∙ sym (F .adds .above top (omega arith))
-                ∙ X .covers top top (omega arith) (omega arith);
-          })
-      on l (free-kind z h r o i) b =
-          rw i (run-moves (free segmentRule L) (free segmentRule M) top (length v - top) z r
-          (λ k a c m. sym (F .adds .above k a)))
-      on l (none i) b = absurd (omega (arith, ap natAbs i))
-
-      go : Dec (top < length v) → RunOf (free segmentRule M) top (length v - top) (restAt v top)
-      go (no l) =
-          rw (of-ge top (length v) (omega arith))
-          (record { passes = λ k a c. absurd (omega arith); fits = omega arith; stops = λ c. absurd (omega arith) })
-      go (yes l) =
-          let here : p < length v = omega (arith, F .adds .inside, F .adds .some) in
-          let begun : 0 < natAbs (controls L (length v) top) =
-          rw size at (walk .next p here (omega (arith, size, F .adds .some)) (rw size l)) in
-          rw (of-lt top (length v) l, walk .shown top l begun)
-          (on l (kind (free segmentRule L) (startsAt L) (length v) X top l) begun)
+module _ (L M : Ledger) (v : List ℤ) (t : Words) (s g p m k : ℕ) (T : Trimming L M v t s g p m k) where
+  pub trim-above : RunOf (free segmentRule M) (p + m + k) (length v - (p + m + k)) (restAt v (p + m + k))
+  trim-above =
+      let e : p + (m + k) ≡ p + m + k = omega arith in
+      subst (λ (j : ℕ). RunOf (free segmentRule M) j (length v - j) (restAt v j)) e
+      (rest-above L M v t s g (T .sound) p (m + k) (T .cuts .block) (omega (arith, T .cuts .some))
+      (omega (arith, T .cuts .inside)) (λ u h. T .cuts .above u (omega arith)))

@@ -69,10 +69,11 @@ module _ (f : ℕ → Bool) (st : ℕ → ℕ) (f′ : ℕ → Bool) (st′ : �
   not-owned : (u : ℕ) → f u ≡ true → ownedBy f st u ≡ false
   not-owned u t = rw t
 
-  -- ---- a release: v has the block
+  -- ---- a release: v has the blocks, but for this one
 
   module _ (a x y : ℕ) (L : Rest f a x p) (R : RunOf f (p + n) (W - (p + n)) y)
-      (stored : (u : ℕ) → u < W → ownedBy f′ st′ u ≡ false → getD v u (pos 0) ≡ word f′ st′ W u) where
+      (stored : (u : ℕ) → u < W → (p ≤ u → u < p + n → ⊥) → ownedBy f′ st′ u ≡ false
+      → getD v u (pos 0) ≡ word f′ st′ W u) where
     abbrev end : ℕ
     end = pastOld (p + n) y
 
@@ -108,9 +109,12 @@ module _ (f : ℕ → Bool) (st : ℕ → ℕ) (f′ : ℕ → Bool) (st′ : �
 
         old : u ≢ a → (p ≤ u → u < end → ⊥) → getD new u (pos 0) ≡ word f st W u
         old i h =
-            same-word u i h ∙ stored u l (owned-same u (λ c d. h c (omega (arith, e-low))) ∙ o)
+            same-word u i h ∙ stored u l out (owned-same u out ∙ o)
             ∙ D .same u i (λ j. h (omega arith) (omega (arith, e-low, P .some))) (λ j. none j (decLt 0 y))
           where
+            out : p ≤ u → u < p + n → ⊥
+            out c d = h c (omega (arith, e-low))
+
             none : u ≡ p + n → Dec (0 < y) → y ≡ 0
             none j (yes q) = absurd (h (omega arith) (omega (arith, past-some (p + n) y q)))
             none j (no q) = omega arith

@@ -1,4 +1,4 @@
--- A sound segment pool over integers, and what a grant and a release store. Assumes nothing.
+-- A sound segment pool over integers, and what a grant, a release and a trim store. Assumes nothing.
 use Prim.Native.Nat.{ℕ, _+_, _-_, _≤_, _^_}
 use mathlib.Core.Bool.{true, cond}
 use mathlib.Core.List.{List}
@@ -12,7 +12,7 @@ use Rattle.ledger.specs.Records.{Ledger}
 use Rattle.ledger.specs.Units.{valid, free, owned}
 use Rattle.stored_forms.specs.Segments.{segmentRule, controlWord, segmentIndex, opens, depth}
 use Rattle.segment_blocks.specs.Upkeep.{Sizes}
-use Rattle.segment_cores.specs.Views.{Adds}
+use Rattle.segment_cores.specs.Views.{Adds, Cuts}
 
 -- the arena of a ledger, over what holders wrote in v
 unfoldable pub arenaOf : Ledger → List ℤ → List ℤ
@@ -43,6 +43,13 @@ pub record Releasing (L L′ : Ledger) (v : List ℤ) (t : Words) (s d g p n : �
   pub good : valid segmentRule (length v) next L′ ≡ true
   pub adds : Adds L′ L (length v) p n
 
+-- L′ is to have the block at p cut to its first m words, k fewer than in L
+pub record Trimming (L L′ : Ledger) (v : List ℤ) (t : Words) (s g p m k : ℕ) : Type 0 where
+  pub sound : Sound L v t s g
+  pub next : ℕ
+  pub good : valid segmentRule (length v) next L′ ≡ true
+  pub cuts : Cuts L L′ (length v) p m k
+
 -- the stored form of L, over what holders wrote in v
 pub record Becomes (L : Ledger) (v : List ℤ) (s : ℕ) (v′ : List ℤ) (t′ : Words) : Type 0 where
   pub arena : v′ ≡ arenaOf L v
@@ -71,3 +78,7 @@ pastOld e y = cond (ltb 0 y) (e + 1) e
 -- a release: what is no more is wiped, and the run's control word is written
 abbrev pub merged : List ℤ → ℕ → ℕ → ℕ → ℕ → List ℤ
 merged v p n x y = set (wiped (pos 0) p (pastOld (p + n) y) v) (p - x) (pos (x + n + y))
+
+-- a trim: the kept block's control word is written, and what lies behind it is released, with no free word below
+abbrev pub trimmed : List ℤ → ℕ → ℕ → ℕ → ℕ → List ℤ
+trimmed v p m k y = merged (set v p (negℤ (pos m))) (p + m) k 0 y

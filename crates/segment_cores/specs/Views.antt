@@ -53,3 +53,19 @@ pub record Place (f : ℕ → Bool) (st : ℕ → ℕ) (f′ : ℕ → Bool) (st
 -- L′ is L with a block of n units more, at p
 abbrev pub Adds : Ledger → Ledger → ℕ → ℕ → ℕ → Type 0
 Adds L L′ W p n = Place (free segmentRule L) (startsAt L) (free segmentRule L′) (startsAt L′) W p n
+
+-- f′ and st′ have, of the block of m + k units at p, the first m alone: the k behind them are free (02, ticket 13)
+pub record Cut (f : ℕ → Bool) (st : ℕ → ℕ) (f′ : ℕ → Bool) (st′ : ℕ → ℕ) (W p m k : ℕ) : Type 0 where
+  pub some : 0 < m
+  pub more : 0 < k
+  pub inside : p + m + k ≤ W
+  pub block : st p ≡ m + k
+  pub freed : (u : ℕ) → p + m ≤ u → u < p + m + k → f′ u ≡ true
+  pub below : (u : ℕ) → u < p + m → f′ u ≡ f u
+  pub above : (u : ℕ) → p + m + k ≤ u → f′ u ≡ f u
+  pub head : st′ p ≡ m
+  pub heads : (u : ℕ) → u ≢ p → st′ u ≡ st u
+
+-- L′ is L with the block at p cut to its first m units, k fewer
+abbrev pub Cuts : Ledger → Ledger → ℕ → ℕ → ℕ → ℕ → Type 0
+Cuts L L′ W p m k = Cut (free segmentRule L) (startsAt L) (free segmentRule L′) (startsAt L′) W p m k

@@ -1,4 +1,4 @@
-// The segment pool's search, grant and release on a sound pool: the index leads to the blocks, and follows their
+// The segment pool's search, grant, release and trim on a sound pool: the index leads to the blocks, and follows their
 // change.
 // Slices are lent to the upkeep as `&*v` and `&mut *t`, which keeps them in registers (docs/DECISIONS.md, what crosses
 // calls).
@@ -12,7 +12,8 @@ ghost use Rattle.ledger.specs.Units.{free, lowestFit};
 ghost use Rattle.stored_forms.specs.Segments.{segmentRule, mostWords};
 ghost use Rattle.stored_forms.specs.Search.{stepsTo};
 ghost use Rattle.segment_blocks.specs.Upkeep.{Sizes};
-ghost use Rattle.segment_cores.specs.Stores.{Unheld, Granting, Releasing, Becomes, putRest, pastOld, merged};
+ghost use Rattle.segment_cores.specs.Stores.{Unheld, Granting, Releasing, Trimming, Becomes};
+ghost use Rattle.segment_cores.specs.Stores.{putRest, pastOld, merged};
 ghost use Rattle.segment_cores.specs.Cores.{Searching, Seat, Begun, Sitting, Beneath, restAt};
 use segment_blocks::block_before;
 use segment_blocks::build_index;
@@ -163,6 +164,25 @@ pub fn release(v: &mut [i32], t: &mut [u32], segments: Segments, p: usize, n: us
     let y = free_above(v, p + n);
     merge(v, p, n, x, y);
     reindex(&*v, &mut *t, segments, p - x, p, p + n, p + n + y, y);
+}
+
+// The block at p keeps its first m words. The k behind them are released, and coalesced with a free block above; none
+// lies below them. The index takes the kept block for what it was, a held block that begins at p.
+pub fn trim(v: &mut [i32], t: &mut [u32], segments: Segments, p: usize, m: usize, k: usize)
+    requires { ⌜ ((L : Ledger) × (M : Ledger)
+        × Trimming L M (now v) (now t) (segments .count) (segments .size) p m k) ⌝ }
+    ensures { λ _. ⌜
+        ((L : Ledger) → (M : Ledger)
+        → Trimming L M (now (v .entry)) (now (t .entry)) (segments .count) (segments .size) p m k
+        → Becomes M (now (v .entry)) (segments .count) (now (v .exit)) (now (t .exit)))
+        ⌝ }
+{
+    let q = p + m;
+    let e = q + k;
+    let y = free_above(v, e);
+    put_held(v, p, m);
+    merge(v, q, k, 0, y);
+    reindex(&*v, &mut *t, segments, q, q, e, e + y, y);
 }
 
 // One free block, and the index of it: the pool that format makes.

@@ -15,7 +15,7 @@ use Rattle.stored_forms.specs.Segments.{segmentSize, indexWord, isPower, depth}
 use Rattle.stored_forms.proofs.SegmentLaws.{zero-word, tree-word, leaf-word, first-word, power-range}
 use Rattle.segment_index.specs.Index.{indexOf, Agree}
 use Rattle.segment_index.specs.Tree.{Heap}
-use Rattle.segment_index.proofs.RangeLaws.{largest-same, first-same}
+use Rattle.segment_index.proofs.RangeLaws.{Alike, largest-same, first-same}
 use Rattle.segment_index.proofs.WayLaws.{low, mid}
 
 module _ (c : ℕ → ℤ) (W S : ℕ) where
@@ -78,9 +78,9 @@ module _ (c : ℕ → ℤ) (W S : ℕ) where
 
 -- ---- one segment
 
--- the words of the segment are the same in both
+-- the words of the segment have the same weights in both
 pub agree-moves : (c d : ℕ → ℤ) (W S : ℕ) (t : Words) (k : ℕ)
-    → ((u : ℕ) → k * segmentSize W S ≤ u → u < k * segmentSize W S + segmentSize W S → c u ≡ d u)
+    → Alike c d (k * segmentSize W S) (k * segmentSize W S + segmentSize W S)
     → Agree c W S t k → Agree d W S t k
 agree-moves c d W S t k h a = record {
   leaf = a .leaf ∙ largest-same c d (k * segmentSize W S) (segmentSize W S) h;

@@ -10,6 +10,8 @@ use mathlib.Core.Path.{_≡_, refl, sym, ap, ap₂, _∙_}
 use lib.Dec.{ltb}
 use lib.IntN.{ℤ, pos, negsuc, natAbs}
 use Rattle.words.specs.Counted.{lowest}
+use Rattle.words.proofs.CountedLaws.{lowest-some}
+use Rattle.words.proofs.Tests.{lt-of}
 use Rattle.stored_forms.specs.Segments.{weight, largest, firstBlock}
 use Rattle.stored_forms.proofs.SegmentLaws.{largest-zero, first-none, first-begun}
 
@@ -26,12 +28,19 @@ pub begins-weight : (z : ℤ) → 0 < natAbs z → 0 < weight z
 begins-weight (pos n) h = h
 begins-weight (negsuc n) h = omega arith
 
--- ---- two ranges that agree
+weightless : (z : ℤ) → weight z ≡ 0 → z ≡ pos 0
+weightless (pos n) e = ap pos e
+weightless (negsuc n) e = absurd (omega arith)
 
-pub largest-same : (c d : ℕ → ℤ) (u n : ℕ) → ((k : ℕ) → u ≤ k → k < u + n → c k ≡ d k) → largest c u n ≡ largest d u n
+-- ---- two ranges that agree in their weights
+
+abbrev pub Alike : (ℕ → ℤ) → (ℕ → ℤ) → ℕ → ℕ → Type 0
+Alike c d lo hi = (k : ℕ) → lo ≤ k → k < hi → weight (c k) ≡ weight (d k)
+
+pub largest-same : (c d : ℕ → ℤ) (u n : ℕ) → Alike c d u (u + n) → largest c u n ≡ largest d u n
 largest-same c d u zero h = refl
 largest-same c d u (suc n) h =
-    ap₂ max (ap weight (h u (omega arith) (omega arith)))
+    ap₂ max (h u (omega arith) (omega arith))
     (largest-same c d (suc u) n (λ k a b. h k (omega arith) (omega arith)))
 
 abbrev orElse : ℕ → Option ℕ → ℕ
@@ -40,14 +49,14 @@ orElse W o = elim o [ none ↦ W | some k ↦ k ]
 abbrev choose : ℕ → Option ℕ → Bool → Option ℕ
 choose u o b = elim b [ true ↦ some u | false ↦ o ]
 
-lowest-same : (c d : ℕ → ℤ) (u n : ℕ) → ((k : ℕ) → u ≤ k → k < u + n → c k ≡ d k)
+lowest-same : (c d : ℕ → ℤ) (u n : ℕ) → Alike c d u (u + n)
     → lowest (λ k. ltb 0 (weight (c k))) u n ≡ lowest (λ k. ltb 0 (weight (d k))) u n
 lowest-same c d u zero h = refl
 lowest-same c d u (suc n) h =
     ap₂ (choose u) (lowest-same c d (suc u) n (λ k a b. h k (omega arith) (omega arith)))
-    (ap (λ z. ltb 0 (weight z)) (h u (omega arith) (omega arith)))
+    (ap (ltb 0) (h u (omega arith) (omega arith)))
 
-pub first-same : (c d : ℕ → ℤ) (W u n : ℕ) → ((k : ℕ) → u ≤ k → k < u + n → c k ≡ d k)
+pub first-same : (c d : ℕ → ℤ) (W u n : ℕ) → Alike c d u (u + n)
     → firstBlock c W u n ≡ firstBlock d W u n
 first-same c d W u n h = ap (orElse W) (lowest-same c d u n h)
 
@@ -167,3 +176,43 @@ first-found c W lo n k a b h =
     let (f, l, r) = first-here c lo n k a b h in
     let e = first-begun c W lo n f (r .low) (r .high) (begins-not (c f) (r .begins)) (r .quiet) in
     rw e (l, r)
+
+-- ---- the first block after a change
+
+-- no block begins before k
+first-late : (c : ℕ → ℤ) (W lo n k : ℕ) → k ≤ W → Quiet c lo k → k ≤ firstBlock c W lo n
+first-late c W lo n k h q = go (lowest begins lo n) refl
+  where
+    begins : ℕ → Bool
+    begins u = ltb 0 (weight (c u))
+
+    go : (o : Option ℕ) → lowest begins lo n ≡ o → k ≤ orElse W o
+    go none e = h
+    go (some f) e = at (decLt f k)
+      where
+        at : Dec (f < k) → k ≤ f
+        at (yes l) =
+            let r = lowest-some begins lo n f e in
+            absurd (omega (arith, lt-of 0 (weight (c f)) (r .passes), ap weight (q f (r .above) l)))
+        at (no l) = omega arith
+
+-- b has become c, in which a block begins at a; below a their weights agree: the first is the old one, or that at a
+pub first-either : (b c : ℕ → ℤ) (W lo n a : ℕ) → lo ≤ a → a < lo + n → a ≤ W → 0 < natAbs (c a) → Alike c b lo a
+    → min (firstBlock b W lo n) a ≡ firstBlock c W lo n
+first-either b c W lo n a low high inside here same =
+    let (l, r) = first-found c W lo n a low high here in go l r (decLt (firstBlock c W lo n) a)
+  where
+    f : ℕ
+    f = firstBlock c W lo n
+
+    quiet : f ≤ a → FirstIn c lo n f → Quiet b lo f
+    quiet l r u x y = weightless (b u) (sym (same u x (omega arith)) ∙ ap weight (r .quiet u x y))
+
+    go : f ≤ a → FirstIn c lo n f → Dec (f < a) → min (firstBlock b W lo n) a ≡ f
+    go l r (yes h) =
+        let old : b f ≢ pos 0 =
+        λ e. omega (arith, begins-weight (c f) (r .begins), same f (r .low) h, ap weight e) in
+        omega (arith, first-begun b W lo n f (r .low) (r .high) old (quiet l r))
+    go l r (no h) =
+        let e : f ≡ a = omega arith in
+        omega (arith, first-late b W lo n f (omega arith) (quiet l r))

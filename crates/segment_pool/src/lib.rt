@@ -1,4 +1,4 @@
-// The segment pool: Brent's engine with the six calls of document 01. The number of segments, s, is an argument of
+// The segment pool: Brent's engine with the six calls of document 01, and a trim. The number of segments, s, is an argument of
 // every call; every call but format gives its party, in the row that it names or after the buffers. No call asks anything
 // of its caller: each checks the pool first, and its promise equates all that it hands back and leaves with the
 // machine's step.
@@ -11,7 +11,7 @@ use segment_requests::Allocation;
 use segment_requests::Outcome;
 ghost use mathlib.Core.Path.{_≡_};
 ghost use mathlib.Core.List.{[], _∷_};
-ghost use Rattle.calls.specs.Step.{format, release, find, look, list, step};
+ghost use Rattle.calls.specs.Step.{format, release, find, look, trim, list, step};
 ghost use Rattle.calls.specs.Engines.{segmentEngine};
 ghost use Rattle.call_parts.specs.Results.{resultOf, wholeSlice, sliceOf};
 ghost use Rattle.segment_check.specs.Gate.{asWords, segmentPool, noHead};
@@ -93,7 +93,7 @@ pub fn format(
     }
 }
 
-// ---- allocate and release
+// ---- allocate, release and trim
 
 fn with_places(done: Outcome, places: u32) -> Allocation
     ensures { λ r. ⌜ (outcomeOf r ≡ done) × (r .places ≡ places) ⌝ }
@@ -155,6 +155,31 @@ pub fn release(
     }
     let done = segment_requests::vacate(head, s, arena, table, index, named);
     segment_requests::outcome_of_release(head, named, done)
+}
+
+// Keeps the first words of the block that is named as for a release, and frees the units beyond their rounding; free
+// blocks that these touch become one with them. The answer gives the words kept.
+pub fn trim(
+    head: Head,
+    s: u32,
+    arena: &mut [i32],
+    table: &mut [u32],
+    index: &mut [u32],
+    named: Row,
+    keep: u32,
+) -> Outcome
+    ensures { λ r. ⌜ handed s r (now (arena .exit)) (now (table .exit)) (now (index .exit)) []
+        ≡ resultOf (step segmentEngine (trim named keep)
+        (segmentPool s head (now (arena .entry)) (now (table .entry)) (now (index .entry)))) ⌝ }
+{
+    let gate = segment_check::gate_number(s, head, &*arena, &*table, &*index);
+    let number = call_parts::with_party(gate, named.party);
+    if number != 0 {
+        return segment_requests::refused_with(head, number);
+    }
+    let done = segment_requests::trim(head, s, arena, table, index, named, keep);
+    let kept = call_parts::shortened(named, keep);
+    segment_requests::outcome_of_release(head, kept, done)
 }
 
 // ---- list

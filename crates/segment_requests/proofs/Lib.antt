@@ -2,5 +2,5 @@
 pub mod StoredLaws
 pub mod RefusedLaws
 pub mod GrantLaws
-pub mod ReleaseLaws
+pub mod PlanLaws
 pub mod PlacesCounted

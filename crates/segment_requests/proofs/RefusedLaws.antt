@@ -8,7 +8,7 @@ use Prim.Native.Nat.{ℕ, _/_}
 use Rattle.words.specs.Lists.{Words}
 use Rattle.ledger.specs.declared.Row.{Row}
 use Rattle.calls.specs.Pool.{Pool}
-use Rattle.calls.specs.Step.{Act, ask, give}
+use Rattle.calls.specs.Step.{Act, ask}
 use Rattle.calls.specs.Engines.{segmentEngine}
 use Rattle.calls.specs.Search.{placesBy}
 use Rattle.call_parts.specs.Results.{acted}
@@ -45,6 +45,7 @@ module _ (h : Head) (S : ℕ) (v : List ℤ) (t x : Words) where
     high ∙ places ∙ sym (ap (placesBy p) (refused .0) ∙ rw some),
   )
 
-  pub vacated-refused : (n : ℕ) → eqb n 0 ≡ false → (r : Row) → RefusedBy segmentEngine p (give r) n
-      → handed S (releaseOutcome h r n) v t x [] ≡ acted segmentEngine (give r) p
-  vacated-refused n some r = refused-acted (give r) (releaseOutcome h r n) n (rw some)
+  -- a release or trim, whatever it would have answered
+  pub named-refusal : (act : Act) (r : Row) (n : ℕ) → eqb n 0 ≡ false → RefusedBy segmentEngine p act n
+      → handed S (releaseOutcome h r n) v t x [] ≡ acted segmentEngine act p
+  named-refusal act r n some = refused-acted act (releaseOutcome h r n) n (rw some)

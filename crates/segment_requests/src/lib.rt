@@ -1,5 +1,5 @@
-// Requests on a sound segment pool: what an allocation and a release do, one or a list of them, and the outcomes that
-// they come to. The calls of segment_pool check the pool first.
+// Requests on a sound segment pool: what an allocation, a release and a trim do, one or a list of them, and the outcomes
+// that they come to. The calls of segment_pool check the pool first.
 use call_parts::Named;
 use call_parts::Request;
 use calls::Answer;
@@ -11,9 +11,9 @@ ghost use mathlib.Core.Bool.{true};
 ghost use mathlib.Core.List.{[]};
 ghost use Prim.Native.Nat.{_+_, _*_, _/_, _%_, _<_, _≤_};
 ghost use lib.ListN.{length};
-ghost use Rattle.ledger.specs.Records.{isParty};
+ghost use Rattle.ledger.specs.Records.{isParty, keepable, shortened};
 ghost use Rattle.calls.specs.Pool.{sound};
-ghost use Rattle.calls.specs.Step.{ask, give, answerTo, poolAfter, partied};
+ghost use Rattle.calls.specs.Step.{ask, give, cut, answerTo, poolAfter, partied};
 ghost use Rattle.calls.specs.Engines.{segmentEngine};
 ghost use Rattle.call_parts.specs.Parts.{namedIn, actOf, requestAt, withAnswer};
 ghost use Rattle.call_parts.specs.Results.{acted, ran};
@@ -220,6 +220,69 @@ pub fn outcome_of_release(head: Head, named: Row, number: u32) -> Outcome
     Outcome {
         head: Head { next: head.next },
         answer: call_parts::succeeded(named),
+    }
+}
+
+// ---- trim
+
+// Gives back the words of the named record, which stands in the slot, behind those to keep, and shortens the record.
+// Keeping everything writes nothing.
+fn cut_back(
+    head: Head,
+    s: u32,
+    arena: &mut [i32],
+    table: &mut [u32],
+    index: &mut [u32],
+    named: Row,
+    slot: usize,
+    keep: u32,
+) -> u32
+    requires { ⌜ (sound segmentEngine (segmentPool s head (now arena) (now table) (now index))
+        ≡ true) × (namedIn (now table) named ≡ Named.Slot slot) × (keepable keep named ≡ true) ⌝ }
+    ensures { λ r. ⌜
+        handed s (releaseOutcome head (shortened keep named) r) (now (arena .exit)) (now (table .exit))
+        (now (index .exit)) []
+        ≡ acted segmentEngine (cut named keep)
+        (segmentPool s head (now (arena .entry)) (now (table .entry)) (now (index .entry))) ⌝ }
+{
+    if keep == named.words {
+        return 0;
+    }
+    segment_check::ranged(arena);
+    let at = record_table::first_unit(segment_check::WORDS, named);
+    let m = record_table::span_of(segment_check::WORDS, keep);
+    let k = record_table::span_of(segment_check::WORDS, named.words) - m;
+    let segments = segment_index::segments_of(s, arena.len());
+    segment_cores::trim(arena, index, segments, at, m, k);
+    record_table::write_row(table, slot, call_parts::shortened(named, keep));
+    0
+}
+
+// A trim on a sound pool: its number. Its outcome is that of a release of the shortened record.
+pub fn trim(
+    head: Head,
+    s: u32,
+    arena: &mut [i32],
+    table: &mut [u32],
+    index: &mut [u32],
+    named: Row,
+    keep: u32,
+) -> u32
+    requires { ⌜ sound segmentEngine (segmentPool s head (now arena) (now table) (now index)) ≡ true ⌝ }
+    ensures { λ r. ⌜
+        handed s (releaseOutcome head (shortened keep named) r) (now (arena .exit)) (now (table .exit))
+        (now (index .exit)) []
+        ≡ acted segmentEngine (cut named keep)
+        (segmentPool s head (now (arena .entry)) (now (table .entry)) (now (index .entry))) ⌝ }
+{
+    match call_parts::named_slot(table, named) {
+        Named::Refused(n) => n,
+        Named::Slot(slot) => {
+            if !call_parts::can_keep(named, keep) {
+                return 2;
+            }
+            cut_back(head, s, arena, table, index, named, slot, keep)
+        }
     }
 }
 

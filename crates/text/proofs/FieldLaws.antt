@@ -15,8 +15,10 @@ use Rattle.text.specs.declared.Pair.{Pair}
 use Rattle.text.specs.declared.Pair.the-variants as pair
 use Rattle.text.specs.declared.Triple.{Triple}
 use Rattle.text.specs.declared.Triple.the-variants as triple
+use Rattle.text.specs.declared.Quad.{Quad}
+use Rattle.text.specs.declared.Quad.the-variants as quad
 use Rattle.text.specs.Numbers.{Bytes, valueOf}
-use Rattle.text.specs.Fields.{tabIn, beforeTab, afterTab, two, three, pairOf, tripleOf}
+use Rattle.text.specs.Fields.{tabIn, beforeTab, afterTab, two, three, four, pairOf, tripleOf, quadOf}
 
 module _ (i : ℕ) (s : Bytes) (h : i < length s) where
   pub tab-here : getD s i 0 ≡ 9 → tabIn (drop i s) ≡ 0
@@ -42,6 +44,10 @@ pub three-is : {a : Number} {b : Pair} (x y z : ℕ) → a ≡ number.Value x �
     → triple.Three x y z ≡ three a b
 three-is x y z p q = rw (p, q)
 
+pub four-is : {a : Number} {b : Triple} (w x y z : ℕ) → a ≡ number.Value w → b ≡ triple.Three x y z
+    → quad.Four w x y z ≡ four a b
+four-is w x y z p q = rw (p, q)
+
 -- what is read where the first tab is at t
 module _ (s : Bytes) (t : ℕ) (e : t ≡ tabIn s) where
   module _ (h : length s ≤ t) where
@@ -55,6 +61,10 @@ module _ (s : Bytes) (t : ℕ) (e : t ≡ tabIn s) where
     pub no-triple : triple.Bad ≡ tripleOf s
     unfolding tripleOf
     no-triple = rw untabbed
+
+    pub no-quad : quad.Bad ≡ quadOf s
+    unfolding quadOf
+    no-quad = rw untabbed
 
   abbrev past : Bytes
   past = take (length s - (t + 1)) (drop (t + 1) s)
@@ -76,3 +86,7 @@ module _ (s : Bytes) (t : ℕ) (e : t ≡ tabIn s) where
     pub triple-is : (b : Pair) (r : Triple) → b ≡ pairOf past → r ≡ three a b → r ≡ tripleOf s
     unfolding tripleOf
     triple-is b r q z = rw (tabbed, z, before-tab, q ∙ ap pairOf after-tab)
+
+    pub quad-is : (b : Triple) (r : Quad) → b ≡ tripleOf past → r ≡ four a b → r ≡ quadOf s
+    unfolding quadOf
+    quad-is b r q z = rw (tabbed, z, before-tab, q ∙ ap tripleOf after-tab)

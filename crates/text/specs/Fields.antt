@@ -12,6 +12,8 @@ use Rattle.text.specs.declared.Pair.{Pair}
 use Rattle.text.specs.declared.Pair.the-variants as pair
 use Rattle.text.specs.declared.Triple.{Triple}
 use Rattle.text.specs.declared.Triple.the-variants as triple
+use Rattle.text.specs.declared.Quad.{Quad}
+use Rattle.text.specs.declared.Quad.the-variants as quad
 use Rattle.text.specs.Numbers.{Bytes, valueOf, decimalOf}
 
 -- the place of the first tab, or the length
@@ -43,6 +45,15 @@ three number.Bad y = triple.Bad
 
 unfoldable pub tripleOf : Bytes → Triple
 tripleOf s = cond (leb (length s) (tabIn s)) triple.Bad (three (valueOf (beforeTab s)) (pairOf (afterTab s)))
+
+-- four numbers with tabs between them
+abbrev pub four : Number → Triple → Quad
+four (number.Value a) (triple.Three b c d) = quad.Four a b c d
+four (number.Value a) triple.Bad = quad.Bad
+four number.Bad y = quad.Bad
+
+unfoldable pub quadOf : Bytes → Quad
+quadOf s = cond (leb (length s) (tabIn s)) quad.Bad (four (valueOf (beforeTab s)) (tripleOf (afterTab s)))
 
 -- the numbers of a line that is written, each after a tab
 abbrev pub fieldsOf : List ℕ → Bytes

@@ -4,7 +4,7 @@ ghost use mathlib.Core.List.{[], _∷_};
 ghost use Prim.Native.Nat.{_+_, _<_, _≤_};
 ghost use lib.ListN.{length, take, drop};
 ghost use Rattle.text.specs.Numbers.{lastTwo, valueOf, valueFrom, decimalOf};
-ghost use Rattle.text.specs.Fields.{tabIn, two, three, pairOf, tripleOf, fieldsOf, lineOf, Wrote};
+ghost use Rattle.text.specs.Fields.{tabIn, two, three, four, pairOf, tripleOf, quadOf, fieldsOf, lineOf, Wrote};
 ghost use Rattle.text.specs.Lines.{keep, run};
 
 // ---- numbers
@@ -165,6 +165,38 @@ pub fn read_triple(s: &[u8]) -> Triple
     let n = t + 1;
     let b = read_pair(&s[n..]);
     three_of(a, b)
+}
+
+pub enum Quad {
+    Four(u32, u32, u32, u32),
+    Bad,
+}
+
+fn four_of(a: Number, b: Triple) -> Quad
+    ensures { λ r. ⌜ r ≡ four a b ⌝ }
+{
+    match a {
+        Number::Value(w) => match b {
+            Triple::Three(x, y, z) => Quad::Four(w, x, y, z),
+            Triple::Bad => Quad::Bad,
+        },
+        Number::Bad => Quad::Bad,
+    }
+}
+
+// Four numbers with tabs between.
+pub fn read_quad(s: &[u8]) -> Quad
+    ensures { λ r. ⌜ r ≡ quadOf (now (s .entry)) ⌝ }
+{
+    let t = find_tab(s);
+    if s.len() <= t {
+        return Quad::Bad;
+    }
+    let z = 0;
+    let a = read_number(&s[z..t]);
+    let n = t + 1;
+    let b = read_triple(&s[n..]);
+    four_of(a, b)
 }
 
 // ---- lines that are written

@@ -8,8 +8,9 @@
 //   format M F         of form M with first ticket F; each is 1 if it is not there
 //   words I N          shows N words of the arena from word I on
 //   party P            the party of the calls that follow, 1 after lend
-//   allocate N         release T A W      find T A W      look T A W
+//   allocate N         release T A W      find T A W      look T A W      trim T A W K
 //   list N K V..       a list of N words, V over and over, with K words for its answers, which start as sevens
+//   copy N T V..       an old table of N words, V over and over, copied into the first T words of the table
 use ledger::Row;
 use testing::is;
 use testing::least;
@@ -93,6 +94,12 @@ fn run_release(head: Head, arena: &mut [u32], table: &mut [u32], named: Row) -> 
     show_outcome(outcome, arena, table)
 }
 
+// The fourth given number is the words to keep.
+fn run_trim(head: Head, arena: &mut [u32], table: &mut [u32], party: u32, given: &[u32]) -> Head {
+    let outcome = tree_pool::trim(head, arena, table, row(given, party), word(given, 3));
+    show_outcome(outcome, arena, table)
+}
+
 fn run_find(head: Head, arena: &[u32], table: &[u32], named: Row) -> Head {
     let answer = tree_pool::find(head, arena, table, named);
     show_answer(answer);
@@ -130,7 +137,7 @@ fn run_list(
     outcome.head
 }
 
-// The commands that call the pool but for the list; a line with no command does nothing.
+// The commands that call the pool but for list and copy; a line with no command does nothing.
 fn serve(
     head: Head,
     party: u32,
@@ -149,6 +156,9 @@ fn serve(
     }
     if is(line, b'r', b'e') {
         return run_release(head, arena, table, row(given, party));
+    }
+    if is(line, b't', b'r') {
+        return run_trim(head, arena, table, party, given);
     }
     if is(line, b'f', b'i') {
         return run_find(head, arena, table, row(given, party));
@@ -191,11 +201,22 @@ fn set(
     head
 }
 
-// A list is made of the given words; any other line goes on.
-fn serve_line(
+// An old table is made of the given words, and copied into the table.
+fn copy_into(table: &mut [u32], given: &[u32], count: usize, old: &mut [u32]) {
+    write_list(old, given, count);
+    let n = least(word(given, 0) as usize, old.len());
+    let t = least(word(given, 1) as usize, table.len());
+    let zero = 0;
+    let number = old_tables::copy_table(&old[zero..n], &mut table[zero..t]);
+    print(b"  number");
+    print_number(number);
+    print(b"\n");
+}
+
+// A list is made of the given words.
+fn make_list(
     head: Head,
     party: u32,
-    line: &[u8],
     arena: &mut [u32],
     table: &mut [u32],
     given: &[u32],
@@ -203,9 +224,6 @@ fn serve_line(
     asked: &mut [u32],
     answers: &mut [u32],
 ) -> Head {
-    if !is(line, b'l', b'i') {
-        return serve(head, party, line, arena, table, given, count);
-    }
     write_list(asked, given, count);
     let n = least(word(given, 0) as usize, asked.len());
     let k = least(word(given, 1) as usize, answers.len());
@@ -218,6 +236,29 @@ fn serve_line(
         &asked[zero..n],
         &mut answers[zero..k],
     )
+}
+
+// A list, a copy, or any other line.
+fn serve_line(
+    head: Head,
+    party: u32,
+    line: &[u8],
+    arena: &mut [u32],
+    table: &mut [u32],
+    given: &[u32],
+    count: usize,
+    asked: &mut [u32],
+    answers: &mut [u32],
+) -> Head {
+    if is(line, b'l', b'i') {
+        return make_list(head, party, arena, table, given, count, asked, answers);
+    }
+    if is(line, b'c', b'o') {
+        copy_into(table, given, count, asked);
+        show_memory(head, arena, table);
+        return head;
+    }
+    serve(head, party, line, arena, table, given, count)
 }
 
 // The head of a pool of form 1 that has no free block and no ticket left.

@@ -1,5 +1,5 @@
-// The tree pool: Stephenson's engine with the six calls of document 01. No call asks anything of its caller: each
-// checks the pool first, and its promise equates all that it hands back and leaves with the machine's step.
+// The tree pool: Stephenson's engine with the six calls of document 01, and a trim. No call asks anything of its
+// caller: each checks the pool first, and its promise equates all that it hands back and leaves with the machine's step.
 use call_parts::Named;
 use calls::Answer;
 use ledger::Row;
@@ -9,7 +9,7 @@ use tree_nodes::forms::is_form;
 use tree_requests::Outcome;
 ghost use mathlib.Core.Path.{_≡_};
 ghost use mathlib.Core.List.{[], _∷_};
-ghost use Rattle.calls.specs.Step.{format, allocate, release, find, look, list, poolNumber, step};
+ghost use Rattle.calls.specs.Step.{format, allocate, release, find, look, trim, list, poolNumber, step};
 ghost use Rattle.calls.specs.Engines.{treeEngine};
 ghost use Rattle.call_parts.specs.Parts.{withParty};
 ghost use Rattle.call_parts.specs.Results.{resultOf, wholeSlice, sliceOf};
@@ -100,7 +100,7 @@ pub fn format(form: u32, arena: &mut [u32], table: &mut [u32], first: u32) -> Ou
     }
 }
 
-// ---- allocate and release
+// ---- allocate, release and trim
 
 // Words for a party under the next ticket, at the lowest address where enough free cells lie together.
 pub fn allocate(head: Head, arena: &mut [u32], table: &mut [u32], party: u32, words: u32) -> Outcome
@@ -127,6 +127,21 @@ pub fn release(head: Head, arena: &mut [u32], table: &mut [u32], named: Row) -> 
     }
     let done = tree_requests::vacate(head, arena, table, named);
     tree_requests::outcome_of_release(head, named, done)
+}
+
+// Keeps the first words of the block that is named as for a release, and frees the units beyond their rounding; free
+// blocks that these touch become one with them. The answer gives the words kept.
+pub fn trim(head: Head, arena: &mut [u32], table: &mut [u32], named: Row, keep: u32) -> Outcome
+    ensures { λ r. ⌜ handed r (now (arena .exit)) (now (table .exit)) []
+        ≡ resultOf (step treeEngine (trim named keep) (treePool head (now (arena .entry)) (now (table .entry)))) ⌝ }
+{
+    let number = gate_for(head, &*arena, &*table, named.party);
+    if number != 0 {
+        return tree_requests::refused_with(head, number);
+    }
+    let done = tree_requests::trim(head, arena, table, named, keep);
+    let kept = call_parts::shortened(named, keep);
+    tree_requests::outcome_of_release(head, kept, done)
 }
 
 // ---- list

@@ -4,4 +4,4 @@ pub mod StoredLaws
 pub mod SoundLaws
 pub mod RefusedLaws
 pub mod GrantLaws
-pub mod ReleaseLaws
+pub mod PlanLaws

@@ -10,7 +10,7 @@ use Rattle.words.specs.Lists.{Words}
 use Rattle.ledger.specs.declared.Row.{Row}
 use Rattle.ledger.specs.Records.{Ledger, recordOf, sameBlock}
 use Rattle.calls.specs.Pool.{Pool, nextAfter, ledger}
-use Rattle.calls.specs.Step.{Act, ask, give, success, named}
+use Rattle.calls.specs.Step.{Act, ask, success, named}
 use Rattle.calls.specs.Engines.{treeEngine}
 use Rattle.call_parts.specs.declared.Named.the-variants.{Refused}
 use Rattle.call_parts.specs.Parts.{namedIn}
@@ -71,6 +71,7 @@ module _ (h : Head) (a t : Words) where
         → handed (grantOutcome h n e) a t [] ≡ acted treeEngine (ask c n) (treePool h a t)
     grant-refused c n = refused-acted (ask c n) (grantOutcome h n e) x (rw refuses (ap (refusedWith h) is))
 
-    pub release-refused : (r : Row) → RefusedBy treeEngine (treePool h a t) (give r) x
-        → handed (releaseOutcome h r e) a t [] ≡ acted treeEngine (give r) (treePool h a t)
-    release-refused r = refused-acted (give r) (releaseOutcome h r e) x (rw refuses (ap (refusedWith h) is))
+    -- a release or trim, whatever it would have answered
+    pub named-refusal : (act : Act) (r : Row) → RefusedBy treeEngine (treePool h a t) act x
+        → handed (releaseOutcome h r e) a t [] ≡ acted treeEngine act (treePool h a t)
+    named-refusal act r = refused-acted act (releaseOutcome h r e) x (rw refuses (ap (refusedWith h) is))

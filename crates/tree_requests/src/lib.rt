@@ -16,8 +16,8 @@ ghost use Prim.Native.Nat.{_+_, _*_, _%_, _<_, _≤_};
 ghost use lib.ListN.{length};
 ghost use mathlib.Core.Bool.{true};
 ghost use Rattle.calls.specs.Pool.{sound};
-ghost use Rattle.ledger.specs.Records.{isParty};
-ghost use Rattle.calls.specs.Step.{ask, give, answerTo, poolAfter, partied};
+ghost use Rattle.ledger.specs.Records.{isParty, keepable, shortened};
+ghost use Rattle.calls.specs.Step.{ask, give, cut, answerTo, poolAfter, partied};
 ghost use Rattle.calls.specs.Engines.{treeEngine};
 ghost use Rattle.call_parts.specs.Parts.{namedIn, actOf, requestAt, withAnswer};
 ghost use Rattle.call_parts.specs.Results.{acted, ran};
@@ -194,10 +194,56 @@ pub fn outcome_of_release(head: Head, named: Row, done: u64) -> Outcome
     }
 }
 
+// ---- trim
+
+// Shortens the named record, which stands in the slot, to the words to keep, and gives back the cells beyond their
+// rounding, if there are any.
+fn cut_back(
+    head: Head,
+    arena: &mut [u32],
+    table: &mut [u32],
+    named: Row,
+    slot: usize,
+    keep: u32,
+) -> u64
+    requires { ⌜ (sound treeEngine (treePool head (now arena) (now table))
+        ≡ true) × (namedIn (now table) named ≡ Named.Slot slot) × (keepable keep named ≡ true) ⌝ }
+    ensures { λ r. ⌜ handed (releaseOutcome head (shortened keep named) r) (now (arena .exit)) (now (table .exit)) []
+        ≡ acted treeEngine (cut named keep) (treePool head (now (arena .entry)) (now (table .entry))) ⌝ }
+{
+    let form = head.form;
+    record_table::write_row(table, slot, call_parts::shortened(named, keep));
+    let first = cell_count(form, named.address as usize);
+    let from = first + cells_of(form, keep);
+    let past = first + cells_of(form, named.words);
+    if from == past {
+        return effect(head.root as usize, 0);
+    }
+    let root = free_blocks::give_cells(form, arena, head.root as usize, from, past);
+    effect(root, 0)
+}
+
+// A trim on a sound pool: 6 and 7, then 2. Its outcome is that of a release of the shortened record.
+pub fn trim(head: Head, arena: &mut [u32], table: &mut [u32], named: Row, keep: u32) -> u64
+    requires { ⌜ sound treeEngine (treePool head (now arena) (now table)) ≡ true ⌝ }
+    ensures { λ r. ⌜ handed (releaseOutcome head (shortened keep named) r) (now (arena .exit)) (now (table .exit)) []
+        ≡ acted treeEngine (cut named keep) (treePool head (now (arena .entry)) (now (table .entry))) ⌝ }
+{
+    match call_parts::named_slot(table, named) {
+        Named::Refused(n) => no_effect(n),
+        Named::Slot(slot) => {
+            if !call_parts::can_keep(named, keep) {
+                return no_effect(2);
+            }
+            cut_back(head, arena, table, named, slot, keep)
+        }
+    }
+}
+
 // ---- requests
 
-// One request on a sound pool, of a party.
-pub fn serve(head: Head, arena: &mut [u32], table: &mut [u32], request: Request) -> Outcome
+// One request of a party's list on a sound pool.
+fn serve(head: Head, arena: &mut [u32], table: &mut [u32], request: Request) -> Outcome
     requires { ⌜ (sound treeEngine (treePool head (now arena) (now table)) ≡ true) × (partied (actOf request) ≡ true) ⌝ }
     ensures { λ r. ⌜ handed r (now (arena .exit)) (now (table .exit)) []
         ≡ acted treeEngine (actOf request) (treePool head (now (arena .entry)) (now (table .entry))) ⌝ }

@@ -1,14 +1,15 @@
--- A sequence of demand 3 for each engine, with everything mixed in that 01 allows, and a short one of form 2.
+-- A sequence of demand 3 for each engine, with everything mixed in that 01 allows, a short one of form 2, and one for each
+-- engine whose set has releases and trims (02, ticket 13).
 -- Assumes nothing.
 use Prim.Native.Nat.{ℕ}
 use mathlib.Core.List.{List, [], _∷_, _++_, map}
 use mathlib.Core.Option.{none, some}
 use lib.ListN.{take, replicate}
 use Rattle.words.specs.Lists.{Words}
-use Rattle.ledger.specs.Records.{row, Member, vacate, member}
-use Rattle.calls.specs.Pool.{Head, Pool}
-use Rattle.calls.specs.Step.{Call, format, allocate, release, find, look, list}
-use Rattle.calls.specs.Lent.{inArena, inTable, inIndex, own, other, Buffer, allOf, Event, onWhole}
+use Rattle.ledger.specs.Records.{row, Member, vacate, keep, member}
+use Rattle.calls.specs.Pool.{Head, Pool, Engine}
+use Rattle.calls.specs.Step.{Call, format, allocate, release, find, trim, look, list, answersOf}
+use Rattle.calls.specs.Lent.{inArena, inTable, inIndex, own, other, Buffer, allOf, Event, onWhole, outcome, after}
 
 -- ---- the tree pool of T4, of form 1: tickets 1, 2 and 3 are live
 
@@ -81,6 +82,36 @@ treeEvents =
     (list 1 (otherWords (2 ∷ 3 ∷ 10 ∷ 6 ∷ 7 ∷ 0 ∷ 0 ∷ 0 ∷ [])) (otherWords (replicate 8 8)))
     ∷ []
 
+-- the numbers of a sequence's acts, one call after another
+abbrev pub numbersOf : Engine → Pool → List Event → List ℕ
+numbersOf E q [] = []
+numbersOf E q (e ∷ es) =
+    map (λ x. x .number) (answersOf (outcome E q e .counted)) ++ numbersOf E (after E q e) es
+
+-- ticket 1 is trimmed to 2 of its 5 words, ticket 2 is released, ticket 3 is trimmed within its last cell
+abbrev pub treeTrimSet : List Member
+treeTrimSet = member 1 (keep 2) ∷ member 2 vacate ∷ member 3 (keep 5) ∷ []
+
+abbrev pub treeTrims : List Event
+treeTrims =
+    -- refused where they stand: to no word, to more words than asked, by another party, with a wrong length
+    onWhole treeStart (trim (row 3 10 6 1) 0) ∷ onWhole treeStart (trim (row 3 10 6 1) 7)
+    ∷ onWhole treeStart (trim (row 3 10 6 2) 5) ∷ onWhole treeStart (trim (row 3 10 5 1) 5)
+    -- a trim of the set; then the old release, the old trim, and one to other words: 7
+    ∷ onWhole treeStart (trim (row 1 0 5 1) 2) ∷ onWhole treeStart (release (row 1 0 5 1))
+    ∷ onWhole treeStart (trim (row 1 0 5 1) 2) ∷ onWhole treeStart (trim (row 1 0 5 1) 5)
+    ∷ onWhole treeStart (find (row 1 0 2 1)) ∷ onWhole treeStart (look (row 1 0 2 1) [])
+    -- a list, which knows no trim (9): a release of the set, its replay (6), and the old release (7)
+    ∷ onWhole treeStart (list 1
+    (otherWords (3 ∷ 3 ∷ 10 ∷ 6 ∷ 2 ∷ 2 ∷ 6 ∷ 4 ∷ 2 ∷ 2 ∷ 6 ∷ 4 ∷ 2 ∷ 1 ∷ 0 ∷ 5 ∷ [])) (otherWords (replicate 16 8)))
+    -- a replay of the released ticket as a trim: 6; an old release with a wrong head, and with half of the arena
+    ∷ onWhole treeStart (trim (row 2 6 4 1) 1)
+    ∷ otherHead treeStart 1 (record { own = 9 ∷ 1 ∷ []; next = 4 }) (release (row 1 0 5 1))
+    ∷ otherArena treeStart 1 (take 12 (allOf inArena treeStart)) [] (release (row 1 0 5 1))
+    -- no unit is given back, yet the old release and the old trim are 7
+    ∷ onWhole treeStart (trim (row 3 10 6 1) 5) ∷ onWhole treeStart (release (row 3 10 6 1))
+    ∷ onWhole treeStart (trim (row 3 10 6 1) 5) ∷ onWhole treeStart (find (row 3 10 5 1)) ∷ []
+
 -- ---- a tree pool of form 2, 24 words: 1, 5 and 2 words are held in 4, 8 and 4 under tickets 1, 2 and 3
 
 abbrev pub wideStart : Pool
@@ -140,4 +171,25 @@ segmentEvents =
     ∷ otherArena segmentStart 4 (allOf inArena segmentStart)
     (otherWords (0 ∷ 12 ∷ 12 ∷ 0 ∷ 1 ∷ 12 ∷ 0 ∷ 0 ∷ 0 ∷ 4 ∷ 16 ∷ 16 ∷ []))
     (list 1 (otherWords (1 ∷ 12 ∷ 0 ∷ 0 ∷ 3 ∷ 0 ∷ 0 ∷ 0 ∷ [])) (otherWords (replicate 8 8)))
+    ∷ []
+
+-- ticket 1 is released, and ticket 2 trimmed by its last word
+abbrev pub segmentTrimSet : List Member
+segmentTrimSet = member 1 vacate ∷ member 2 (keep 10) ∷ []
+
+abbrev pub segmentTrims : List Event
+segmentTrims =
+    -- refused where they stand: to no word, to more words than asked, by another party, with a wrong S
+    onWhole segmentStart (trim (row 2 5 11 1) 0) ∷ onWhole segmentStart (trim (row 2 5 11 1) 12)
+    ∷ onWhole segmentStart (trim (row 2 5 11 2) 10)
+    ∷ otherArena segmentStart 8 (allOf inArena segmentStart) (allOf inIndex segmentStart) (trim (row 2 5 11 1) 10)
+    -- a trim of the set; then the old release and the old trim: 7
+    ∷ onWhole segmentStart (trim (row 2 5 11 1) 10) ∷ onWhole segmentStart (release (row 2 5 11 1))
+    ∷ onWhole segmentStart (trim (row 2 5 11 1) 10) ∷ onWhole segmentStart (look (row 2 5 10 1) [])
+    -- a release of the set, and its replays: 6
+    ∷ onWhole segmentStart (release (row 1 1 3 1)) ∷ onWhole segmentStart (release (row 1 1 3 1))
+    ∷ onWhole segmentStart (trim (row 1 1 3 1) 3)
+    -- the old release in a list (7), and with a wrong S
+    ∷ onWhole segmentStart (list 1 (otherWords (2 ∷ 2 ∷ 5 ∷ 11 ∷ [])) (otherWords (replicate 4 8)))
+    ∷ otherArena segmentStart 2 (allOf inArena segmentStart) (allOf inIndex segmentStart) (release (row 2 5 11 1))
     ∷ []

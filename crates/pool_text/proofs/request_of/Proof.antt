@@ -1,9 +1,9 @@
--- `pool_text::request_of` meets its contract: an A line, an R line, or a bad one. Assumes nothing.
+-- `pool_text::request_of` meets its contract: an A line, an R line, a T line, or a bad one. Assumes nothing.
 use mathlib.Core.Path.{_∙_, sym}
 use borrow.Author.Needs.{needs}
 use Prim.Native.Nat.{_≤_}
 use lib.ListN.{length}
-use Rattle.pool_text.proofs.RequestLaws.{begins-long, ask-line, give-line, bad-line}
+use Rattle.pool_text.proofs.RequestLaws.{begins-long, ask-line, give-line, cut-line, bad-line}
 use Rattle.pool_text.proofs.request_of.Statement.{statement}
 use Rattle.pool_text.proofs.request_of.Tie as tie
 
@@ -14,6 +14,11 @@ give-long : (c : tie.Then2) → 2 ≤ length (c .before .before .before .before 
 give-long c =
     begins-long (c .before .before .before .before .before .args .s .now) 82
     (sym (c .before .begins2 .ensures) ∙ c .if2 .taken)
+
+cut-long : (c : tie.Then3) → 2 ≤ length (c .before .before .before .before .before .before .before .args .s .now)
+cut-long c =
+    begins-long (c .before .before .before .before .before .before .before .args .s .now) 84
+    (sym (c .before .begins3 .ensures) ∙ c .if3 .taken)
 
 begins-requires : tie.Need-begins-requires
 begins-requires c κs = search needs
@@ -67,11 +72,41 @@ returns-2 c =
     (sym (b .begins .ensures) ∙ g .before .if1 .left) (sym (g .begins2 .ensures) ∙ i .if2 .taken)
     (c .before .read-triple .ensures) (c .give-of .ensures)
 
+begins-requires-3 : tie.Need-begins-requires-3
+begins-requires-3 c κs = search needs
+
+sub-read-quad : tie.Need-sub-read-quad
+sub-read-quad c = cut-long c
+
+part-read-quad-start : tie.Need-part-read-quad-start
+part-read-quad-start c = cut-long c
+
+part-read-quad-end : tie.Need-part-read-quad-end
+part-read-quad-end c = search needs
+
+read-quad-requires : tie.Need-read-quad-requires
+read-quad-requires c κs = search needs
+
+cut-of-requires : tie.Need-cut-of-requires
+cut-of-requires c κs = search needs
+
 returns-3 : tie.Need-returns-3
 returns-3 c =
-    let b = c .before .before .before in
-    bad-line (b .before .before .args .s .now) (sym (b .begins .ensures) ∙ c .before .before .if1 .left)
-    (sym (c .before .begins2 .ensures) ∙ c .if2 .left)
+    let i = c .before .before .before in
+    let g = i .before in
+    let r = g .before .before in
+    let b = r .before .before in
+    cut-line (b .before .before .args .s .now) (c .before .read-quad .result) (c .cut-of .result)
+    (sym (b .begins .ensures) ∙ r .before .if1 .left) (sym (r .begins2 .ensures) ∙ g .before .if2 .left)
+    (sym (g .begins3 .ensures) ∙ i .if3 .taken) (c .before .read-quad .ensures) (c .cut-of .ensures)
+
+returns-4 : tie.Need-returns-4
+returns-4 c =
+    let g = c .before in
+    let r = g .before .before in
+    let b = r .before .before in
+    bad-line (b .before .before .args .s .now) (sym (b .begins .ensures) ∙ r .before .if1 .left)
+    (sym (r .begins2 .ensures) ∙ g .before .if2 .left) (sym (g .begins3 .ensures) ∙ c .if3 .left)
 
 pub request-of-spec : {M : Type 1} → statement M
 request-of-spec =
@@ -91,4 +126,11 @@ request-of-spec =
     read-triple-requires
     give-of-requires
     returns-2
-    returns-3)
+    begins-requires-3
+    sub-read-quad
+    part-read-quad-start
+    part-read-quad-end
+    read-quad-requires
+    cut-of-requires
+    returns-3
+    returns-4)

@@ -1,7 +1,6 @@
 -- `pool_text::serve_request` meets its contract: one act on the program's own pool. Assumes nothing.
 use native.Mathlib.Omega.{arith}
 use borrow.Author.Needs.{needs}
-use Rattle.pool_text.proofs.RequestLaws.{request-partied}
 use Rattle.pool_text.proofs.StandLaws.{arena-lies, table-lies, own-sound, became-served}
 use Rattle.pool_text.proofs.serve_request.Statement.{statement}
 use Rattle.pool_text.proofs.serve_request.Tie as tie
@@ -21,10 +20,7 @@ serve-front-requires c κs =
     let o = s .args .own in
     let a = s .args .arena .now in
     let t = s .args .table .now in
-    let q = c .before .before .before .before in (
-      (arena-lies o a t (s .pre .0), table-lies o a t (s .pre .0)),
-      (own-sound o a t (s .pre .0), rw (q .request-of .ensures) (request-partied (s .args .line .now))),
-    )
+    ((arena-lies o a t (s .pre .0), table-lies o a t (s .pre .0)), own-sound o a t (s .pre .0))
 
 put-answer-requires : tie.Need-put-answer-requires
 put-answer-requires c κs = search needs

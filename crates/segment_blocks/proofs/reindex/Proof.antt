@@ -37,33 +37,39 @@ index-word-requires c κs =
     let (b, f, x) = k .before .before .pre in
     omega (arith, a-segment x (k .segment-of .ensures), was-long x)
 
+lesser-requires : tie.Need-lesser-requires
+lesser-requires c κs = search needs
+
 refresh-segment-requires : tie.Need-refresh-segment-requires
 refresh-segment-requires c κs =
-    let k = c .before .before .before .before .before in
+    let i = c .before .before in
+    let k = i .before .before .before .before in
     let (b, f, x) = k .before .before .pre in
-    (f, rw (c .before .index-word .ensures) (ready-a x (k .segment-of .ensures)))
+    (f, rw (c .before .lesser .ensures, i .index-word .ensures) (ready-a x (k .segment-of .ensures)))
 
 refresh-if-requires : tie.Need-refresh-if-requires
 refresh-if-requires c κs =
     let r = c .before .before .before in
-    let k = r .before .before .before .before in
+    let i = r .before .before .before in
+    let k = i .before .before in
     let (b, f, x) = k .before .before .before .before .pre in
     let ia = k .before .before .segment-of .ensures in
     let ip = k .before .segment-of2 .ensures in
     let ie = k .segment-of3 .ensures in
-    let first = r .refresh-segment .ensures f (rw (r .before .before .index-word .ensures) (ready-a x ia)) in
+    let first = r .refresh-segment .ensures f (rw (r .before .before .lesser .ensures, i .index-word .ensures) (ready-a x ia)) in
     λ on. (f, ready-p x ia ip ie first on)
 
 refresh-if-requires-2 : tie.Need-refresh-if-requires-2
 refresh-if-requires-2 c κs =
     let q = c .before .before .before in
     let r = q .before .before .before .before in
-    let k = r .before .before .before .before in
+    let i = r .before .before .before in
+    let k = i .before .before in
     let (b, f, x) = k .before .before .before .before .pre in
     let ia = k .before .before .segment-of .ensures in
     let ip = k .before .segment-of2 .ensures in
     let ie = k .segment-of3 .ensures in
-    let first = r .refresh-segment .ensures f (rw (r .before .before .index-word .ensures) (ready-a x ia)) in
+    let first = r .refresh-segment .ensures f (rw (r .before .before .lesser .ensures, i .index-word .ensures) (ready-a x ia)) in
     let second = q .refresh-if .ensures f (ready-p x ia ip ie first) in
     λ on. (f, ready-e x ia ip ie first second on)
 
@@ -75,12 +81,13 @@ returns c =
     let z = c .before .before in
     let q = z .before .before .before .before in
     let r = q .before .before .before .before in
-    let k = r .before .before .before .before in
+    let i = r .before .before .before in
+    let k = i .before .before in
     let ia = k .before .before .segment-of .ensures in
     let ip = k .before .segment-of2 .ensures in
     let ie = k .segment-of3 .ensures in
     λ b f x.
-    let first = r .refresh-segment .ensures f (rw (r .before .before .index-word .ensures) (ready-a x ia)) in
+    let first = r .refresh-segment .ensures f (rw (r .before .before .lesser .ensures, i .index-word .ensures) (ready-a x ia)) in
     let second = q .refresh-if .ensures f (ready-p x ia ip ie first) in
     let third = z .refresh-if2 .ensures f (ready-e x ia ip ie first second) in
     reindexed x ia ip ie first second third
@@ -95,6 +102,7 @@ reindex-spec =
     mul-index-word
     add-index-word
     index-word-requires
+    lesser-requires
     refresh-segment-requires
     refresh-if-requires
     refresh-if-requires-2

@@ -9,7 +9,7 @@ use Rattle.stored_forms.specs.Segments.{segmentRule}
 use Rattle.segment_cores.specs.Stores.{Releasing}
 use Rattle.segment_cores.specs.Views.{RunOf}
 use Rattle.segment_cores.proofs.ChangeLaws.{controls, release-touches, release-becomes}
-use Rattle.segment_cores.proofs.NearLaws.{sitting, rest-below, rest-above}
+use Rattle.segment_cores.proofs.NearLaws.{sitting, rest-below, release-above}
 use Rattle.segment_cores.proofs.release.Statement.{statement}
 use Rattle.segment_cores.proofs.release.Tie as tie
 
@@ -28,7 +28,7 @@ above : (c : tie.After-free-above) (L M : Ledger)
     Releasing L M (a .v .now) (a .t .now) (a .segments .count) (a .segments .log)
     (a .segments .size) (a .p) (a .n)
     → RunOf (free segmentRule M) (a .p + a .n) (length (a .v .now) - (a .p + a .n)) (c .free-above .result)
-above c L M k = rw (c .free-above .ensures) (rest-above L M _ _ _ _ _ _ _ k)
+above c L M k = rw (c .free-above .ensures) (release-above L M _ _ _ _ _ _ _ k)
 
 merge-requires : tie.Need-merge-requires
 merge-requires c κs =

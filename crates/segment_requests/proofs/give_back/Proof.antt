@@ -1,6 +1,6 @@
 -- `segment_requests::give_back` meets its contract: the words that go back make the act a release. Assumes nothing.
 use Prim.Native.Nat.{ℕ}
-use mathlib.Core.Path.{sym, subst, subst₂}
+use mathlib.Core.Path.{refl, sym, subst, subst₂}
 use mathlib.Core.List.{[], _∷_}
 use borrow.Author.Needs.{needs}
 use denote.Ref.{now}
@@ -12,8 +12,7 @@ use Rattle.calls.specs.Step.{give}
 use Rattle.segment_check.proofs.GateLaws.{InRange}
 use Rattle.calls.specs.Engines.{segmentEngine}
 use Rattle.call_parts.proofs.ResultLaws.{acted-by}
-use Rattle.segment_requests.proofs.ReleaseLaws.{release-range, release-slot, release-releasing}
-use Rattle.segment_requests.proofs.ReleaseLaws.{release-answer, release-pool}
+use Rattle.segment_requests.proofs.PlanLaws.{plan-range, plan-slot, release-releasing, plan-answer, plan-pool}
 use Rattle.segment_requests.proofs.give_back.Statement.{statement}
 use Rattle.segment_requests.proofs.give_back.Tie as tie
 
@@ -30,7 +29,7 @@ rest s = settle (member (s .args .named .ticket) vacate ∷ []) (old s)
 
 range : (s : tie.Start) → InRange (s .args .s) (now (s .args .arena)) (now (s .args .table)) (now (s .args .index))
 range s =
-    release-range (s .args .head) (s .args .s) (now (s .args .arena)) (now (s .args .table))
+    plan-range (s .args .head) (s .args .s) (now (s .args .arena)) (now (s .args .table))
     (now (s .args .index)) (s .args .named) (s .args .slot) (s .pre .0) (s .pre .1)
 
 -- what is released, in the code's own numbers
@@ -74,7 +73,7 @@ write-row-requires : tie.Need-write-row-requires
 write-row-requires c κs =
     let l = c .before .before .before .before in
     let s = l .before .before .before .before .before .before .before .before .before .before in (
-      release-slot (s .args .head) (s .args .s) (now (s .args .arena)) (now (s .args .table))
+      plan-slot (s .args .head) (s .args .s) (now (s .args .arena)) (now (s .args .table))
           (now (s .args .index)) (s .args .named) (s .args .slot) (s .pre .0) (s .pre .1),
       range s .whole,
     )
@@ -97,13 +96,13 @@ returns c =
     let left = subst
     (λ (n : ℕ). Becomes (rest s) (now (s .args .arena)) n (l .release .last .0) (l .release .last .1 .0))
     (g .segments-of .ensures .count) (l .release .ensures (old s) (rest s) (released-at g)) in
-    let after = release-pool (s .args .head) (s .args .s) (now (s .args .arena)) (now (s .args .table))
-    (now (s .args .index)) (s .args .named) (s .args .slot) (s .pre .0) (s .pre .1)
+    let after = plan-pool (s .args .head) (s .args .s) (now (s .args .arena)) (now (s .args .table))
+    (now (s .args .index)) (s .args .named) (s .args .slot) (s .pre .0) (s .pre .1) vacate refl
     (l .release .last .0) (w .write-row .last .0) (l .release .last .1 .0)
     left (w .write-row .ensures) in
     acted-by segmentEngine (give (s .args .named)) (pool s) _ _
-    (release-answer (s .args .head) (s .args .s) (now (s .args .arena)) (now (s .args .table))
-    (now (s .args .index)) (s .args .named) (s .args .slot) (s .pre .0) (s .pre .1))
+    (plan-answer (s .args .head) (s .args .s) (now (s .args .arena)) (now (s .args .table))
+    (now (s .args .index)) (s .args .named) (s .args .slot) (s .pre .0) (s .pre .1) vacate refl)
     after
 
 pub give-back-spec : {M : Type 1} → statement M

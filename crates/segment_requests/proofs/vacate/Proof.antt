@@ -4,10 +4,11 @@ use borrow.Author.Needs.{needs}
 use denote.Ref.{now}
 use Rattle.words.proofs.Tests.{eqb-ne}
 use Rattle.calls.specs.Pool.{Pool}
+use Rattle.calls.specs.Step.{give}
 use Rattle.calls.specs.Engines.{segmentEngine}
 use Rattle.segment_check.specs.Gate.{segmentPool}
 use Rattle.call_parts.proofs.FindLaws.{named-refused, give-refused}
-use Rattle.segment_requests.proofs.RefusedLaws.{vacated-refused}
+use Rattle.segment_requests.proofs.RefusedLaws.{named-refusal}
 use Rattle.segment_requests.proofs.vacate.Statement.{statement}
 use Rattle.segment_requests.proofs.vacate.Tie as tie
 
@@ -41,8 +42,8 @@ returns c =
     let s = n .before .before .before .before in
     let e = sym (n .named-slot .ensures) ∙ v .number .given .1 in
     let x = v .number .given .0 .0 in
-    vacated-refused (s .args .head) (s .args .s) (now (s .args .arena)) (now (s .args .table)) (now (s .args .index))
-    x (eqb-ne x 0 (named-refused (now (s .args .table)) (s .args .named) x e)) (s .args .named)
+    named-refusal (s .args .head) (s .args .s) (now (s .args .arena)) (now (s .args .table)) (now (s .args .index))
+    (give (s .args .named)) (s .args .named) x (eqb-ne x 0 (named-refused (now (s .args .table)) (s .args .named) x e))
     (give-refused segmentEngine (pool s) (s .args .named) x e)
 
 same-length-2 : tie.Need-same-length-2

@@ -1,15 +1,15 @@
 -- `tree_requests::give_back` meets its contract: the cells that go back make the act a release. Assumes nothing.
 use native.Mathlib.Omega.{arith}
-use mathlib.Core.Path.{sym, ap, subst₂, _∙_}
-use mathlib.Core.List.{[]}
+use mathlib.Core.Path.{refl, sym, ap, subst₂, _∙_}
+use mathlib.Core.List.{[], _∷_}
 use borrow.Author.Needs.{needs}
 use denote.Ref.{now}
 use Prim.Native.Nat.{ℕ, _+_, _/_}
 use native.Mathlib.Nat.{div-le-self}
 use lib.ListN.{length}
-use Rattle.ledger.specs.Records.{recordsOf}
+use Rattle.ledger.specs.Records.{recordsOf, vacate, member, settle}
 use Rattle.stored_forms.specs.Tree.{formOf}
-use Rattle.free_blocks.specs.Blocks.{Gives, Given}
+use Rattle.free_blocks.specs.Blocks.{Changed, Gives, Given}
 use Rattle.calls.specs.Step.{give}
 use Rattle.calls.specs.Engines.{treeEngine}
 use Rattle.call_parts.proofs.ResultLaws.{acted-by}
@@ -19,25 +19,36 @@ use Rattle.tree_requests.specs.Outcomes.{handed}
 use Rattle.tree_requests.specs.Sizes.{cellSpan}
 use Rattle.tree_requests.proofs.SizeLaws.{freeCells, cells-fit}
 use Rattle.tree_requests.proofs.RefusedLaws.{released}
-use Rattle.tree_requests.proofs.ReleaseLaws.{release-range, release-slot, release-gives}
-use Rattle.tree_requests.proofs.ReleaseLaws.{release-answer, release-root, release-pool}
+use Rattle.tree_requests.proofs.PlanLaws.{plan-range, plan-slot, plan-answer, plan-gives, plan-given, plan-root}
+use Rattle.tree_requests.proofs.PlanLaws.{plan-pool, release-from, release-some}
 use Rattle.tree_requests.proofs.give_back.Statement.{statement}
 use Rattle.tree_requests.proofs.give_back.Tie as tie
+
+abbrev named-cell : tie.Start → ℕ
+named-cell s = s .args .named .address / formOf (s .args .head .form) .cell
 
 -- what the cells given back leave
 given : (c : tie.After-give-cells)
     → let s = c .before .before .before .before .before .before .before .before in
     let r = s .args .named in
     let F = formOf (s .args .head .form) in
-    Given F (now (s .args .arena)) (c .give-cells .last .1 .0) (s .args .head .root) (r .address / F .cell)
-    (r .address / F .cell + cellSpan F (r .words)) (c .give-cells .result)
+    let a = now (s .args .arena) in
+    let L = recordsOf (now (s .args .table)) in
+    Changed F a (c .give-cells .last .1 .0) (freeCells F (length a) L)
+    (freeCells F (length a) (settle (member (r .ticket) vacate ∷ []) L)) (c .give-cells .result)
 given c =
     let y = c .before .before .before in
     let x = y .before in
     let s = x .before .before .before .before in
-    subst₂ (λ (lo n : ℕ). Given (formOf (s .args .head .form)) (now (s .args .arena)) (c .give-cells .last .1 .0)
-    (s .args .head .root) lo (lo + n) (c .give-cells .result))
-    (x .cell-count .ensures) (y .cells-of .ensures) (c .give-cells .ensures)
+    let h = s .args .head in
+    let a = now (s .args .arena) in
+    let t = now (s .args .table) in
+    plan-given h a t (s .args .named) (s .args .slot) (s .pre .0) (s .pre .1) vacate refl (named-cell s)
+    (release-from h a t (s .args .named) (s .args .slot) (s .pre .0) (s .pre .1))
+    (release-some h a t (s .args .named) (s .args .slot) (s .pre .0) (s .pre .1))
+    (c .give-cells .last .1 .0) (c .give-cells .result)
+    (subst₂ (λ (lo n : ℕ). Given (formOf (h .form)) a (c .give-cells .last .1 .0) (h .root) lo (lo + n) (c .give-cells .result))
+    (x .cell-count .ensures) (y .cells-of .ensures) (c .give-cells .ensures))
 
 cast-cell-count : tie.Need-cast-cell-count
 cast-cell-count c = search needs
@@ -75,16 +86,20 @@ give-cells-requires c κs =
       rs,
       subst₂ (λ (lo n : ℕ). Gives F (now (s .args .arena)) (s .args .head .root) lo (lo + n) rs)
           (sym (x .cell-count .ensures)) (sym (y .cells-of .ensures))
-          (release-gives (s .args .head) (now (s .args .arena)) (now (s .args .table)) (s .args .named) (s .args .slot)
-          (s .pre .0) (s .pre .1)),
+          (plan-gives (s .args .head) (now (s .args .arena)) (now (s .args .table)) (s .args .named) (s .args .slot)
+          (s .pre .0) (s .pre .1) vacate refl (named-cell s)
+          (release-from (s .args .head) (now (s .args .arena)) (now (s .args .table)) (s .args .named) (s .args .slot)
+          (s .pre .0) (s .pre .1))
+          (release-some (s .args .head) (now (s .args .arena)) (now (s .args .table)) (s .args .named) (s .args .slot)
+          (s .pre .0) (s .pre .1))),
     )
 
 write-row-requires : tie.Need-write-row-requires
 write-row-requires c κs =
     let s = c .before .before .before .before .before .before .before .before .before .before .before in (
-      release-slot (s .args .head) (now (s .args .arena)) (now (s .args .table)) (s .args .named) (s .args .slot)
+      plan-slot (s .args .head) (now (s .args .arena)) (now (s .args .table)) (s .args .named) (s .args .slot)
           (s .pre .0) (s .pre .1),
-      release-range (s .args .head) (now (s .args .arena)) (now (s .args .table)) (s .args .named) (s .args .slot)
+      plan-range (s .args .head) (now (s .args .arena)) (now (s .args .table)) (s .args .named) (s .args .slot)
           (s .pre .0) (s .pre .1) .fours,
     )
 
@@ -92,8 +107,8 @@ effect-requires : tie.Need-effect-requires
 effect-requires c κs =
     let g = c .before .before .before .before .before .before in
     let s = g .before .before .before .before .before .before .before .before in (
-      release-root (s .args .head) (now (s .args .arena)) (now (s .args .table)) (s .args .named) (s .args .slot)
-          (s .pre .0) (s .pre .1) (g .give-cells .last .1 .0) (now (s .args .table)) (g .give-cells .result) (given g),
+      plan-root (s .args .head) (now (s .args .arena)) (now (s .args .table)) (s .args .named) (s .args .slot)
+          (s .pre .0) (s .pre .1) vacate refl (g .give-cells .last .1 .0) (g .give-cells .result) (given g),
       omega arith,
     )
 
@@ -112,13 +127,12 @@ returns c =
     let a = now (s .args .arena) in
     let t = now (s .args .table) in
     let (number, root, _) = c .effect .ensures in
-    let q = release-pool h a t (s .args .named) (s .args .slot) (s .pre .0) (s .pre .1) (g .give-cells .last .1 .0)
-    (w .write-row .last .0)
-    (g .give-cells .result) (given g) (w .write-row .ensures) in
+    let q = plan-pool h a t (s .args .named) (s .args .slot) (s .pre .0) (s .pre .1) vacate refl
+    (g .give-cells .last .1 .0) (g .give-cells .result) (given g) (w .write-row .last .0) (w .write-row .ensures) in
     ap (λ (o : Outcome). handed o (g .give-cells .last .1 .0) (w .write-row .last .0) [])
     (released h (c .effect .result) (g .give-cells .result) number root (s .args .named))
     ∙ acted-by treeEngine (give (s .args .named)) (treePool h a t) _ _
-    (release-answer h a t (s .args .named) (s .args .slot) (s .pre .0) (s .pre .1)) q
+    (plan-answer h a t (s .args .named) (s .args .slot) (s .pre .0) (s .pre .1) vacate refl) q
 
 pub give-back-spec : {M : Type 1} → statement M
 give-back-spec =

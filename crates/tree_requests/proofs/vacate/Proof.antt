@@ -3,10 +3,11 @@ use mathlib.Core.Path.{_∙_, sym}
 use borrow.Author.Needs.{needs}
 use denote.Ref.{now}
 use Rattle.words.proofs.Tests.{eqb-ne}
+use Rattle.calls.specs.Step.{give}
 use Rattle.calls.specs.Engines.{treeEngine}
 use Rattle.call_parts.proofs.FindLaws.{named-refused, give-refused}
 use Rattle.tree_check.specs.Gate.{treePool}
-use Rattle.tree_requests.proofs.RefusedLaws.{release-refused, refused-few}
+use Rattle.tree_requests.proofs.RefusedLaws.{named-refusal, refused-few}
 use Rattle.tree_requests.proofs.vacate.Statement.{statement}
 use Rattle.tree_requests.proofs.vacate.Tie as tie
 
@@ -47,8 +48,8 @@ returns c =
     let p = treePool (s .args .head) (now (s .args .arena)) t in
     let e = sym (n .named-slot .ensures) ∙ v .number .given .1 in
     let x = v .number .given .0 .0 in
-    release-refused (s .args .head) (now (s .args .arena)) t (c .no-effect .result) x (c .no-effect .ensures)
-    (eqb-ne x 0 (named-refused t (s .args .named) x e)) (s .args .named)
+    named-refusal (s .args .head) (now (s .args .arena)) t (c .no-effect .result) x (c .no-effect .ensures)
+    (eqb-ne x 0 (named-refused t (s .args .named) x e)) (give (s .args .named)) (s .args .named)
     (give-refused treeEngine p (s .args .named) x e)
 
 same-length-2 : tie.Need-same-length-2

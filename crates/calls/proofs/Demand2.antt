@@ -33,7 +33,7 @@ use Rattle.calls.proofs.ActLaws.{named-right, named-zero, Asked, act-do
 use Rattle.calls.proofs.ActLaws.{planned, act-accepted, act-by}
 use Rattle.calls.proofs.GateLaws.{Way, stops, runs, way, perform-acts, format-done}
 use Rattle.calls.proofs.CallLaws.{reads-kept, refused-pool}
-use Rattle.calls.proofs.GrantLaws.{entered, over, zeroed, length-zeroed, grant-store, grant-valid, grant-sound}
+use Rattle.calls.proofs.GrantLaws.{entered, onArena, zeroed, length-zeroed, grant-store, grant-valid, grant-sound}
 use Rattle.calls.proofs.GrantLaws.{grant-zeros, zeroed-keeps, grant-holds}
 use Rattle.calls.proofs.HeldLaws.{block-kept}
 use Rattle.calls.proofs.TrimLaws.{trims-at, trims-only, keeps-all}
@@ -51,7 +51,7 @@ module _ (E : Engine) (laws : Laws E) where
       let ρ = ruleOf E p in
       let L = entered E p c n k in
       let next = nextAfter (p .head .next) in
-      let below = over p (zeroed E p c n k) in
+      let below = onArena p (zeroed E p c n k) in
       let (x, y) = ask-done E p c n k asked in
       let done = y ∙ grant-store E p c n k in
       let holds = ap (λ (q : Pool). ledger q) done ∙ ledger-store E L next below in
@@ -231,7 +231,7 @@ module _ (E : Engine) (laws : Laws E) where
   count-kept =
       act-by E (λ p a q. wordCount q ≡ wordCount p) (λ p a. refl)
       (λ p c n k asked. ap (λ (q : Pool). wordCount q) (grant-store E p c n k)
-      ∙ words-store E (entered E p c n k) (nextAfter (p .head .next)) (over p (zeroed E p c n k)) ∙ length-zeroed E p c n k)
+      ∙ words-store E (entered E p c n k) (nextAfter (p .head .next)) (onArena p (zeroed E p c n k)) ∙ length-zeroed E p c n k)
       (λ p x r e h. words-store E (settle (member (r .ticket) x ∷ []) (ledger p)) (p .head .next) p)
 
 pub demand2 : (E : Engine) → Laws E → Demand2 E

@@ -1,5 +1,5 @@
--- The laws of both engines, what row 8 says of each one's lengths, and the three demands and the claims on restarts and on
--- freeing early for each. 01, "The pool and its two engines": "Both engines are held to the ledger." Assumes nothing.
+-- The laws of both engines, what row 8 says of each one's lengths, and the three demands and the claims on restarts, on
+-- freeing early and on parties for each. 01, "The pool and its two engines": "Both engines are held to the ledger." Assumes nothing.
 use Prim.Native.Nat.{ℕ, _+_, _*_, _%_, _^_, _≤_, _<_}
 use native.Mathlib.Nat.{div-one}
 use native.Mathlib.Omega.{arith}
@@ -23,7 +23,7 @@ use Rattle.stored_forms.specs.Segments.{segmentRule, controlWord, segmentWord, 
 use Rattle.stored_forms.specs.Segments.{segmentRange}
 use Rattle.stored_forms.proofs.NodeLaws.{form-unit}
 use Rattle.stored_forms.proofs.SegmentLaws.{lead-segment, power-is, free-run-maximal, control-free, control-free-inside}
-use Rattle.calls.specs.Pool.{Pool, ledger, wordCount, Laws, lengths, sound}
+use Rattle.calls.specs.Pool.{Pool, Engine, ledger, wordCount, Laws, lengths, sound}
 use Rattle.calls.specs.Engines.{treeEngine, segmentEngine}
 use Rattle.calls.specs.Demand1.{Demand1}
 use Rattle.calls.specs.Demand2.{Demand2}
@@ -64,71 +64,83 @@ segment-laws =
 
 -- ---- row 8: "a lent length or S lies outside the ranges above"
 
--- Tree pool: whole units, from one to the most words of the form, whose number is 1, 2 or 3 (02, tickets 3 and 11).
--- "tables are 4 to 1,024 words, a multiple of four" (ticket 6). It has no index.
-pub tree-lengths : (p : Pool) → Says (lengths treeEngine p)
-    ((isForm (p .shape) ≡ true) × (formOf (p .shape) .unit ≤ wordCount p) × (wordCount p ≤ formOf (p .shape) .most)
-    × (wordCount p % formOf (p .shape) .unit ≡ 0)
-    × (length (p .table) % 4 ≡ 0) × (4 ≤ length (p .table)) × (length (p .table) ≤ 1024) × (length (p .index) ≡ 0))
-unfolding lengths treeEngine treeRange
-tree-lengths p =
-    let W = wordCount p in
-    let F = formOf (p .shape) in
+-- Of any engine: its own range of words, "tables are 4 to 1,024 words, a multiple of four" (02, ticket 6), and the index.
+engine-lengths : (E : Engine) (p : Pool) → Says (lengths E p)
+    ((E .known (p .shape) ≡ true) × (E .range (p .shape) (wordCount p) ≡ true)
+    × (length (p .table) % 4 ≡ 0) × (4 ≤ length (p .table)) × (length (p .table) ≤ 1024)
+    × (length (p .index) ≡ E .indexWords (p .shape)))
+unfolding lengths
+engine-lengths E p =
     let t = slots (p .table) in (
       (λ h.
           let few = le-of 1 t (search (and-l, and-r)) in
           let many = le-of t 256 (search (and-l, and-r)) in
           let whole = eqb-eq (length (p .table) % 4) 0 (search (and-l, and-r)) in (
             search (and-l, and-r) depth 8,
-            le-of (F .unit) W (search (and-l, and-r) depth 8),
-            le-of W (F .most) (search (and-l, and-r) depth 8),
-            eqb-eq (W % F .unit) 0 (search (and-l, and-r)),
+            search (and-l, and-r) depth 8,
             whole,
             omega arith,
             omega arith,
-            eqb-eq (length (p .index)) 0 (search (and-l, and-r)),
+            eqb-eq (length (p .index)) (E .indexWords (p .shape)) (search (and-l, and-r)),
           )),
       (λ h.
           let few : 1 ≤ t = omega arith in
           let many : t ≤ 256 = omega arith in
-          rw (h .0, of-le (F .unit) W (h .1), of-le W (F .most) (h .2), h .3, h .4, of-le 1 t few, of-le t 256 many, h .7)),
+          rw (h .0, h .1, h .2, of-le 1 t few, of-le t 256 many, h .5, eqb-same (E .indexWords (p .shape)))),
     )
 
--- Segment pool: W "of them, 2 to 16,384", the table as above, S "a power of two, 1 to 256", and "Index: 3S unsigned
--- words".
+-- Tree pool: whole units, from one to the most words of the form, whose number is 1, 2 or 3 (02, tickets 3 and 11). It
+-- has no index.
+pub tree-lengths : (p : Pool) → Says (lengths treeEngine p)
+    ((isForm (p .shape) ≡ true) × (formOf (p .shape) .unit ≤ wordCount p) × (wordCount p ≤ formOf (p .shape) .most)
+    × (wordCount p % formOf (p .shape) .unit ≡ 0)
+    × (length (p .table) % 4 ≡ 0) × (4 ≤ length (p .table)) × (length (p .table) ≤ 1024) × (length (p .index) ≡ 0))
+unfolding treeEngine treeRange
+tree-lengths p =
+    let W = wordCount p in
+    let F = formOf (p .shape) in (
+      (λ h.
+          let (known, range, whole, few, many, index) = engine-lengths treeEngine p .0 h in (
+            known,
+            le-of (F .unit) W (search (and-l, and-r)),
+            le-of W (F .most) (search (and-l, and-r)),
+            eqb-eq (W % F .unit) 0 (search (and-l, and-r)),
+            whole,
+            few,
+            many,
+            index,
+          )),
+      (λ h.
+          engine-lengths treeEngine p .1
+          (h .0, rw (of-le (F .unit) W (h .1), of-le W (F .most) (h .2), h .3) refl, h .4, h .5, h .6, h .7)),
+    )
+
+-- Segment pool: W "of them, 2 to 16,384", S "a power of two, 1 to 256", and "Index: 3S unsigned words".
 pub segment-lengths : (p : Pool) → Says (lengths segmentEngine p)
     ((2 ≤ wordCount p) × (wordCount p ≤ 16384) × ((d : ℕ) × (d ≤ 8) × (p .shape ≡ 2 ^ d))
     × (length (p .table) % 4 ≡ 0) × (4 ≤ length (p .table)) × (length (p .table) ≤ 1024)
     × (length (p .index) ≡ 3 * p .shape))
-unfolding lengths segmentEngine segmentRange
+unfolding segmentEngine segmentRange
 segment-lengths p =
-    let W = wordCount p in
-    let t = slots (p .table) in (
+    let W = wordCount p in (
       (λ h.
-          let few = le-of 1 t (search (and-l, and-r)) in
-          let many = le-of t 256 (search (and-l, and-r)) in
-          let whole = eqb-eq (length (p .table) % 4) 0 (search (and-l, and-r)) in
-          let range : segmentRange (p .shape) W ≡ true = search (and-l, and-r) in (
+          let (known, range, whole, few, many, index) = engine-lengths segmentEngine p .0 h in (
             le-of 2 W (search (and-l, and-r)),
             le-of W 16384 (search (and-l, and-r)),
             power-is (p .shape) depth .0 (search (and-l, and-r)),
             whole,
-            omega arith,
-            omega arith,
-            eqb-eq (length (p .index)) (3 * p .shape) (search (and-l, and-r)),
+            few,
+            many,
+            index,
           )),
       (λ h.
-          let few : 1 ≤ t = omega arith in
-          let many : t ≤ 256 = omega arith in
-          rw (
-            of-le 2 W (h .0),
-            of-le W 16384 (h .1),
-            power-is (p .shape) depth .1 (h .2),
+          engine-lengths segmentEngine p .1 (
+            refl,
+            rw (of-le 2 W (h .0), of-le W 16384 (h .1), power-is (p .shape) depth .1 (h .2)) refl,
             h .3,
-            of-le 1 t few,
-            of-le t 256 many,
+            h .4,
+            h .5,
             h .6,
-            eqb-same (3 * p .shape),
           )),
     )
 

@@ -30,8 +30,8 @@ use Rattle.calls.proofs.RowLaws.{fit-found}
 use Rattle.calls.proofs.ActLaws.{Asked}
 
 -- the pool over another arena
-abbrev pub over : Pool → Words → Pool
-over p a = record { head = p .head; shape = p .shape; arena = a; table = p .table; index = p .index }
+abbrev pub onArena : Pool → Words → Pool
+onArena p a = record { head = p .head; shape = p .shape; arena = a; table = p .table; index = p .index }
 
 -- the next ticket after n is 0 or above n
 pub next-above : (n : ℕ) → (eqb (nextAfter n) 0 || ltb n (nextAfter n)) ≡ true
@@ -76,7 +76,7 @@ unfolding zeroed
 length-zeroed E p c n k = length-wiped 0 (start E p c n k) (end E p c n k) (p .arena)
 
 pub grant-store : (E : Engine) (p : Pool) (c n k : ℕ)
-    → grant E p c n k ≡ store E (entered E p c n k) (nextAfter (p .head .next)) (over p (zeroed E p c n k))
+    → grant E p c n k ≡ store E (entered E p c n k) (nextAfter (p .head .next)) (onArena p (zeroed E p c n k))
 unfolding grant zeroed
 grant-store E p c n k = refl
 
@@ -103,7 +103,7 @@ module _ (E : Engine) (laws : Laws E) (p : Pool) (ok : sound E p ≡ true) (c n 
   unfolding lengths
   grant-sound =
       ap (λ (q : Pool). sound E q) (grant-store E p c n k)
-      ∙ store-sound E laws (over p (zeroed E p c n k)) (entered E p c n k) (nextAfter (p .head .next))
+      ∙ store-sound E laws (onArena p (zeroed E p c n k)) (entered E p c n k) (nextAfter (p .head .next))
       (rw (length-zeroed E p c n k) (sound-lengths E laws p ok))
       (length-table-enter (newRow E p c n k) (ledger p) ∙ ap length (sym (is-table E laws p ok)))
       (rw (length-zeroed E p c n k) grant-valid)
@@ -136,7 +136,7 @@ module _ (E : Engine) (laws : Laws E) (p : Pool) (ok : sound E p ≡ true) (c n 
       let hi = end E p c n k in
       let own = and-i (isLive new) (within lo hi i) live (within-in lo hi i a b) in
       ap (λ (q : Pool). getD (q .arena) i 0) (grant-store E p c n k)
-      ∙ store-keeps E (entered E p c n k) (nextAfter (p .head .next)) (over p (zeroed E p c n k)) i
+      ∙ store-keeps E (entered E p c n k) (nextAfter (p .head .next)) (onArena p (zeroed E p c n k)) i
       (owned-enter ρ new (ledger p) (asked .slot) i ∙ rw own (or-true (owned ρ (ledger p) i)))
       ∙ wiped-in 0 lo hi (p .arena) i 0 a b (le-trans b grant-inside)
 

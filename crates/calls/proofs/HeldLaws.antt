@@ -23,7 +23,7 @@ use Rattle.ledger.proofs.UnitLaws.{valid-at, valid-record, covers-in, disjoint,
 use Rattle.calls.specs.Pool.{Pool, ledger, wordCount, Engine, Laws, ruleOf, store, sound}
 use Rattle.calls.specs.Demand2.{Untouched}
 use Rattle.calls.proofs.StoreLaws.{ledger-store, arena-store, store-keeps, sound-valid, is-store}
-use Rattle.calls.proofs.GrantLaws.{over}
+use Rattle.calls.proofs.GrantLaws.{onArena}
 
 -- ---- words before the address
 
@@ -85,10 +85,10 @@ module _ (E : Engine) (laws : Laws E) where
       → (L : Ledger) (n : ℕ) → valid (ruleOf E p) (wordCount p) n L ≡ true
       → (r : Row) → recordOf (r .ticket) (ledger p) ≡ some r → recordOf (r .ticket) L ≡ some r
       → ((i : ℕ) → owned (ruleOf E p) (ledger p) i ≡ true → getD a i 0 ≡ getD (p .arena) i 0)
-      → Untouched E p (store E L n (over p a)) r
+      → Untouched E p (store E L n (onArena p a)) r
   block-kept p ok a len L n good r old new same =
       record {
-        holds = ap (recordOf (r .ticket)) (ledger-store E L n (over p a)) ∙ new;
+        holds = ap (recordOf (r .ticket)) (ledger-store E L n (onArena p a)) ∙ new;
         words = λ i lo hi. go i lo hi (decLe (r .address) i);
       }
     where
@@ -96,13 +96,13 @@ module _ (E : Engine) (laws : Laws E) where
       ρ = ruleOf E p
 
       go : (i : ℕ) → ρ .unit * first ρ r ≤ i → i < ρ .unit * past ρ r → Dec (r .address ≤ i)
-          → getD (store E L n (over p a) .arena) i 0 ≡ getD (p .arena) i 0
+          → getD (store E L n (onArena p a) .arena) i 0 ≡ getD (p .arena) i 0
       go i lo hi (yes h) =
-          store-keeps E L n (over p a) i (owned-in ρ L r new i h hi) ∙ same i (owned-in ρ (ledger p) r old i h hi)
+          store-keeps E L n (onArena p a) i (owned-in ρ L r new i h hi) ∙ same i (owned-in ρ (ledger p) r old i h hi)
       go i lo hi (no h) =
           let c : i < r .address = omega arith in
           let was = sound-valid E laws p ok in
-          lead-word (over p a) L n (rw len good) r new i lo hi c
+          lead-word (onArena p a) L n (rw len good) r new i lo hi c
           ∙ ap (λ W. E .word (p .shape) W L i) len
           ∙ laws .lead (p .shape) (wordCount p) n (p .head .next) L (ledger p) r i good was new old lo c
           ∙ sym (lead-word p (ledger p) (p .head .next) was r old i lo hi c)

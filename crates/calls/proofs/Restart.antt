@@ -31,7 +31,7 @@ use Rattle.calls.specs.Restart.{RefusedBelow, NoneBelow, Restart}
 use Rattle.calls.proofs.StoreLaws.{ledger-store, whole-records, blank-long}
 use Rattle.calls.proofs.ActLaws.{Asked, named-none, act-refused, act-by}
 use Rattle.calls.proofs.GateLaws.{Way, stops, runs, way, fills-head, perform-acts, format-done}
-use Rattle.calls.proofs.GrantLaws.{over, record-enter, entered, zeroed, grant-store}
+use Rattle.calls.proofs.GrantLaws.{onArena, record-enter, entered, zeroed, grant-store}
 use Rattle.calls.proofs.LentLaws.{leave-all, own-table, fills-seen, makes-seen, outcome-is, quiet-after}
 use Rattle.calls.proofs.LentLaws.{returned-head}
 use Rattle.calls.proofs.CallLaws.{act-kept}
@@ -71,7 +71,7 @@ module _ (E : Engine) (n long : ℕ) where
 
     grant-fresh : (p : Pool) (c m k : ℕ) → Asked E p c m k → Fresh n long p → Fresh n long (grant E p c m k)
     grant-fresh p c m k asked f =
-        fresh-store (over p (zeroed E p c m k)) (grant E p c m k) (entered E p c m k) (nextAfter (p .head .next))
+        fresh-store (onArena p (zeroed E p c m k)) (grant E p c m k) (entered E p c m k) (nextAfter (p .head .next))
         (grant-store E p c m k) dead later (length-table-enter (newRow E p c m k) (ledger p) ∙ records-long p f)
       where
         above : n ≤ p .head .next

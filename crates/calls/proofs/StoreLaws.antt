@@ -207,12 +207,12 @@ sound-form E laws p = (
   (λ ok. record {
     of = ledger p;
     next = p .head .next;
-    over = p;
+    base = p;
     right = sound-lengths E laws p ok;
     slots = ap length (sym (is-table E laws p ok));
     good = sound-valid E laws p ok;
     form = is-store E laws p ok;
   }),
-  (λ s. ap (λ (q : Pool). sound E q) (s .form) ∙ store-sound E laws (s .over) (s .of) (s .next) (s .right) (s .slots)
+  (λ s. ap (λ (q : Pool). sound E q) (s .form) ∙ store-sound E laws (s .base) (s .of) (s .next) (s .right) (s .slots)
       (s .good)),
 )

@@ -13,7 +13,7 @@ use Rattle.calls.specs.Step.{behind, gate, actsDone, perform, step}
 use Rattle.calls.specs.Engines.{treeEngine, segmentEngine}
 use Rattle.calls.specs.Search.{placesOf}
 use Rattle.calls.specs.Lent.{isWhole, ownTable, headReturns, outcome, after}
-use Rattle.calls.specs.Demand3.{live, isDue, isReplay, stands, afterAct}
+use Rattle.calls.specs.Demand3.{live, isDue, isReplay, isOld, stands, afterAct}
 use Rattle.calls.specs.Restart.{asLeft}
 
 unfoldable pub ledgerOpened : Unit {0}
@@ -26,7 +26,7 @@ unfolding store samePool lengths stored sound copied named fitOf numberOf grant 
 stepOpened = tt
 
 unfoldable pub sequenceOpened : Unit {0}
-unfolding isWhole ownTable headReturns outcome after live isDue isReplay stands afterAct asLeft
+unfolding isWhole ownTable headReturns outcome after live isDue isReplay isOld stands afterAct asLeft
 sequenceOpened = tt
 
 unfoldable pub treeMachine : Unit {0}

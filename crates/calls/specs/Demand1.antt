@@ -1,8 +1,8 @@
 -- Demand 1: any call on any memory gets the number that the table of 01 fixes, and a refused call leaves every word
--- as it stood. 01, "Calls and numbers"; a format's 6: 02, ticket 2; 12 and copies: ticket 6; a trim's 2:
--- ticket 13. Proved in proofs/Demand1; what row 8 says of each engine's lengths is in proofs/Engines. That a call ends, and stays inside what was lent, is shown elsewhere: `step` is
--- a function on any memory, and the code's own proofs (the gate) show that every call of the code ends and stays
--- inside. Assumes nothing.
+-- as it stood. 01, "Calls and numbers"; a format's 6: 02, ticket 2; 11: ticket 3; 12 and copies: ticket 6; a trim's 2:
+-- ticket 13. Proved in proofs/Demand1; what row 8 says of each engine's lengths is in proofs/Engines. That a call ends,
+-- and stays inside what was lent, is shown elsewhere: `step` is a function on any memory, and the code's own proofs (the
+-- gate) show that every call of the code ends and stays inside. Assumes nothing.
 use Prim.Native.Nat.{ℕ, _+_, _*_, _/_, _%_, _≤_, _<_}
 use mathlib.Core.Path.{_≡_}
 use mathlib.Core.Logic.{_≢_, _↔_, _⊎_}

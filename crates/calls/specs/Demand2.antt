@@ -122,7 +122,7 @@ pub record Demand2 (E : Engine) : Type 0 where
       × (ledger (step E (format first) p .pool) ≡ blank E p)
       × (step E (format first) p .pool .head .next ≡ first)
       × (step E (format first) p .answer ≡ zeroAnswer)
-  -- no act changes the arena's length or S
+  -- no act changes the arena's length, nor the form or S
   pub keeps : (p : Pool) (a : Act) → (wordCount (poolAfter E p a) ≡ wordCount p) × (poolAfter E p a .shape ≡ p .shape)
   pub merged : (p : Pool)
       → AreRuns (free (ruleOf E p) (ledger p)) (wordCount p / ruleOf E p .unit)

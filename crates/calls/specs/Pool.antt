@@ -82,7 +82,7 @@ module _ (E : Engine) where
     index = E .index (p .shape) (wordCount p) L;
   }
 
-  -- Row 8: every lent length and S lie in their ranges, which a form has that is known.
+  -- Row 8: every lent length and S lie in their ranges. A form that is not known has none.
   unfoldable pub lengths : Pool → Bool
   lengths p =
       E .known (p .shape) && E .range (p .shape) (wordCount p)
@@ -103,11 +103,11 @@ module _ (E : Engine) where
   pub record StoredForm (p : Pool) : Type 0 where
     pub of : Ledger
     pub next : ℕ
-    pub over : Pool
-    pub right : lengths over ≡ true
-    pub slots : length (tableOf of) ≡ length (over .table)
-    pub good : valid (ruleOf over) (wordCount over) next of ≡ true
-    pub form : p ≡ store of next over
+    pub base : Pool
+    pub right : lengths base ≡ true
+    pub slots : length (tableOf of) ≡ length (base .table)
+    pub good : valid (ruleOf base) (wordCount base) next of ≡ true
+    pub form : p ≡ store of next base
 
 -- What the laws ask of an engine.
 pub record Laws (E : Engine) : Type 0 where

@@ -14,7 +14,7 @@ use Rattle.stored_forms.specs.Blocks.{Zeros}
 use Rattle.stored_forms.proofs.NodeLaws.{Readable}
 use Rattle.tree_nodes.specs.Nodes.{cells, NodeCleared}
 use Rattle.free_tree.specs.Shapes.{insert, shrink, beginsAt}
-use Rattle.free_tree.specs.Held.{At, Deleted, Longer, Shrunk, Seat}
+use Rattle.free_tree.specs.Held.{At, Deleted, Longer, Shrunk, NodeOf}
 use Rattle.free_tree.proofs.ChangeLaws.{within-delete, insert-tree}
 use Rattle.free_tree.proofs.CellLaws.{outside-first}
 use Rattle.free_tree.proofs.ShrinkLaws.{shrink-is}
@@ -75,10 +75,10 @@ module _ {F : Form} (readable : Readable F (F .links)) where
       → (t : Tree) × At F m root t
   take-tree (xs, r, ys, p) = (treeOf (xs ++ r ∷ ys), p .lies .tree)
 
-  pub take-seat : {m : Words} {root block over k : ℕ}
+  pub take-node : {m : Words} {root block over k : ℕ}
       → Takeable F m root block over k
-      → Seat F m root block over
-  take-seat (xs, r, ys, p) = p .seat
+      → NodeOf F m root block over
+  take-node (xs, r, ys, p) = p .node-of
 
   module _ {m : Words} {root block over k n : ℕ} (len : n ≡ lengthAt F m (block - 1)) where
     at-block : (xs : List Run) (r : Run) (ys : List Run) → Takes F m root block over k xs r ys

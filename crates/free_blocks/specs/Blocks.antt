@@ -11,7 +11,7 @@ use Rattle.ledger.specs.Runs.{addRun, shorten}
 use Rattle.stored_forms.specs.Tree.{Form, treeOf}
 use Rattle.stored_forms.specs.Blocks.{Zeros}
 use Rattle.tree_nodes.specs.Nodes.{cells}
-use Rattle.free_tree.specs.Held.{At, Seat}
+use Rattle.free_tree.specs.Held.{At, NodeOf}
 
 -- At the link `root` lies the tree of the runs rs, which lie apart and in order.
 pub record Lies (F : Form) (m : Words) (root : ℕ) (rs : List Run) : Type 0 where
@@ -31,7 +31,7 @@ pub record Changed (F : Form) (m m′ : Words) (rs rs′ : List Run) (root′ : 
 pub record Takes (F : Form) (m : Words) (root block over k : ℕ) (xs : List Run) (r : Run) (ys : List Run) : Type 0 where
   pub lies : Lies F m root (xs ++ r ∷ ys)
   pub at : block ≡ suc (r .start)
-  pub seat : Seat F m root block over
+  pub node-of : NodeOf F m root block over
   pub some : 1 ≤ k
   pub enough : k ≤ r .size
 

@@ -18,7 +18,7 @@ use Rattle.tree_nodes.proofs.LinkLaws.{other-link, both-few}
 use Rattle.free_tree.specs.Shapes.{below, above, standsAbove, splitTop, insert, delete, Stops, beginsAt}
 use Rattle.free_tree.specs.Links.{linksChanged}
 use Rattle.free_tree.specs.Held.{At, Became, NoNode, NoNodeNor, Beside, BothJoined, Parted, Parts, Apart, Room}
-use Rattle.free_tree.specs.Held.{PutOver, Deleted, Between, Placed, Seat}
+use Rattle.free_tree.specs.Held.{PutOver, Deleted, Between, Placed, NodeOf}
 use Rattle.free_tree.proofs.RunOrder.{wider}
 use Rattle.free_tree.proofs.PartLaws.{below-apart, above-apart}
 use Rattle.free_tree.proofs.LinkLaws.{parts-few, link-other, top-changed}
@@ -276,10 +276,10 @@ module _ {F : Form} (readable : Readable F (F .links)) where
         rooted (λ t. Stops (beginsAt x) t → at - 1 ≡ x) z (λ a n b q e. eqb-eq (at - 1) x e) (w .sub) (w .tree)
         (w .end)
 
-    pub placed-seat : ((T : Tree) × At F m l T) → Seat F m l at over
-    placed-seat tree =
+    pub placed-node : ((T : Tree) × At F m l T) → NodeOf F m l at over
+    placed-node tree =
         (z, subst (λ y. Placed F m l (beginsAt y) y at over) (sym (placed-cell tree)) placed)
 
-    pub seat-deleted : {m′ : Words} {k : ℕ} → Deleted F m m′ l (at - 1) k → Deleted F m m′ l x k
-    seat-deleted {m′} {k} done t p =
+    pub node-deleted : {m′ : Words} {k : ℕ} → Deleted F m m′ l (at - 1) k → Deleted F m m′ l x k
+    node-deleted {m′} {k} done t p =
         subst (λ y. Became F m m′ (NoNode t) k (delete y t)) (placed-cell (t, p)) (done t p)

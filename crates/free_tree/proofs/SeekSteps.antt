@@ -15,7 +15,7 @@ use Rattle.stored_forms.proofs.TreeLaws.{longEnough}
 use Rattle.stored_forms.proofs.NodeLaws.{Readable, within-le, link-within}
 use Rattle.tree_nodes.specs.Nodes.{cells}
 use Rattle.free_tree.specs.Shapes.{Under, whole, goLeft, Stops, beginsAt, linkTo}
-use Rattle.free_tree.specs.Held.{At, Seat, LeftmostFound}
+use Rattle.free_tree.specs.Held.{At, NodeOf, LeftmostFound}
 use Rattle.free_tree.proofs.StepLaws.{rooted, rooted-length, at-none, at-left}
 
 -- the link to the leftmost fit of a tree whose root fits, else the last link that fitted
@@ -105,8 +105,8 @@ module _ {F : Form} (readable : Readable F (F .links)) where
               (goLeft (u x (omega (arith, within-le b (l - 1 + n) h (w .2)))) (eqb-ne (l - 1) x (λ e. omega arith)) k),
         )) t q w u
 
-    pub left-seat : Seat F m root l over
-    left-seat = (
+    pub left-node : NodeOf F m root l over
+    left-node = (
       z,
       λ T p.
           let (t, q, h, w, u) = inv T p in

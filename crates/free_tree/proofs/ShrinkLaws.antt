@@ -15,7 +15,7 @@ use Rattle.stored_forms.specs.Tree.{Tree, leaf, node, inorder, Heaped, shorterT
 use Rattle.stored_forms.proofs.TreeLaws.{tree-unique}
 use Rattle.stored_forms.specs.Blocks.{Within, NotFirst}
 use Rattle.stored_forms.proofs.NodeLaws.{within-le}
-use Rattle.free_tree.specs.Shapes.{below, above, join, standsAbove, insert, delete, standsOver, settle, shrink}
+use Rattle.free_tree.specs.Shapes.{below, above, join, standsAbove, insert, delete, standsOver, heapify, shrink}
 use Rattle.free_tree.specs.Shapes.{putRun, beginsAt}
 use Rattle.free_tree.specs.Held.{Apart}
 use Rattle.free_tree.proofs.RunOrder.{wider, within-all, firstThat-past, firstThat-before, beginsElsewhere}
@@ -94,8 +94,8 @@ module _ (r : Run) (a b : Tree) (lo hi : ℕ) (under : Within lo (r .start) a) (
       within-join a b lo (r .start) hi under
       (wider b (r .start + r .size) (r .start) hi hi (omega arith) (omega arith) over)
 
-  pub within-settle : Within lo hi (settle r a b)
-  within-settle = go (standsOver r a && standsOver r b)
+  pub within-heapify : Within lo hi (heapify r a b)
+  within-heapify = go (standsOver r a && standsOver r b)
     where
       low : lo ≤ r .start
       low = within-le a lo (r .start) under
@@ -119,8 +119,8 @@ module _ (r : Run) (a b : Tree) (lo hi : ℕ) (under : Within lo (r .start) a) (
       (within-all (startsBelow x) a lo x under (λ q u v w. of-lt (q .start) x (omega arith)))
       (within-all (startsFrom x) b (x + r .size) hi over (λ q u v w. ap not (of-ge (q .start) x (omega arith))))
 
-  settle-is : Heaped a → Heaped b → settle r a b ≡ insert r both
-  settle-is h k = go (standsOver r a) refl (standsOver r b) refl
+  heapify-is : Heaped a → Heaped b → heapify r a b ≡ insert r both
+  heapify-is h k = go (standsOver r a) refl (standsOver r b) refl
     where
       rs : List Run
       rs = inorder a ++ r ∷ inorder b
@@ -212,14 +212,14 @@ module _ (x k n : ℕ) (more : k < n) where
           → (Found a → Within lo (q .start) (shrink x k a))
           → (Found b → Within (q .start + q .size) hi (shrink x k b))
           → Within lo hi (cond c (node (shrink x k a) q b)
-          (cond d (node a q (shrink x k b)) (settle (run (x + k) (q .size - k)) a b)))
+          (cond d (node a q (shrink x k b)) (heapify (run (x + k) (q .size - k)) a b)))
       go true e d g i j = (i (sym (found-left x a q b lo hi w (lt-of x (q .start) e)) ∙ f), w .1, w .2)
       go false e true g i j =
           (w .0, w .1, j (sym (found-right x a q b lo hi w (lt-of (q .start) x g)) ∙ f))
       go false e false g i j =
           let same : q .start ≡ x = omega (arith, not-lt x (q .start) e, not-lt (q .start) x g) in
           let size = here-size x n a q b lo hi w same f in
-          within-settle (run (x + k) (q .size - k)) a b lo hi
+          within-heapify (run (x + k) (q .size - k)) a b lo hi
           (wider a lo lo (q .start) (x + k) (omega arith) (omega arith) (w .0)) (omega arith)
           (wider b (q .start + q .size) (x + k + (q .size - k)) hi hi (omega arith) (omega arith) (w .2))
 
@@ -233,7 +233,7 @@ module _ (x k n : ℕ) (more : k < n) where
       go : (c : Bool) → ltb x (q .start) ≡ c → (d : Bool) → ltb (q .start) x ≡ d
           → (Found a → shrink x k a ≡ insert rest (delete x a)) → (Found b → shrink x k b ≡ insert rest (delete x b))
           → cond c (node (shrink x k a) q b)
-          (cond d (node a q (shrink x k b)) (settle (run (x + k) (q .size - k)) a b))
+          (cond d (node a q (shrink x k b)) (heapify (run (x + k) (q .size - k)) a b))
           ≡ insert rest (cond c (node (delete x a) q b) (cond d (node a q (delete x b)) (join a b)))
       go true e d g i j =
           let in-left = sym (found-left x a q b lo hi w (lt-of x (q .start) e)) ∙ f in
@@ -254,6 +254,6 @@ module _ (x k n : ℕ) (more : k < n) where
           let same : q .start ≡ x = omega (arith, not-lt x (q .start) e, not-lt (q .start) x g) in
           let size = here-size x n a q b lo hi w same f in
           rw size
-          (settle-is rest a b lo hi
+          (heapify-is rest a b lo hi
           (wider a lo lo (q .start) (x + k) (omega arith) (omega arith) (w .0)) (omega arith)
           (wider b (q .start + q .size) (x + k + (n - k)) hi hi (omega arith) (omega arith) (w .2)) (h .2) (h .3))

@@ -16,7 +16,7 @@ use Rattle.tree_nodes.specs.Nodes.{cells, NodePut}
 use Rattle.free_tree.specs.Shapes.{join, standsAbove, standsOver, shrink, Stops, beginsAt}
 use Rattle.free_tree.specs.Links.{linkOf}
 use Rattle.free_tree.specs.Held.{At, Became, NoNodeNor, Beside, BothJoined, Placed, Room, Inserted, OverRoot}
-use Rattle.free_tree.specs.Held.{Between, Settled, Longer}
+use Rattle.free_tree.specs.Held.{Between, Heapified, Longer}
 use Rattle.free_tree.proofs.RunOrder.{wider}
 use Rattle.free_tree.proofs.CellLaws.{no-node-below, no-node-above, same-zeros}
 use Rattle.free_tree.proofs.StepLaws.{rooted-length, at-none, at-left, at-right}
@@ -85,15 +85,15 @@ module _ {F : Form} (readable : Readable F (F .links)) where
 
   module _ {m m′ : Words} {a b x n : ℕ} {v w : Bool} (low : OverRoot F m a (run x n) v)
       (high : OverRoot F m b (run x n) w) where
-    pub settle-top : (v && w) ≡ true → NodePut F m m′ x n a b → Settled F m m′ a b (run x n) (x + 1)
-    settle-top e put ta tb p =
+    pub heapify-top : (v && w) ≡ true → NodePut F m m′ x n a b → Heapified F m m′ a b (run x n) (x + 1)
+    heapify-top e put ta tb p =
         let made = put-between readable p put in
         rw (sym (low ta (p .left)), sym (high tb (p .right)), e)
         (record { tree = made .tree; frame = λ d o. made .frame d (o .2); long = made .long })
 
-    pub settle-among : {m₁ : Words} {j q : ℕ} (k : ℕ) → (v && w) ≡ false → BothJoined F m m₁ a b j
-        → Inserted F m₁ m′ j (run x n) k → q ≡ linkOf k → Settled F m m′ a b (run x n) q
-    settle-among k e post ins f ta tb p =
+    pub heapify-among : {m₁ : Words} {j q : ℕ} (k : ℕ) → (v && w) ≡ false → BothJoined F m m₁ a b j
+        → Inserted F m₁ m′ j (run x n) k → q ≡ linkOf k → Heapified F m m′ a b (run x n) q
+    heapify-among k e post ins f ta tb p =
         let made = post ta tb (beside p) in
         let put = ins (join ta tb) (joined-room post p) .0 in
         rw (sym (low ta (p .left)), sym (high tb (p .right)), e, f)
@@ -215,7 +215,7 @@ module _ {F : Form} (readable : Readable F (F .links)) where
         let w = sons-between same p in
         (longer-here same p, omega (arith, between-in (ta, tb, w) .1), (ta, tb, w))) t e p
 
-    pub shrink-here : {m′ : Words} {q n : ℕ} → Settled F m m′ a b (run (x + k) (i - k)) q
+    pub shrink-here : {m′ : Words} {q n : ℕ} → Heapified F m m′ a b (run (x + k) (i - k)) q
         → (t : Tree) → Stops (beginsAt x) t → Longer F m l (run x n) k t
         → Became F m m′ (NoNodeNor t (x + k)) q (shrink x k t)
     shrink-here {m′} {q} post =

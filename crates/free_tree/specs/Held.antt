@@ -12,7 +12,7 @@ use Rattle.stored_forms.specs.Tree.{Tree, leaf, node, inorder, Form, lengthAt, 
 use Rattle.stored_forms.specs.Blocks.{leftmost}
 use Rattle.stored_forms.specs.Blocks.{Within, NotFirst, Holds, Zeros}
 use Rattle.tree_nodes.specs.Nodes.{cells, Same, LeftSet, RightSet}
-use Rattle.free_tree.specs.Shapes.{top, join, below, above, splitTop, insert, delete, standsOver, settle}
+use Rattle.free_tree.specs.Shapes.{top, join, below, above, splitTop, insert, delete, standsOver, heapify}
 use Rattle.free_tree.specs.Shapes.{shrink, Under, Stops, endsAt, beginsAt, linkTo}
 use Rattle.free_tree.specs.Links.{sonsChanged, linksChanged, partsChanged, linkOf, countOf}
 
@@ -108,8 +108,8 @@ abbrev pub Placed : Form → Words → ℕ → (Run → Bool) → ℕ → ℕ �
 Placed F m l stop x at over = (T : Tree) → At F m l T → Place F m stop x T at over
 
 -- the node at the link `at` is one of the tree at the link l, and its father has the link `over`, 0 for none
-abbrev pub Seat : Form → Words → ℕ → ℕ → ℕ → Type 0
-Seat F m l at over = (at ≢ 0) × Placed F m l (beginsAt (at - 1)) (at - 1) at over
+abbrev pub NodeOf : Form → Words → ℕ → ℕ → ℕ → Type 0
+NodeOf F m l at over = (at ≢ 0) × Placed F m l (beginsAt (at - 1)) (at - 1) at over
 
 -- The link q is set at the node at the link `over`, on the side where cell x is, and the link to the whole is `root` as
 -- before; where there is no such node, q is the link to the whole.
@@ -171,10 +171,10 @@ abbrev pub NoNodeOfNor : Tree → Tree → ℕ → ℕ → Type 0
 NoNodeOfNor t u x c = NotFirst c t × NotFirst c u × (c ≢ x)
 
 -- what putting the run r on top of the trees at the links a and b, or among them, ensures, k the link to the whole
-abbrev pub Settled : Form → Words → Words → ℕ → ℕ → Run → ℕ → Type 0
-Settled F m m′ a b r k =
+abbrev pub Heapified : Form → Words → Words → ℕ → ℕ → Run → ℕ → Type 0
+Heapified F m m′ a b r k =
     (ta tb : Tree) → Between F m a b r ta tb
-    → Became F m m′ (NoNodeOfNor ta tb (r .start)) k (settle r ta tb)
+    → Became F m m′ (NoNodeOfNor ta tb (r .start)) k (heapify r ta tb)
 
 -- The tree lies at the link l, and its run r has more than k cells, k not 0.
 pub record Longer (F : Form) (m : Words) (l : ℕ) (r : Run) (k : ℕ) (t : Tree) : Type 0 where

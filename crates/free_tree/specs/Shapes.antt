@@ -70,8 +70,8 @@ standsOver r leaf = true
 standsOver r (node a q b) = standsAbove r q
 
 -- the run between the runs of two trees: it stays on top if it stands above both roots
-abbrev pub settle : Run → Tree → Tree → Tree
-settle r a b = cond (standsOver r a && standsOver r b) (node a r b) (insert r (join a b))
+abbrev pub heapify : Run → Tree → Tree → Tree
+heapify r a b = cond (standsOver r a && standsOver r b) (node a r b) (insert r (join a b))
 
 -- The run at cell x gives up its first k cells. `shrink-is` in proofs/ShrinkLaws: it is taken out, and the rest of it
 -- put in.
@@ -79,7 +79,7 @@ abbrev pub shrink : ℕ → ℕ → Tree → Tree
 shrink x k leaf = leaf
 shrink x k (node a q b) =
     cond (ltb x (q .start)) (node (shrink x k a) q b)
-    (cond (ltb (q .start) x) (node a q (shrink x k b)) (settle (run (x + k) (q .size - k)) a b))
+    (cond (ltb (q .start) x) (node a q (shrink x k b)) (heapify (run (x + k) (q .size - k)) a b))
 
 -- ---- the place of a change
 

@@ -17,8 +17,8 @@ ghost use Rattle.tree_nodes.specs.Nodes.{countBase, cells};
 ghost use Rattle.free_tree.specs.Shapes.{standsAbove, beginsAt};
 ghost use Rattle.free_tree.specs.Links.{linkOf, countOf};
 ghost use Rattle.free_tree.specs.Held.{At, Beside, LeftWins, RightWins, LeftJoined, RightJoined, BothJoined};
-ghost use Rattle.free_tree.specs.Held.{Parts, Room, PutOver, Inserted, Deleted, OverRoot, Between, Settled};
-ghost use Rattle.free_tree.specs.Held.{Longer, Shrunk, LeftmostFound, Placed, Seat, Attached, Clear, TouchFound};
+ghost use Rattle.free_tree.specs.Held.{Parts, Room, PutOver, Inserted, Deleted, OverRoot, Between, Heapified};
+ghost use Rattle.free_tree.specs.Held.{Longer, Shrunk, LeftmostFound, Placed, NodeOf, Attached, Clear, TouchFound};
 ghost use Rattle.free_tree.specs.Held.{ifEnds, ifBegins};
 
 // ---- join
@@ -269,7 +269,7 @@ pub fn insert(form: u32, arena: &mut [u32], l: usize, x: usize, n: u32) -> u64
 // the link `over`, 0 for none. The block's words stay as they are.
 pub fn delete_at(form: u32, arena: &mut [u32], l: usize, at: usize, over: usize) -> usize
     requires { ⌜ ((t : Tree) × At (formOf form) (now arena) l t) ⌝ }
-    requires { ⌜ Seat (formOf form) (now arena) l at over ⌝ }
+    requires { ⌜ NodeOf (formOf form) (now arena) l at over ⌝ }
     ensures { λ r. ⌜ Deleted (formOf form) (now (arena .entry)) (now (arena .exit)) l (at - 1) r ⌝ }
 {
     let c = at - 1;
@@ -310,9 +310,9 @@ fn over_root(form: u32, arena: &[u32], l: usize, x: usize, n: u32) -> bool
 
 // Puts the block of `n` cells at cell `x` between the trees at the links `lo` and `hi`, and returns the link to the
 // whole. Most often it stands above both roots, and the trees are its sons as they are.
-fn settle(form: u32, arena: &mut [u32], lo: usize, hi: usize, x: usize, n: u32) -> usize
+fn heapify(form: u32, arena: &mut [u32], lo: usize, hi: usize, x: usize, n: u32) -> usize
     requires { ⌜ ((ta : Tree) × (tb : Tree) × Between (formOf form) (now arena) lo hi (run x n) ta tb) ⌝ }
-    ensures { λ r. ⌜ Settled (formOf form) (now (arena .entry)) (now (arena .exit)) lo hi (run x n) r ⌝ }
+    ensures { λ r. ⌜ Heapified (formOf form) (now (arena .entry)) (now (arena .exit)) lo hi (run x n) r ⌝ }
 {
     if over_root(form, arena, lo, x, n) & over_root(form, arena, hi, x, n) {
         put_first(form, arena, x, n, lo, hi);
@@ -327,14 +327,14 @@ fn settle(form: u32, arena: &mut [u32], lo: usize, hi: usize, x: usize, n: u32) 
 // sons: no block above it is shorter. The words of its first cell stay as they are.
 pub fn shrink(form: u32, arena: &mut [u32], l: usize, at: usize, over: usize, k: usize) -> usize
     requires { ⌜ ((t : Tree) × (n : ℕ) × Longer (formOf form) (now arena) l (run (at - 1) n) k t) ⌝ }
-    requires { ⌜ Seat (formOf form) (now arena) l at over ⌝ }
+    requires { ⌜ NodeOf (formOf form) (now arena) l at over ⌝ }
     ensures { λ r. ⌜ Shrunk (formOf form) (now (arena .entry)) (now (arena .exit)) l (at - 1) k r ⌝ }
 {
     let c = at - 1;
     let a = left_of(form, arena, c);
     let b = right_of(form, arena, c);
     let n = length_of(form, arena, c) as usize;
-    let q = settle(form, arena, a, b, c + k, (n - k) as u32);
+    let q = heapify(form, arena, a, b, c + k, (n - k) as u32);
     link_of(attach(form, arena, l, over, c, q, 0))
 }
 
@@ -344,7 +344,7 @@ pub fn shrink(form: u32, arena: &mut [u32], l: usize, at: usize, over: usize, k:
 pub fn leftmost_fit(form: u32, arena: &[u32], root: usize, cells: u32) -> Place
     requires { ⌜ ((t : Tree) × At (formOf form) (now arena) root t) ⌝ }
     ensures { λ r. ⌜ LeftmostFound (formOf form) (now (arena .entry)) root cells (r .at) ⌝ }
-    ensures { λ r. ⌜ (r .at ≢ 0 → Seat (formOf form) (now (arena .entry)) root (r .at) (r .over)) ⌝ }
+    ensures { λ r. ⌜ (r .at ≢ 0 → NodeOf (formOf form) (now (arena .entry)) root (r .at) (r .over)) ⌝ }
 {
     let mut at: usize = 0;
     let mut over: usize = 0;

@@ -206,9 +206,6 @@ no-ticket : (t : ℕ) → hasTicket t emptyRow ≡ false
 no-ticket zero = refl
 no-ticket (suc t) = rw (eqb-ne 0 (suc t) (λ e. omega arith)) (and-false (not (eqb (suc t) 0)))
 
-other-ticket : (t : ℕ) (r : Row) → r .ticket ≢ t → hasTicket t r ≡ false
-other-ticket t r h = rw (eqb-ne (r .ticket) t h) (and-false (not (eqb t 0)))
-
 -- what a ticket has after the plans: a released one no record, a trimmed one its record with the words kept, and any
 -- other the one it had
 abbrev pub carried : Option Plan → Option Row → Option Row

@@ -11,7 +11,7 @@ use Rattle.ledger.specs.declared.Rule.{Rule}
 use Rattle.ledger.specs.Records.{Ledger, isParty, isEmpty, isLive, Plan, vacate, keep, carryOut}
 
 -- The unit rule is the code's struct `Rule`: words to a unit, and words of a block before its address.
--- Tree pool: 2 and 0. Segment pool: 1 and 1, the control word.
+-- Tree pool: 2, 4 or 8 by its form, and 0. Segment pool: 1 and 1, the control word.
 module _ (ρ : Rule) where
   -- the units that a request for n words takes, rounded up
   unfoldable pub span : ℕ → ℕ
@@ -60,7 +60,7 @@ module _ (ρ : Rule) where
   abbrev pub freedBy : Plan → Row → ℕ → Bool
   freedBy q r u = covers u r && not (covers u (carryOut q r))
 
-  -- They are the last ones: a plan that feasible the record leaves this many, from the first on, and frees the rest.
+  -- They are its last ones: a plan that can be carried out leaves this many units, from the first on, and frees the rest.
   abbrev pub keptUnits : Plan → ℕ
   keptUnits vacate = 0
   keptUnits (keep n) = span n

@@ -1,14 +1,16 @@
 -- Laws of the check of a table. Assumes nothing.
 use Prim.Native.Nat.{ℕ, _+_, _-_, _*_, _/_, _%_, _≤_, _<_}
-use native.Mathlib.Nat.{mul-add, div-le-self, mul-div-le}
+use native.Mathlib.Decide.{decLe}
+use native.Mathlib.Nat.{mul-add, mul-comm, mul-le-mul-left, le-trans, le-div-iff-mul-le}
+use native.Mathlib.Nat.{div-le-self, mul-div-le, div-add-mod, mod-lt}
 use native.Mathlib.Omega.{arith}
-use mathlib.Core.Path.{_≡_, refl, sym, _∙_}
+use mathlib.Core.Path.{_≡_, refl, sym, ap, _∙_}
 use mathlib.Core.Logic.{_≢_}
 use mathlib.Core.Bool.{Bool, true, false, not, _&&_, _||_, or-true, true≢false}
 use lib.Dec.{eqb, leb, ltb}
 use Rattle.words.specs.Lists.{Words, all, pairwise}
 use Rattle.words.specs.Counted.{every}
-use Rattle.words.proofs.Tests.{and-l, not-true, eqb-eq, eqb-ne, of-gt}
+use Rattle.words.proofs.Tests.{and-l, and-r, bool-iff, not-true, eqb-eq, eqb-ne, le-of, of-le, of-gt}
 use Rattle.words.proofs.ListLaws.{all-listFrom}
 use Rattle.words.proofs.CountedLaws.{every-at}
 use Rattle.ledger.specs.declared.Row.{Row}
@@ -32,24 +34,6 @@ all-slots f t = all-listFrom f (recordAt t) 0 (slots t)
 -- ---- numbers of a record that fit a machine word
 
 module _ (ρ : Rule) where
-  pub first-low : (r : Row) → first ρ r ≤ r .address
-  unfolding first
-  first-low r = omega (arith, div-le-self (r .address - ρ .lead) (ρ .unit))
-
-  pub span-low : (n : ℕ) → span ρ n ≤ n + ρ .lead + ρ .unit
-  unfolding span
-  span-low n = omega (arith, div-le-self (n + ρ .lead + (ρ .unit - 1)) (ρ .unit))
-
-  pub past-low : (r : Row) → ρ .unit * past ρ r ≤ r .address + (r .words + ρ .lead + ρ .unit)
-  unfolding past first span
-  past-low r =
-      rw mul-add
-      (omega (
-        arith,
-        mul-div-le (r .address - ρ .lead) (ρ .unit),
-        mul-div-le (r .words + ρ .lead + (ρ .unit - 1)) (ρ .unit),
-      ))
-
   -- a record with an address too low for the words before it does not fit
   pub low-unfit : (W next : ℕ) (r : Row) → r .address < ρ .lead → fits ρ W next r ≡ false
   unfolding fits
@@ -63,6 +47,94 @@ module _ (ρ : Rule) where
       second-false false b c d q = refl
       second-false true false c d q = refl
       second-false true true c d q = absurd (true≢false q)
+
+-- ---- where a record ends
+
+module _ (ρ : Rule) (pos : 0 < ρ .unit) (W : ℕ) (whole : W % ρ .unit ≡ 0) where
+  -- units end in whole ones where the words do that they are rounded from
+  units-end : (b n : ℕ) → b % ρ .unit ≡ 0
+      → leb (b + n) W ≡ leb (ρ .unit * (b / ρ .unit + (n + (ρ .unit - 1)) / ρ .unit)) W
+  units-end b n even =
+      bool-iff (leb (b + n) W) (leb (ρ .unit * (k + u)) W)
+      (λ e. of-le (ρ .unit * (k + u)) W (up (le-of (b + n) W e) (decLe (k + u) (W / ρ .unit))))
+      (λ e. of-le (b + n) W (let h = le-of (ρ .unit * (k + u)) W e in omega (arith, start, least, mul-add (ρ .unit) k u)))
+    where
+      k : ℕ
+      k = b / ρ .unit
+
+      u : ℕ
+      u = (n + (ρ .unit - 1)) / ρ .unit
+
+      start : ρ .unit * k ≡ b
+      start = let e = div-add-mod b (ρ .unit) in omega arith
+
+      least : n ≤ ρ .unit * u
+      least =
+          let e = div-add-mod (n + (ρ .unit - 1)) (ρ .unit) in
+          omega (arith, mod-lt (n + (ρ .unit - 1)) pos)
+
+      up : b + n ≤ W → Dec (k + u ≤ W / ρ .unit) → ρ .unit * (k + u) ≤ W
+      up h (yes l) = omega (arith, mul-le-mul-left (ρ .unit) l, mul-div-le W (ρ .unit))
+      up h (no l) =
+          let more : W / ρ .unit + 1 ≤ k + u = omega arith in
+          let e = div-add-mod W (ρ .unit) in
+          absurd (omega (
+            arith,
+            mul-le-mul-left (ρ .unit) more,
+            mul-add (ρ .unit) (W / ρ .unit) 1,
+            mul-add (ρ .unit) k u,
+            start,
+            mul-div-le (n + (ρ .unit - 1)) (ρ .unit),
+          ))
+
+  end-is : (r : Row) → ρ .lead ≤ r .address → (r .address - ρ .lead) % ρ .unit ≡ 0
+      → leb (r .address + r .words) W ≡ leb (ρ .unit * past ρ r) W
+  unfolding past first span
+  end-is r lead even =
+      let sum : r .address + r .words ≡ r .address - ρ .lead + (r .words + ρ .lead) = omega arith in
+      ap (λ x. leb x W) sum ∙ units-end (r .address - ρ .lead) (r .words + ρ .lead) even
+
+  -- so a record fits whose words end in the arena, if the rest is right
+  pub fits-by-words : (next : ℕ) (r : Row)
+      → (not (eqb (r .ticket) 0)
+      && (eqb next 0 || ltb (r .ticket) next)
+      && leb 1 (r .words)
+      && isParty (r .party)
+      && leb (ρ .lead) (r .address)
+      && eqb ((r .address - ρ .lead) % ρ .unit) 0
+      && leb (r .address + r .words) W) ≡ fits ρ W next r
+  unfolding fits
+  fits-by-words next r =
+      last
+      (not (eqb (r .ticket) 0)
+      && (eqb next 0 || ltb (r .ticket) next)
+      && leb 1 (r .words)
+      && isParty (r .party)
+      && leb (ρ .lead) (r .address)
+      && eqb ((r .address - ρ .lead) % ρ .unit) 0)
+      (leb (r .address + r .words) W) (leb (ρ .unit * past ρ r) W)
+      (λ e. end-is r (le-of (ρ .lead) (r .address) (search (and-l, and-r)))
+      (eqb-eq ((r .address - ρ .lead) % ρ .unit) 0 (search (and-l, and-r))))
+    where
+      last : (a b c : Bool) → (a ≡ true → b ≡ c) → (a && b) ≡ (a && c)
+      last true b c e = e refl
+      last false b c e = refl
+
+-- no record has a word behind the last whole unit
+module _ (ρ : Rule) (pos : 0 < ρ .unit) (W next : ℕ) (r : Row) where
+  fits-whole : fits ρ (ρ .unit * (W / ρ .unit)) next r ≡ fits ρ W next r
+  unfolding fits
+  fits-whole =
+      ap (λ (b : Bool). not (eqb (r .ticket) 0) && (eqb next 0 || ltb (r .ticket) next) && leb 1 (r .words)
+      && isParty (r .party) && leb (ρ .lead) (r .address) && eqb ((r .address - ρ .lead) % ρ .unit) 0 && b)
+      (bool-iff (leb (ρ .unit * past ρ r) (ρ .unit * (W / ρ .unit))) (leb (ρ .unit * past ρ r) W)
+      (λ e. of-le (ρ .unit * past ρ r) W
+      (le-trans (le-of (ρ .unit * past ρ r) (ρ .unit * (W / ρ .unit)) e) (mul-div-le W (ρ .unit))))
+      (λ e. of-le (ρ .unit * past ρ r) (ρ .unit * (W / ρ .unit)) (mul-le-mul-left (ρ .unit)
+      (le-div-iff-mul-le pos .1 (rw (mul-comm (past ρ r) (ρ .unit)) (le-of (ρ .unit * past ρ r) W e))))))
+
+  pub row-whole : (q : ℕ) → q ≡ W / ρ .unit → rowOk ρ (ρ .unit * q) next r ≡ rowOk ρ W next r
+  row-whole q e = ap (λ k. rowOk ρ (ρ .unit * k) next r) e ∙ ap (λ (b : Bool). isEmpty r || b) fits-whole
 
 -- ---- the parts of the check
 

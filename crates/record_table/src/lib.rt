@@ -158,7 +158,7 @@ pub fn empty_slot(table: &[u32]) -> Found
 // ---- the unit rule
 
 // How often so many words go into w. The units in use, 1, 2, 4 and 8, are spared a division by a variable.
-fn over(w: usize, unit: usize) -> usize
+fn whole_units(w: usize, unit: usize) -> usize
     requires { ⌜ 0 < unit ⌝ }
     ensures { λ q. ⌜ q ≡ w / unit ⌝ }
 {
@@ -202,7 +202,7 @@ pub fn span_of(rule: Rule, n: u32) -> usize
     requires { ⌜ 0 < rule .unit ⌝ }
     ensures { λ u. ⌜ u ≡ span rule n ⌝ }
 {
-    over(
+    whole_units(
         n as usize + rule.lead as usize + (rule.unit as usize - 1),
         rule.unit as usize,
     )
@@ -218,19 +218,12 @@ fn begin_of(rule: Rule, r: Row) -> u32
     r.address - rule.lead
 }
 
-// A record's first unit, and the first unit past it.
+// A record's first unit.
 pub fn first_unit(rule: Rule, r: Row) -> usize
     requires { ⌜ 0 < rule .unit ⌝ }
     ensures { λ u. ⌜ u ≡ first rule r ⌝ }
 {
-    over(begin_of(rule, r) as usize, rule.unit as usize)
-}
-
-pub fn past_unit(rule: Rule, r: Row) -> usize
-    requires { ⌜ 0 < rule .unit ⌝ }
-    ensures { λ u. ⌜ u ≡ past rule r ⌝ }
-{
-    first_unit(rule, r) + span_of(rule, r.words)
+    whole_units(begin_of(rule, r) as usize, rule.unit as usize)
 }
 
 // ---- the check
@@ -242,17 +235,18 @@ pub fn is_party(party: u32) -> bool
     (1 <= party) & (party <= 255)
 }
 
-// A record by itself, in an arena of so many words. Any numbers may stand in it: nothing wraps. An address too low for
-// the words before it goes first, which spares the others a test for that.
+// A record by itself, in an arena of so many words, which are whole units. Any numbers may stand in it: nothing wraps. An
+// address too low for the words before it goes first, which spares the others a test for that. The units end in the arena
+// where the words do, so that nothing is rounded.
 fn live_fits(rule: Rule, words: usize, next: u32, r: Row) -> bool
-    requires { ⌜ 0 < rule .unit ⌝ }
+    requires { ⌜ (0 < rule .unit) × (words % rule .unit ≡ 0) ⌝ }
     ensures { λ b. ⌜ b ≡ fits rule words next r ⌝ }
 {
     if r.address < rule.lead {
         return false;
     }
     let begin = begin_of(rule, r);
-    let end = rule.unit as usize * past_unit(rule, r);
+    let end = r.address as usize + r.words as usize;
     (r.ticket != 0)
         & ((next == 0) | (r.ticket < next))
         & (1 <= r.words)
@@ -260,17 +254,6 @@ fn live_fits(rule: Rule, words: usize, next: u32, r: Row) -> bool
         & (rule.lead <= r.address)
         & (rest(begin, rule.unit) == 0)
         & (end <= words)
-}
-
-// A slot by itself. An empty one is spared the divisions.
-pub fn row_fits(rule: Rule, words: usize, next: u32, r: Row) -> bool
-    requires { ⌜ 0 < rule .unit ⌝ }
-    ensures { λ b. ⌜ b ≡ rowOk rule words next r ⌝ }
-{
-    if is_empty(r) {
-        return true;
-    }
-    live_fits(rule, words, next, r)
 }
 
 // A ticket's place among m residues. Tickets follow one another, so those alive together rarely share one. Without a
@@ -328,8 +311,34 @@ fn is_new(seen: &mut [u8], m: usize, table: &[u32], i: usize, ticket: u32) -> bo
     unlike_earlier(table, i, ticket)
 }
 
-// The units of the record r of slot i where it may follow those before it: it fits by itself, and its ticket is none of
-// theirs. More than the arena's words if it may not. The caller reads the record, for it has more to do with it.
+// Whether the record r of slot i, which is not empty, may follow those before it in an arena of whole units: it fits by
+// itself, and its ticket is none of theirs. The caller reads the record, for it has more to do with it.
+pub fn may_enter(
+    rule: Rule,
+    words: usize,
+    next: u32,
+    table: &[u32],
+    i: usize,
+    r: Row,
+    seen: &mut [u8],
+    m: usize,
+) -> bool
+    requires { ⌜ (0 < rule .unit) × (words % rule .unit ≡ 0) × (i < slots (now table)) × (r ≡ recordAt (now table) i) ⌝ }
+    requires { ⌜ isEmpty r ≡ false ⌝ }
+    requires { ⌜ (0 < m) × (length (now seen) ≡ m) × Noted m (now seen) (now table) i ⌝ }
+    ensures { λ b. ⌜ (b ≡ true → Joins rule words next (now (table .entry)) i (span rule (r .words))
+        × Noted m (now (seen .exit)) (now (table .entry)) (i + 1)) ⌝ }
+    ensures { λ b. ⌜ (rowOk rule words next (recordAt (now (table .entry)) i) ≡ true
+        → newAt (now (table .entry)) i ≡ true → b ≡ true) ⌝ }
+{
+    if !live_fits(rule, words, next, r) {
+        return false;
+    }
+    is_new(seen, m, table, i, r.ticket)
+}
+
+// The units of the record r of slot i where it may follow those before it, none for an empty one. More than the arena's
+// words if it may not. The arena is taken as whole units: no record has any of the words behind them.
 pub fn enter_row(
     rule: Rule,
     words: usize,
@@ -350,10 +359,9 @@ pub fn enter_row(
     if is_empty(r) {
         return 0;
     }
-    if !row_fits(rule, words, next, r) {
-        return words + 1;
-    }
-    if !is_new(seen, m, table, i, r.ticket) {
+    let unit = rule.unit as usize;
+    let room = unit * whole_units(words, unit);
+    if !may_enter(rule, room, next, table, i, r, seen, m) {
         return words + 1;
     }
     span_of(rule, r.words)

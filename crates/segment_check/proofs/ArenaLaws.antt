@@ -37,7 +37,7 @@ use Rattle.segment_cores.proofs.ViewLaws.{ledger-whole, slot-starts, begun-slot
 use Rattle.segment_cores.proofs.WordLaws.{clash, opens-before, word-held, word-open, word-shut, unstarted}
 use Rattle.record_table.proofs.PartitionLaws.{valid-row, valid-new}
 use Rattle.segment_check.specs.BitMaps.{bitAt}
-use Rattle.segment_check.specs.Laid.{blockRight, Kept, Sets, Good}
+use Rattle.segment_check.specs.Adjoining.{blockRight, Kept, Sets, Good}
 use Rattle.words.specs.Flags.{Says}
 use Rattle.segment_check.specs.Right.{heldRight}
 use Rattle.segment_check.proofs.KeptLaws.{passing, whole-kept}

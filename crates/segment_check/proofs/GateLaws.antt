@@ -26,7 +26,7 @@ use Rattle.segment_cores.specs.Stores.{arenaOf}
 use Rattle.segment_cores.proofs.BitLaws.{arena-words, words-arena}
 use Rattle.words.specs.Flags.{Says}
 use Rattle.segment_check.specs.Right.{Measured}
-use Rattle.segment_check.specs.Laid.{Shown}
+use Rattle.segment_check.specs.Adjoining.{Shown}
 use Rattle.calls.specs.Pool.{Pool, store, lengths, samePool, stored}
 use Rattle.calls.specs.Engines.{segmentEngine}
 use Rattle.calls.proofs.StoreLaws.{same-pool-eq, same-pool-same}

@@ -31,7 +31,7 @@ use Rattle.record_table.specs.Partition.{Noted, Joins}
 use Rattle.record_table.proofs.EnterLaws.{enter-start, enter-next, noted-start}
 use Rattle.record_table.proofs.PartitionLaws.{held-by, partition-valid, valid-count}
 use Rattle.segment_check.specs.BitMaps.{bitAt}
-use Rattle.segment_check.specs.Laid.{heldFrom, Laid, Matched, Heads, Sets, Good, Joined, Headed, Shown, LaysAll}
+use Rattle.segment_check.specs.Adjoining.{heldFrom, Adjoining, Matched, Heads, Sets, Good, Joined, Headed, Shown, WalksAll}
 use Rattle.segment_check.proofs.BitLaws.{no-bit}
 use Rattle.segment_check.proofs.ArenaLaws.{held-is, arena-partitioned, arena-kept, arena-good}
 use Rattle.segment_check.proofs.KeptLaws.{passing}
@@ -175,10 +175,10 @@ module _ (v : List ℤ) (next : ℕ) (t : Words) (m : ℕ) where
 
 -- ---- side by side
 
-tiles-right : (v : List ℤ) (next : ℕ) (t map seen : Words) (m held free′ : ℕ) (after : Bool)
-    → Headed v next t map seen m (slots t) held → Laid v map (length v) free′ after → free′ + held ≡ length v
+blocks-right : (v : List ℤ) (next : ℕ) (t map seen : Words) (m held free′ : ℕ) (after : Bool)
+    → Headed v next t map seen m (slots t) held → Adjoining v map (length v) free′ after → free′ + held ≡ length v
     → (valid segmentRule (length v) next (recordsOf t) ≡ true) × (v ≡ arenaOf (recordsOf t) v)
-tiles-right v next t map seen m held free′ after H L exact =
+blocks-right v next t map seen m held free′ after H L exact =
     let (good, runs) = partition-valid segmentRule (omega arith) (length v) next held t (L .runs) (H .entered)
     (record {
       gapped = rw (div-one (length v)) (L .gapped);
@@ -193,7 +193,7 @@ pub tiles-stored : (v : List ℤ) (next : ℕ) (t x map seen : Words) (m held fr
     → Headed v next t map seen m (slots t) held → Matched v map x s g free′ → free′ + held ≡ length v → (b : Bool)
     → b ≡ treeRight x s → b ≡ true → Shown next v t x s
 tiles-stored v next t x map seen m held free′ s g Z H M exact b is ok =
-    let (good, arena) = tiles-right v next t map seen m held free′ (M .after) H (M .laid) exact in
+    let (good, arena) = blocks-right v next t map seen m held free′ (M .after) H (M .adjoining) exact in
     let L = recordsOf t in
     let c = controls L (length v) in
     let segments = every (segmentRight c (length v) s x) 0 s in (
@@ -231,11 +231,11 @@ module _ (v : List ℤ) (next : ℕ) (t x : Words) (s g : ℕ) (Z : Measured v t
     pub stored-held : held ≤ length v
     stored-held = omega (arith, count)
 
-    -- the words that are laid, and those of the records, are all
-    pub stored-exact : (free′ : ℕ) → LaysAll v map x s g free′ → free′ + held ≡ length v
-    stored-exact free′ lays =
+    -- the words that were walked over, and those of the records, are all
+    pub stored-exact : (free′ : ℕ) → WalksAll v map x s g free′ → free′ + held ≡ length v
+    stored-exact free′ walks =
         ap (λ n. n + held)
-        (lays c (passing (free segmentRule L)) (arena-kept v next t (P .0) (P .1) map (H .sets)) refl
+        (walks c (passing (free segmentRule L)) (arena-kept v next t (P .0) (P .1) map (H .sets)) refl
         (stored-ground v x s g (Z .sizes) L next (P .0) (P .1))
         (and-r (treeRight x s) (every (segmentRight c (length v) s x) 0 s) index-right))
         ∙ count

@@ -22,8 +22,8 @@ use Rattle.segment_cores.proofs.WholeLaws.{Kind, held, free as free-kind, none,
 use Rattle.segment_cores.proofs.WordLaws.{clash, word-held}
 use Rattle.segment_check.specs.Right.{runRight}
 use Rattle.segment_check.specs.BitMaps.{bitAt}
-use Rattle.segment_check.specs.Laid.{HeldBlock, FreeBlock, Kept, Led}
-use Rattle.segment_check.proofs.LaidLaws.{free-block, free-whole}
+use Rattle.segment_check.specs.Adjoining.{HeldBlock, FreeBlock, Kept, Led}
+use Rattle.segment_check.proofs.AdjoiningLaws.{free-block, free-whole}
 
 -- ---- units that pass, counted
 

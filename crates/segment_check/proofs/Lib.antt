@@ -1,6 +1,6 @@
 -- The laws of the check.
 pub mod BitLaws
-pub mod LaidLaws
+pub mod AdjoiningLaws
 pub mod KeptLaws
 pub mod ArenaLaws
 pub mod IndexLaws

@@ -1,4 +1,4 @@
--- Laws of blocks that are laid segment by segment, each with its two words in the index. Assumes nothing.
+-- Laws of blocks that are walked over segment by segment, each with its two words in the index. Assumes nothing.
 use Prim.Native.Nat.{ℕ, _+_, _-_, _*_, _≤_, _<_, min}
 use native.Mathlib.Nat.{zero-mul}
 use native.Mathlib.Omega.{arith}
@@ -20,14 +20,14 @@ use Rattle.segment_blocks.proofs.ScanLaws.{come-start, come-end}
 use Rattle.segment_blocks.proofs.BuildLaws.{Passing, pass-start, pass-facing, pass-on}
 use Rattle.segment_blocks.proofs.UpkeepLaws.{sizes-some, leaf-right, first-right}
 use Rattle.segment_check.specs.Right.{twoRight, segmentRight}
-use Rattle.segment_check.specs.Laid.{Laid, Strip, Matched}
-use Rattle.segment_check.proofs.LaidLaws.{laid-start}
+use Rattle.segment_check.specs.Adjoining.{Adjoining, Walked, Matched}
+use Rattle.segment_check.proofs.AdjoiningLaws.{adjoining-start}
 
 -- no block begins from `at` up to hi, where blocks have led past that
-pub strip-none : (v : List ℤ) (map : Words) (at hi free : ℕ) (after : Bool) → Laid v map at free after → free ≤ at
-    → hi ≤ at → Strip v map at hi at free after 0
-strip-none v map at hi free after laid few high = record {
-  laid = laid;
+pub walked-none : (v : List ℤ) (map : Words) (at hi free : ℕ) (after : Bool) → Adjoining v map at free after → free ≤ at
+    → hi ≤ at → Walked v map at hi at free after 0
+walked-none v map at hi free after adjoining few high = record {
+  adjoining = adjoining;
   few = few;
   high = high;
   swept = λ c S. (sym (ap (largest c at) none), come-end v c at hi at (come-start v c at hi S) high);
@@ -44,10 +44,10 @@ module _ (t : Words) (s k at hi W : ℕ) where
       and-i (eqb most (getD t (s + k) 0)) (eqb first (getD t (2 * s + k) 0)) (ap (eqb most) a ∙ eqb-same most)
       (ap (eqb first) b ∙ eqb-same first)
 
-  pub two-laid : (most next : ℕ) → at < hi
+  pub two-walked : (most next : ℕ) → at < hi
       → (not (eqb (getD t (2 * s + k) 0) at) || ltb W next || not (eqb (getD t (s + k) 0) most)) ≡ false
       → (next ≤ W) × (twoRight t s k most (firstFrom at hi W) ≡ true)
-  two-laid most next below test =
+  two-walked most next below test =
       let first = not (eqb (getD t (2 * s + k) 0) at) in
       let leaf = not (eqb (getD t (s + k) 0) most) in
       let ab = or-l (first || ltb W next) leaf test in (
@@ -79,9 +79,9 @@ module _ (t : Words) (s k at hi W : ℕ) where
       let b = eqb-eq first y (and-r (eqb most x) (eqb first y) e) in
       (ap (eqb x) a ∙ eqb-same x, ap (eqb y) b ∙ eqb-same y)
 
-  pub laid-two : (most next : ℕ) → at < hi → next ≤ W → twoRight t s k most (firstFrom at hi W) ≡ true
+  pub walked-two : (most next : ℕ) → at < hi → next ≤ W → twoRight t s k most (firstFrom at hi W) ≡ true
       → (not (eqb (getD t (2 * s + k) 0) at) || ltb W next || not (eqb (getD t (s + k) 0) most)) ≡ false
-  laid-two most next below inside e =
+  walked-two most next below inside e =
       let (a, b) = words-of most at (rw (of-lt at hi below) at e) in
       rw (b, of-ge W next inside, a)
 
@@ -91,10 +91,10 @@ module _ (t : Words) (s k at hi W : ℕ) where
       let (a, b) = words-of 0 W (rw (of-ge at hi past) at e) in
       rw (b, a)
 
--- The segments before k are laid, and the next block begins at `at`. If the blocks are those with control words c, the
+-- The segments before k are walked over, and the next block begins at `at`. If the blocks are those with control words c, the
 -- index has these segments' leaves and first blocks.
 pub record Matching (v : List ℤ) (map t : Words) (s g k at free : ℕ) (after : Bool) : Type 0 where
-  pub laid : Laid v map at free after
+  pub adjoining : Adjoining v map at free after
   pub few : free ≤ at
   pub inside : at ≤ length v
   pub high : min (k * g) (length v) ≤ at
@@ -104,7 +104,7 @@ pub record Matching (v : List ℤ) (map t : Words) (s g k at free : ℕ) (after 
 module _ (v : List ℤ) (map t : Words) (s g : ℕ) where
   pub match-start : Matching v map t s g 0 0 0 false
   match-start = record {
-    laid = laid-start v map;
+    adjoining = adjoining-start v map;
     few = omega arith;
     inside = omega arith;
     high = omega (arith, zero-mul g);
@@ -113,7 +113,7 @@ module _ (v : List ℤ) (map t : Words) (s g : ℕ) where
 
   -- the two words of the next segment, where the index is that of the blocks
   pub match-two : (k at free hi next free′ most : ℕ) (after after′ : Bool) → Matching v map t s g k at free after
-      → k < s → hi ≡ min ((k + 1) * g) (length v) → Strip v map at hi next free′ after′ most
+      → k < s → hi ≡ min ((k + 1) * g) (length v) → Walked v map at hi next free′ after′ most
       → (c : ℕ → ℤ) → Ground v c s g → every (segmentRight c (length v) s t) 0 s ≡ true
       → twoRight t s k most (firstFrom at hi (length v)) ≡ true
   unfolding segmentRight
@@ -125,11 +125,11 @@ module _ (v : List ℤ) (map t : Words) (s g : ℕ) where
       ∙ every-at (segmentRight c (length v) s t) 0 s right k (omega arith) (omega arith)
 
   pub match-on : (k at free hi next free′ most : ℕ) (after after′ : Bool) → Matching v map t s g k at free after
-      → k < s → hi ≡ min ((k + 1) * g) (length v) → next ≤ length v → Strip v map at hi next free′ after′ most
+      → k < s → hi ≡ min ((k + 1) * g) (length v) → next ≤ length v → Walked v map at hi next free′ after′ most
       → twoRight t s k most (firstFrom at hi (length v)) ≡ true → Matching v map t s g (k + 1) next free′ after′
   unfolding segmentRight
   match-on k at free hi next free′ most after after′ M below is inside S test = record {
-    laid = S .laid;
+    adjoining = S .adjoining;
     few = S .few;
     inside = inside;
     high = omega (arith, S .high);
@@ -161,6 +161,6 @@ module _ (v : List ℤ) (map t : Words) (s g : ℕ) where
       → Matched v map t s g free
   match-end Z k at free after M e = record {
     after = after;
-    laid = subst (λ n. Laid v map n free after) (match-whole Z k at free after M e) (M .laid);
+    adjoining = subst (λ n. Adjoining v map n free after) (match-whole Z k at free after M e) (M .adjoining);
     right = λ c G. subst (λ n. every (segmentRight c (length v) s t) 0 n ≡ true) e (M .right c G .1);
   }

@@ -32,8 +32,8 @@ ghost use Rattle.segment_check.specs.Gate.{segmentPool, RightLengths, Ra
 ghost use Rattle.segment_check.specs.Right.{Measured, nodeRight, treeRight};
 ghost use Rattle.record_table.specs.Partition.{Noted};
 ghost use Rattle.segment_check.specs.BitMaps.{bitAt};
-ghost use Rattle.segment_check.specs.Laid.{Laid, HeldBlock, FreeBlock, Strip, Matched};
-ghost use Rattle.segment_check.specs.Laid.{Lays, LaysAll, Heads, Sets, Good, Joined, Headed, Shown};
+ghost use Rattle.segment_check.specs.Adjoining.{Adjoining, HeldBlock, FreeBlock, Walked, Matched};
+ghost use Rattle.segment_check.specs.Adjoining.{Walks, WalksAll, Heads, Sets, Good, Joined, Headed, Shown};
 
 // A unit of the segment pool is one word, and a block has one before its address: the control word.
 pub const WORDS: Rule = Rule { unit: 1, lead: 1 };
@@ -93,9 +93,9 @@ fn is_free_block(v: &[i32], at: usize, n: usize, after: bool) -> bool
     is_zero_part_signed(v, at + 1, at + n)
 }
 
-// Where blocks that are laid have led: the next one begins at `next`, past the arena's end if one is wrong. So many
+// Where a walk over blocks has led: the next one begins at `next`, past the arena's end if one is wrong. So many
 // words are free up to there, `after` says whether the last block is, and `most` is the largest weight.
-struct Stand {
+struct Walk {
     next: usize,
     free: usize,
     after: bool,
@@ -103,11 +103,11 @@ struct Stand {
 }
 
 // Where a wrong block leads in an arena of w words.
-fn nowhere(w: usize) -> Stand
+fn nowhere(w: usize) -> Walk
     requires { ⌜ w ≤ 16384 ⌝ }
     ensures { λ r. ⌜ w < r .next ⌝ }
 {
-    Stand {
+    Walk {
         next: w + 1,
         free: 0,
         after: false,
@@ -115,14 +115,14 @@ fn nowhere(w: usize) -> Stand
     }
 }
 
-// Lays the blocks that begin from `from` up to hi, behind others that have led to `from`. A held block weighs 1.
-fn lay(v: &[i32], map: &[u64], from: usize, hi: usize, free: usize, after: bool) -> Stand
+// Walks the blocks that begin from `from` up to hi, behind others that have led to `from`. A held block weighs 1.
+fn walk_blocks(v: &[i32], map: &[u64], from: usize, hi: usize, free: usize, after: bool) -> Walk
     requires { ⌜ (length (now v) ≤ 16384) × (length (now v) ≤ 64 * length (now map)) × (hi ≤ length (now v))
-        × (from ≤ length (now v)) × (free ≤ from) × Laid (now v) (now map) from free after ⌝ }
+        × (from ≤ length (now v)) × (free ≤ from) × Adjoining (now v) (now map) from free after ⌝ }
     ensures { λ r. ⌜
         (r .next ≤ length (now (v .entry))
-        → Strip (now (v .entry)) (now (map .entry)) from hi (r .next) (r .free) (r .after) (r .most))
-        × Lays (now (v .entry)) (now (map .entry)) from free after (r .next) (r .free) (r .after)
+        → Walked (now (v .entry)) (now (map .entry)) from hi (r .next) (r .free) (r .after) (r .most))
+        × Walks (now (v .entry)) (now (map .entry)) from free after (r .next) (r .free) (r .after)
         ⌝ }
 {
     let mut at = from;
@@ -149,7 +149,7 @@ fn lay(v: &[i32], map: &[u64], from: usize, hi: usize, free: usize, after: bool)
             at += f;
         }
     }
-    Stand {
+    Walk {
         next: at,
         free: sum,
         after: last,
@@ -160,13 +160,13 @@ fn lay(v: &[i32], map: &[u64], from: usize, hi: usize, free: usize, after: bool)
 // The words of the free blocks together; more than there are, if blocks don't lie side by side up to the last word, or
 // two free ones do, or the index has another leaf or first block for a segment. One pass does both, since each block
 // that is passed costs a wait for its control word.
-fn lay_all(v: &[i32], map: &[u64], t: &[u32], segments: Segments) -> usize
+fn walk_segments(v: &[i32], map: &[u64], t: &[u32], segments: Segments) -> usize
     requires { ⌜ Sizes (length (now v)) (segments .count) (segments .size) × (length (now t) ≡ 3 * segments .count)
         × (length (now v) ≤ 64 * length (now map)) ⌝ }
     ensures { λ r. ⌜
         (r ≤ length (now (v .entry))
         → Matched (now (v .entry)) (now (map .entry)) (now (t .entry)) (segments .count) (segments .size) r)
-        × LaysAll (now (v .entry)) (now (map .entry)) (now (t .entry)) (segments .count) (segments .size) r
+        × WalksAll (now (v .entry)) (now (map .entry)) (now (t .entry)) (segments .count) (segments .size) r
         ⌝ }
 {
     let s = segments.count;
@@ -180,13 +180,13 @@ fn lay_all(v: &[i32], map: &[u64], t: &[u32], segments: Segments) -> usize
         let hi = lesser((k + 1) * g, w);
         let first = t[2 * s + k] as usize;
         if at < hi {
-            let stand = lay(&*v, &*map, at, hi, free, after);
-            if (first != at) | (w < stand.next) | (t[s + k] != stand.most) {
+            let walk = walk_blocks(&*v, &*map, at, hi, free, after);
+            if (first != at) | (w < walk.next) | (t[s + k] != walk.most) {
                 return w + 1;
             }
-            at = stand.next;
-            free = stand.free;
-            after = stand.after;
+            at = walk.next;
+            free = walk.free;
+            after = walk.after;
             k += 1;
         } else {
             if (first != w) | (t[s + k] != 0) {
@@ -324,7 +324,7 @@ fn is_shown_over(
     if words < held {
         return false;
     }
-    let free = lay_all(&*arena, &*map, &*index, segments);
+    let free = walk_segments(&*arena, &*map, &*index, segments);
     if words < free {
         return false;
     }

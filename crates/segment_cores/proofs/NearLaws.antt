@@ -28,25 +28,25 @@ use Rattle.segment_cores.specs.Views.{Whole, RunOf, Rest}
 use Rattle.segment_cores.proofs.ChangeLaws.{controls, sound-whole, sound-blocks, sound-index}
 use Rattle.segment_cores.proofs.WholeLaws.{Kind, held, free as free-kind, none, kind}
 use Rattle.segment_cores.proofs.WordLaws.{run-moves, opens-before, word-held}
-use Rattle.segment_cores.specs.Cores.{Seat, Begun, Sitting, Beneath, restAt}
+use Rattle.segment_cores.specs.Cores.{LaterBlock, Begun, HeldAt, Beneath, restAt}
 
 -- ---- a block below p
 
-module _ {c : ℕ → ℤ} {W : ℕ} {t : Words} {s d g p : ℕ} (S : Seat c W t s d g p) where
+module _ {c : ℕ → ℤ} {W : ℕ} {t : Words} {s d g p : ℕ} (S : LaterBlock c W t s d g p) where
   some-segments : 0 < s
   some-segments = sizes-some W s g (S .sizes)
 
-  pub seat-few : s ≤ 256
-  seat-few = sizes-few W s g (S .sizes)
+  pub later-few : s ≤ 256
+  later-few = sizes-few W s g (S .sizes)
 
-  seat-each : 0 < g
-  seat-each = sizes-each W s g (S .sizes)
+  later-each : 0 < g
+  later-each = sizes-each W s g (S .sizes)
 
-  pub seat-narrow : (0 < g) × (p < 2 ^ 32) × (g < 2 ^ 32)
-  seat-narrow = sizes-narrow W s g (S .sizes) p (omega (arith, S .inside))
+  pub later-narrow : (0 < g) × (p < 2 ^ 32) × (g < 2 ^ 32)
+  later-narrow = sizes-narrow W s g (S .sizes) p (omega (arith, S .inside))
 
-  pub seat-long : length t ≡ 3 * s
-  seat-long = ap length (S .was) ∙ length-indexOf c W s
+  pub later-long : length t ≡ 3 * s
+  later-long = ap length (S .was) ∙ length-indexOf c W s
 
   leaf : (k : ℕ) → k < s → getD t (s + k) 0 ≡ largest c (k * g) g
   leaf k h = ap (λ (u : Words). getD u (s + k) 0) (S .was) ∙ index-agrees c W s k h .leaf ∙ rw (S .sizes .each)
@@ -56,16 +56,16 @@ module _ {c : ℕ → ℤ} {W : ℕ} {t : Words} {s d g p : ℕ} (S : Seat c W t
 
   -- p's segment
   module _ {k : ℕ} (is : k ≡ p / g) where
-    pub seat-segment : k < s
-    seat-segment = rw (is, S .sizes .each) (segment-in W s p some-segments (S .inside))
+    pub later-segment : k < s
+    later-segment = rw (is, S .sizes .each) (segment-in W s p some-segments (S .inside))
 
     low : k * g ≤ p
     low = rw is (segment-low p g)
 
     own : (getD t (2 * s + k) 0 ≤ p) × FirstIn c (k * g) g (getD t (2 * s + k) 0)
     own =
-        rw (first k seat-segment)
-        (first-found c W (k * g) g p low (rw is (segment-high p g seat-each)) (S .here))
+        rw (first k later-segment)
+        (first-found c W (k * g) g p low (rw is (segment-high p g later-each)) (S .here))
 
     pub begun-own : getD t (2 * s + k) 0 < p → Begun c p (getD t (2 * s + k) 0)
     begun-own h = record { below = h; begins = own .1 .begins }
@@ -82,13 +82,13 @@ module _ {c : ℕ → ℤ} {W : ℕ} {t : Words} {s d g p : ℕ} (S : Seat c W t
               let z : k * g ≡ 0 = ap (λ (k : ℕ). k * g) e ∙ zero-mul g in
               absurd (omega (arith, ap natAbs (own .1 .quiet 0 (omega arith) (omega (arith, S .later))), S .start))
 
-      pub seat-later : Later d t (s + k)
-      seat-later = record {
+      pub later-index : Later d t (s + k)
+      later-index = record {
         few = S .few;
         heap = subst (λ (k : ℕ). Heap k t) (S .power) (rw (S .was) (index-heap c W s (S .sizes .power)));
         first = subst (λ (k : ℕ). 0 < getD t k 0) (S .power) first-leaf;
         after = omega (arith, S .power, not-first);
-        inside = omega (arith, S .power, seat-segment);
+        inside = omega (arith, S .power, later-segment);
       }
         where
           first-leaf : 0 < getD t s 0
@@ -96,7 +96,7 @@ module _ {c : ℕ → ℤ} {W : ℕ} {t : Words} {s d g p : ℕ} (S : Seat c W t
               let e : s + 0 ≡ s = omega arith in
               let z : 0 * g ≡ 0 = zero-mul g in
               let some =
-              largest-begun c (0 * g) g 0 (omega arith) (omega (arith, seat-each)) (begins-not (c 0) (S .start)) in
+              largest-begun c (0 * g) g 0 (omega arith) (omega (arith, later-each)) (begins-not (c 0) (S .start)) in
               omega (arith, ap (λ (k : ℕ). getD t k 0) e, leaf 0 some-segments)
 
       module _ {j : ℕ} (l : LastIn t (2 ^ d) (s + k) j) where
@@ -104,7 +104,7 @@ module _ {c : ℕ → ℤ} {W : ℕ} {t : Words} {s d g p : ℕ} (S : Seat c W t
         last-low = omega (arith, l .above, S .power)
 
         pub last-inside : j - s < s
-        last-inside = omega (arith, l .below, seat-segment, last-low)
+        last-inside = omega (arith, l .below, later-segment, last-low)
 
         pub begun-last : Begun c p (getD t (2 * s + (j - s)) 0)
         begun-last =
@@ -123,7 +123,7 @@ module _ {c : ℕ → ℤ} {W : ℕ} {t : Words} {s d g p : ℕ} (S : Seat c W t
 
 -- ---- in a sound pool
 
-module _ (L : Ledger) (v : List ℤ) (t : Words) (s d g p : ℕ) (K : Sitting L v t s d g p) where
+module _ (L : Ledger) (v : List ℤ) (t : Words) (s d g p : ℕ) (K : HeldAt L v t s d g p) where
   abbrev U : ℕ
   U = length v
 
@@ -145,8 +145,8 @@ module _ (L : Ledger) (v : List ℤ) (t : Words) (s d g p : ℕ) (K : Sitting L 
   sitting-inside : p < length v
   sitting-inside = omega (arith, Q .fits p (K .here), K .here)
 
-  pub seat : 0 < p → Seat c U t s d g p
-  seat h = record {
+  pub later-block : 0 < p → LaterBlock c U t s d g p
+  later-block h = record {
     sizes = K .sound .sizes;
     power = K .power;
     few = K .few;
@@ -266,8 +266,8 @@ module _ (L M : Ledger) (v : List ℤ) (t : Words) (s g : ℕ) (S : Sound L v t 
 -- ---- a release
 
 module _ (L M : Ledger) (v : List ℤ) (t : Words) (s d g p n : ℕ) (F : Releasing L M v t s d g p n) where
-  pub sitting : Sitting L v t s d g p
-  sitting = record {
+  pub held-at : HeldAt L v t s d g p
+  held-at = record {
     sound = F .sound;
     power = F .power;
     few = F .few;
@@ -285,11 +285,6 @@ module _ (L M : Ledger) (v : List ℤ) (t : Words) (s d g p n : ℕ) (F : Releas
       opening : (u : ℕ) → u ≤ p → opens (free segmentRule L) u ≡ opens (free segmentRule M) u
       opening zero h = refl
       opening (suc u) h = ap not (F .adds .below u (omega arith))
-
-  pub release-above : RunOf (free segmentRule M) (p + n) (length v - (p + n)) (restAt v (p + n))
-  release-above =
-      rest-above L M v t s g (F .sound) p n (F .adds .head) (F .adds .some) (F .adds .inside)
-      (λ u h. sym (F .adds .above u h))
 
 -- ---- a trim
 

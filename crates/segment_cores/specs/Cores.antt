@@ -23,7 +23,7 @@ pub record Searching (L : Ledger) (v : List ℤ) (t : Words) (s d n : ℕ) : Typ
   pub two : 2 ≤ n
 
 -- the index of the control words c, of which one is at 0 and one, past it, at p
-pub record Seat (c : ℕ → ℤ) (W : ℕ) (t : Words) (s d g p : ℕ) : Type 0 where
+pub record LaterBlock (c : ℕ → ℤ) (W : ℕ) (t : Words) (s d g p : ℕ) : Type 0 where
   pub sizes : Sizes W s g
   pub power : s ≡ 2 ^ d
   pub few : d ≤ depth
@@ -39,7 +39,7 @@ pub record Begun (c : ℕ → ℤ) (p r : ℕ) : Type 0 where
   pub begins : 0 < natAbs (c r)
 
 -- a held block of a sound pool of 2 ^ d segments begins at p
-pub record Sitting (L : Ledger) (v : List ℤ) (t : Words) (s d g p : ℕ) : Type 0 where
+pub record HeldAt (L : Ledger) (v : List ℤ) (t : Words) (s d g p : ℕ) : Type 0 where
   pub sound : Sound L v t s g
   pub power : s ≡ 2 ^ d
   pub few : d ≤ depth

@@ -14,7 +14,7 @@ ghost use Rattle.stored_forms.specs.Search.{stepsTo};
 ghost use Rattle.segment_blocks.specs.Upkeep.{Sizes};
 ghost use Rattle.segment_cores.specs.Stores.{Unheld, Granting, Releasing, Trimming, Becomes};
 ghost use Rattle.segment_cores.specs.Stores.{putRest, pastOld, merged};
-ghost use Rattle.segment_cores.specs.Cores.{Searching, Seat, Begun, Sitting, Beneath, restAt};
+ghost use Rattle.segment_cores.specs.Cores.{Searching, LaterBlock, Begun, HeldAt, Beneath, restAt};
 use segment_blocks::block_before;
 use segment_blocks::build_index;
 use segment_blocks::first_fit;
@@ -97,9 +97,9 @@ fn free_above(v: &[i32], at: usize) -> usize
 
 // A block that begins below p: the first of p's segment, or of the last segment before it in which a block begins.
 fn begun_before(t: &[u32], segments: Segments, p: usize) -> usize
-    requires { ⌜ ((c : ℕ → ℤ) × (W : ℕ) × Seat c W (now t) (segments .count) (segments .log) (segments .size) p) ⌝ }
+    requires { ⌜ ((c : ℕ → ℤ) × (W : ℕ) × LaterBlock c W (now t) (segments .count) (segments .log) (segments .size) p) ⌝ }
     ensures { λ r. ⌜
-        ((c : ℕ → ℤ) → (W : ℕ) → Seat c W (now (t .entry)) (segments .count) (segments .log) (segments .size) p
+        ((c : ℕ → ℤ) → (W : ℕ) → LaterBlock c W (now (t .entry)) (segments .count) (segments .log) (segments .size) p
         → Begun c p r)
         ⌝ }
 {
@@ -117,10 +117,10 @@ fn begun_before(t: &[u32], segments: Segments, p: usize) -> usize
 
 // The free words right below the block at p; below word 0 there are none.
 fn free_below(v: &[i32], t: &[u32], segments: Segments, p: usize) -> usize
-    requires { ⌜ ((L : Ledger) × Sitting L (now v) (now t) (segments .count) (segments .log) (segments .size) p) ⌝ }
+    requires { ⌜ ((L : Ledger) × HeldAt L (now v) (now t) (segments .count) (segments .log) (segments .size) p) ⌝ }
     ensures { λ r. ⌜
         ((L : Ledger)
-        → Sitting L (now (v .entry)) (now (t .entry)) (segments .count) (segments .log) (segments .size) p
+        → HeldAt L (now (v .entry)) (now (t .entry)) (segments .count) (segments .log) (segments .size) p
         → Beneath (free segmentRule L) p r)
         ⌝ }
 {

@@ -39,7 +39,7 @@ use Rattle.calls.specs.Step.{ask, success, fitOf, answerTo, poolAfter}
 use Rattle.calls.specs.Engines.{segmentEngine}
 use Rattle.calls.specs.Search.{placesBy}
 use Rattle.calls.proofs.ActLaws.{Asked, ask-done}
-use Rattle.calls.proofs.GrantLaws.{over, zeroed, grant-store, next-above}
+use Rattle.calls.proofs.GrantLaws.{onArena, zeroed, grant-store, next-above}
 use Rattle.record_table.proofs.SlotLaws.{empty-found}
 use Rattle.segment_check.specs.declared.Head.{Head}
 use Rattle.segment_requests.specs.Granting.{Grantable}
@@ -164,7 +164,7 @@ module _ (h : Head) (S : ℕ) (v : List ℤ) (t x : Words) (c n slot at : ℕ) (
       → u ≡ tableOf (set L slot (row (h .next) (at + 1) n c))
       → segmentPool S (record { next = nextAfter (h .next) }) b u y ≡ poolAfter segmentEngine lent (ask c n)
   place-pool b u y becomes e =
-      stored-pool (over lent (zeroed segmentEngine lent c n at)) (enter new L) (nextAfter (h .next)) ground b u y
+      stored-pool (onArena lent (zeroed segmentEngine lent c n at)) (enter new L) (nextAfter (h .next)) ground b u y
       ground-words becomes
       (e ∙ ap (λ (z : ℕ). tableOf (set L slot (row (h .next) z n c))) (sym (address-after at))
       ∙ ap tableOf (sym (empty-found t slot (f .empty) .2 new)))

@@ -56,6 +56,6 @@ outcomeOf r = record { head = r .head; answer = r .answer }
 abbrev pub allocated : Pool → ℕ → ℕ → Result × ℕ
 allocated p c n = (resultOf (step segmentEngine (allocate c n) p), placesOf p c n)
 
--- what a release comes to by its number: a refusal, or the named record once more; no ticket is used up
+-- what a release or a trim comes to by its number: a refusal, or the record r that it answers; no ticket is used up
 abbrev pub releaseOutcome : Head → Row → ℕ → Outcome
 releaseOutcome h r n = cond (eqb n 0) (record { head = h; answer = success r }) (refusedWith h n)

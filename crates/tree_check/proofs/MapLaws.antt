@@ -1,7 +1,7 @@
 -- The map of a table's records, slot after slot. Assumes nothing.
 use Prim.Native.Nat.{ℕ, _+_, _*_, _/_, _≤_, _<_}
 use native.Mathlib.Decide.{decLe, decLt, ℕ-discrete}
-use native.Mathlib.Nat.{add-mul, zero-mul, mul-comm, mul-left-comm, mul-le-mul-right, mul-lt-mul-of-pos-right}
+use native.Mathlib.Nat.{add-zero, add-mul, zero-mul, mul-comm, mul-left-comm, mul-le-mul-right, mul-lt-mul-of-pos-right}
 use native.Mathlib.Nat.{div-le-self, div-mul-le-self, le-div-iff-mul-le, div-lt-iff-lt-mul}
 use native.Mathlib.Omega.{arith}
 use mathlib.Core.Path.{_≡_, refl, sym, ap, _∙_, subst}
@@ -22,11 +22,11 @@ use Rattle.stored_forms.proofs.FreeTreeLaws.{cells-pos}
 use Rattle.record_table.specs.Checks.{rowOk}
 use Rattle.record_table.specs.Partition.{unitsOf, Noted, Joins, Entered}
 use Rattle.record_table.proofs.PartitionLaws.{sum-part, held-by, no-share, valid-entered, valid-exact}
-use Rattle.record_table.proofs.EnterLaws.{enter-start, enter-next, noted-start}
+use Rattle.record_table.proofs.EnterLaws.{enter-start, enter-next, empty-joins, noted-start, note-none}
 use Rattle.tree_check.specs.Maps.{isEntries, homes, home, Covers, Adds, Mapped}
 use Rattle.tree_check.specs.Maps.{Leads, Bare, Spare, Grows, most, Led}
 use Rattle.tree_check.proofs.LeadLaws.{leads-keep}
-use Rattle.tree_check.proofs.SpanLaws.{no-units}
+use Rattle.tree_check.proofs.SpanLaws.{no-units, grows-none}
 
 -- ---- where searches begin
 
@@ -167,6 +167,13 @@ module _ (ρ : Rule) (unit : 0 < ρ .unit) where
                   (led-new (ap (λ k. isLive (recordAt t k)) (sym e) ∙ live))
               go (no e) = led-old j (omega arith) live (led j (omega arith) live)
 
+  -- a record that joins has units, unless it is empty
+  pub some-units : (W next : ℕ) (t : Words) (i n : ℕ) → isEmpty (recordAt t i) ≡ false → Joins ρ W next t i n → 0 < n
+  some-units W next t i n live joins =
+      let fit = fits-facts ρ unit W next (recordAt t i) (rw live at (joins .0)) in
+      let long : n ≡ span ρ (recordAt t i .words) = joins .2 ∙ rw live in
+      omega (arith, fit .nonempty, past-is ρ (recordAt t i))
+
   -- the first records of a valid table have few units together
   pub rows-few : (W next : ℕ) (t : Words) → valid ρ W next (recordsOf t) ≡ true
       → {i held : ℕ} → i ≤ slots t → Entered ρ W next t i held → held ≤ W
@@ -229,6 +236,15 @@ module _ {ρ : Rule} {p W next : ℕ} {t : Words} {m : ℕ} where
         led = λ good. led-next ρ unit p per W next t i n joins map map′ l (c .enough) (c .bare) (c .known) grows good
             (c .led good);
       }
+
+  -- an empty slot adds nothing
+  pub map-skip : (unit : 0 < ρ .unit) (per : 0 < p) {map seen : Words} {held i : ℕ}
+      → Mapping ρ p W next t m map seen held i → i < slots t → isEmpty (recordAt t i) ≡ true
+      → Mapping ρ p W next t m map seen held (i + 1)
+  map-skip unit per {map} {seen} {held} {i} c l none =
+      subst (λ h. Mapping ρ p W next t m map seen h (i + 1)) (add-zero held)
+      (map-next unit per 0 map seen c l (omega (arith, c .few)) (empty-joins ρ W next t i none)
+      (note-none m seen t i (c .residues) none) refl (grows-none map (first ρ (recordAt t i) * p) (0 * p) (zero-mul p)))
 
   pub map-end : {map seen : Words} {held i : ℕ} → Mapping ρ p W next t m map seen held i → slots t ≤ i
       → Mapped ρ p W next t held map

@@ -14,7 +14,7 @@ use Rattle.words.proofs.ListLaws.{zeros-at}
 use Rattle.tree_check.specs.Maps.{fourAt, isEntries, firstAt, cellsAt, Covers, Adds}
 use Rattle.record_table.specs.Leads.{here, more}
 use Rattle.tree_check.specs.Maps.{home, Next, Leads, Bare, Spare, Grows, FourPut}
-use Rattle.tree_check.proofs.LeadLaws.{byte-next, byte-found}
+use Rattle.tree_check.proofs.LeadLaws.{byte-next, byte-found, next-one}
 
 -- ---- no span
 
@@ -417,3 +417,11 @@ module _ {map : Words} {k i : ℕ} (entries : isEntries map ≡ true) (s : Searc
           let b″ = getD-past map (8 * f .place + 4 + 2) (omega arith) in
           let b‴ = getD-past map (8 * f .place + 4 + 3) (omega arith) in
           omega arith
+
+  -- an entry that begins with cell k says how many cells it has, and none if it is empty
+  pub search-told : (n : ℕ) → fourAt map i ≡ k → n ≡ fourAt map (i + 4) → (x : ℕ) → Next map k x → n ≡ x
+  search-told n first units x f = go (decLt 0 n)
+    where
+      go : Dec (0 < n) → n ≡ x
+      go (yes some) = next-one (search-found n some first units) f
+      go (no none) = absurd (search-none x f (λ e. omega arith))

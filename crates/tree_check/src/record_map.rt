@@ -7,8 +7,7 @@ use tree_nodes::forms::cells_per_unit;
 use tree_nodes::forms::rule_of;
 ghost use mathlib.Core.Path.{_≡_};
 ghost use mathlib.Core.Bool.{true, false};
-ghost use mathlib.Core.Logic.{_≢_};
-ghost use Prim.Native.Nat.{ℕ, _+_, _*_, _/_, _<_, _≤_};
+ghost use Prim.Native.Nat.{ℕ, _+_, _*_, _/_, _%_, _<_, _≤_};
 ghost use lib.ListN.{length, getD};
 ghost use Rattle.words.specs.Lists.{all, isZero};
 ghost use Rattle.words.specs.Flags.{Says};
@@ -73,12 +72,11 @@ fn entry_for(map: &[u8], k: usize) -> usize
 {
     let mut i = 8 * home_of(map.len(), k);
     while i + 7 < map.len() {
-        let n = four_at(map, i + 4);
-        if n == 0 {
-            return 0;
-        }
         if four_at(map, i) == k {
-            return n;
+            return four_at(map, i + 4);
+        }
+        if four_at(map, i + 4) == 0 {
+            return 0;
         }
         i += 8;
     }
@@ -147,17 +145,12 @@ fn note_span(map: &mut [u8], lo: usize, n: usize)
     map[at] = left as u8;
 }
 
-// The same in either map, for the cells of a record of n units, `per` to a unit. An empty one has none, though its
-// address is cell 0's.
+// The same in either map, for the cells of a record of n units, `per` to a unit.
 fn note_row(map: &mut [u8], rule: Rule, r: Row, n: usize, per: usize)
-    requires { ⌜ (0 < rule .unit) × (0 < per) ⌝ }
-    requires { ⌜ (n ≢ 0 → (first rule r * per + n * per < 4294967296)
-        × Roomy (now map) (first rule r * per + n * per)) ⌝ }
+    requires { ⌜ (0 < rule .unit) × (0 < per) × (0 < n) ⌝ }
+    requires { ⌜ (first rule r * per + n * per < 4294967296) × Roomy (now map) (first rule r * per + n * per) ⌝ }
     ensures { λ _. ⌜ Grows (now (map .entry)) (now (map .exit)) (first rule r * per) (n * per) ⌝ }
 {
-    if n == 0 {
-        return;
-    }
     let lo = record_table::first_unit(rule, r) * per;
     let count = n * per;
     if map.len() % 8 == 1 {
@@ -181,7 +174,7 @@ pub fn map_rows(
 ) -> usize
     requires { ⌜ (slots (now table) ≤ 256) × (words ≤ 1048576) × Roomy (now map) (words / formOf form .cell) ⌝ }
     requires { ⌜ (all isZero (now map) ≡ true) × (0 < m) × (length (now seen) ≡ m) ⌝ }
-    requires { ⌜ slots (now table) ≤ most (now map) ⌝ }
+    requires { ⌜ (slots (now table) ≤ most (now map)) × (words % formOf form .unit ≡ 0) ⌝ }
     ensures { λ r. ⌜ (r ≤ words → Mapped (formRule (formOf form)) (cellsPerUnit (formOf form)) words next
         (now (table .entry)) r (now (map .exit))) ⌝ }
     ensures { λ r. ⌜ (valid (formRule (formOf form)) words next (recordsOf (now (table .entry))) ≡ true → r ≤ words) ⌝ }
@@ -193,7 +186,14 @@ pub fn map_rows(
     let mut i = 0;
     while i < count {
         let r = record_table::read_row(table, i);
-        let n = record_table::enter_row(rule, words, next, table, i, r, &mut *seen, m);
+        if record_table::is_empty(r) {
+            i += 1;
+            continue;
+        }
+        if !record_table::may_enter(rule, words, next, table, i, r, &mut *seen, m) {
+            return words + 1;
+        }
+        let n = record_table::span_of(rule, r.words);
         if words - held < n {
             return words + 1;
         }

@@ -38,7 +38,7 @@ use Rattle.calls.specs.Pool.{Pool, nextAfter, sound}
 use Rattle.calls.specs.Step.{ask, success, fitOf, answerTo, poolAfter}
 use Rattle.calls.specs.Engines.{treeEngine}
 use Rattle.calls.proofs.ActLaws.{Asked, ask-done}
-use Rattle.calls.proofs.GrantLaws.{over, start, end, zeroed, length-zeroed, grant-store, grant-valid, zeroed-keeps}
+use Rattle.calls.proofs.GrantLaws.{onArena, start, end, zeroed, length-zeroed, grant-store, grant-valid, zeroed-keeps}
 use Rattle.calls.proofs.Engines.{tree-laws}
 use Rattle.record_table.proofs.SlotLaws.{empty-found}
 use Rattle.tree_check.specs.Gate.{treePool}
@@ -233,7 +233,7 @@ module _ (h : Head) (a t : Words) (ok : sound treeEngine (treePool h a t) ≡ tr
         → treePool (record { root = root′; next = nextAfter (h .next); form = h .form }) b u
         ≡ poolAfter treeEngine (treePool h a t) (ask c n)
     grant-pool e =
-        stored-pool (over p ground) (enter new L) (nextAfter (h .next)) (nextAfter (h .next)) root′ b u
+        stored-pool (onArena p ground) (enter new L) (nextAfter (h .next)) (nextAfter (h .next)) root′ b u
         (ap (λ (m : ℕ). m % F .unit) long ∙ sound-range h a t ok .whole)
         (subst (λ (m : ℕ). valid ρ m (nextAfter (h .next)) (enter new L) ≡ true) (sym long) good) shows e
         ∙ unfold treeEngine in sym (ask-done treeEngine p c n (r .start) asked .1 ∙ grant-store treeEngine p c n (r .start))
@@ -256,7 +256,7 @@ module _ (h : Head) (a t : Words) (c n slot block father : ℕ) (f : Grantable h
   cell = block - 1
 
   linked : block ≡ suc cell
-  linked = let z = f .seat .0 in omega arith
+  linked = let z = f .node-of .0 in omega arith
 
   units : 1 ≤ span (formRule G) n
   units = some-units (h .form) n (f .size)
@@ -291,7 +291,7 @@ module _ (h : Head) (a t : Words) (c n slot block father : ℕ) (f : Grantable h
         ∙ append-scaled (cellsPerUnit G) (some-cells (h .form)) (fits .3 .before) found (fits .3 .after))
         (sound-lies h a t (f .ok));
     at = linked ∙ ap suc (sym (fits .2));
-    seat = f .seat;
+    node-of = f .node-of;
     some = some-span (h .form) n units;
     enough = mul-le-mul-right (cellsPerUnit G) (le-of (span (formRule G) n) (found .size) (fits .3 .passes));
   }

@@ -7,7 +7,7 @@ use lib.Dec.{eqb, ltb}
 use Rattle.words.specs.Lists.{Words}
 use Rattle.ledger.specs.Records.{isParty, recordsOf}
 use Rattle.stored_forms.specs.Tree.{formOf}
-use Rattle.free_tree.specs.Held.{LeftmostFound, Seat}
+use Rattle.free_tree.specs.Held.{LeftmostFound, NodeOf}
 use Rattle.calls.specs.Pool.{sound}
 use Rattle.calls.specs.Engines.{treeEngine}
 use Rattle.record_table.specs.declared.Found.the-variants.{At}
@@ -25,4 +25,4 @@ pub record Grantable (h : Head) (a t : Words) (c n slot block father : ℕ) : Ty
   pub empty : emptySlot (recordsOf t) ≡ At slot
   pub ticket : h .next ≢ 0
   pub fit : LeftmostFound (formOf (h .form)) a (h .root) (cellSpan (formOf (h .form)) n) block
-  pub seat : Seat (formOf (h .form)) a (h .root) block father
+  pub node-of : NodeOf (formOf (h .form)) a (h .root) block father

@@ -50,7 +50,7 @@ grantOutcome h n e =
     })
     (refusedWith h (effectNumber e))
 
--- what a release comes to by its effect: a refusal, or the named record once more; no ticket is used up
+-- what a release or a trim comes to by its effect: a refusal, or the record r that it answers; no ticket is used up
 abbrev pub releaseOutcome : Head → Row → ℕ → Outcome
 releaseOutcome h r e =
     cond (eqb (effectNumber e) 0)

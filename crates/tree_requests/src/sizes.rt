@@ -1,6 +1,4 @@
 // Sizes by the form (02, tickets 3 and 11). The ledger counts units, and the free tree cells.
-use tree_nodes::forms::cells_per_unit;
-use tree_nodes::forms::rule_of;
 ghost use mathlib.Core.Path.{_≡_};
 ghost use Prim.Native.Nat.{_*_, _<_};
 ghost use Rattle.stored_forms.specs.Tree.{formOf};
@@ -16,11 +14,19 @@ pub fn limit_of(form: u32) -> u32
     16384
 }
 
-// How many cells a request for so many words takes.
+// How many cells a request for so many words takes: its units times the cells of each, with the form's numbers, so that
+// none is looked up and nothing is divided by a variable.
 pub fn cells_of(form: u32, words: u32) -> usize
     ensures { λ r. ⌜ r ≡ cellSpan (formOf form) words ⌝ }
 {
-    record_table::span_of(rule_of(form), words) * cells_per_unit(form)
+    let n = words as usize;
+    if form == 2 {
+        return (n + 3) / 4;
+    }
+    if form == 3 {
+        return (n + 7) / 8 * 4;
+    }
+    (n + 1) / 2
 }
 
 // The first word of cell `c`.

@@ -6,7 +6,7 @@ use lib.ListN.{replicate}
 use Rattle.calls.specs.Pool.{sound}
 use Rattle.calls.specs.Step.{step}
 use Rattle.calls.specs.Engines.{treeEngine, segmentEngine}
-use Rattle.calls.specs.Demand3.{isOld, Sequence}
+use Rattle.calls.specs.Demand3.{Sequence}
 use Rattle.calls.specs.Computing.{treeMachine, segmentMachine}
 use Rattle.worked_cases.specs.SharedPool.{sharedTree, sharedSegments, numbers, treeViews, segmentViews, everyCall}
 use Rattle.worked_cases.specs.SharedPool.{listed, listedAnswers, listedTable, soundBy, oldTable, oldShort, freeTree}
@@ -46,5 +46,5 @@ unfolding treeMachine
 old-tables = (refl, refl, refl, refl, refl, refl, refl)
 
 pub shared-sequence : (sound treeEngine sharedTree ≡ true) × Sequence treeEngine sharedTree sharedSet sharedEvents
-unfolding treeMachine isOld
+unfolding treeMachine
 shared-sequence = (refl, refl)

@@ -4,7 +4,7 @@ use borrow.Author.Needs.{needs}
 use Rattle.stored_forms.specs.Tree.{formOf}
 use Rattle.free_tree.proofs.Numbers.{in-kept}
 use Rattle.stored_forms.proofs.NodeLaws.{readable}
-use Rattle.free_blocks.proofs.TakeLaws.{take-in, take-tree, take-seat, take-longer, take-part, take-whole}
+use Rattle.free_blocks.proofs.TakeLaws.{take-in, take-tree, take-node, take-longer, take-part, take-whole}
 use Rattle.free_blocks.proofs.take_cells.Statement.{statement}
 use Rattle.free_blocks.proofs.take_cells.Tie as tie
 
@@ -21,7 +21,7 @@ shrink-requires : tie.Need-shrink-requires
 shrink-requires c κs =
     let p = c .before .before .before .before .before .pre in
     let longer = take-longer (readable _) (c .before .before .length-of .ensures) (c .before .if1 .taken) p in
-    (longer, take-seat (readable _) p)
+    (longer, take-node (readable _) p)
 
 clear-node-requires : tie.Need-clear-node-requires
 clear-node-requires c κs =
@@ -42,7 +42,7 @@ returns c =
 
 delete-at-requires : tie.Need-delete-at-requires
 delete-at-requires c κs =
-    let p = c .before .before .before .before .before .pre in (take-tree (readable _) p, take-seat (readable _) p)
+    let p = c .before .before .before .before .before .pre in (take-tree (readable _) p, take-node (readable _) p)
 
 clear-node-requires-2 : tie.Need-clear-node-requires-2
 clear-node-requires-2 c κs =

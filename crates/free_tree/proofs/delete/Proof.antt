@@ -4,7 +4,7 @@
 use borrow.Author.Needs.{needs}
 use Rattle.stored_forms.proofs.NodeLaws.{readable}
 use Rattle.free_tree.proofs.PlaceSteps.{place-kept}
-use Rattle.free_tree.proofs.ChangeSteps.{deletes, delete-none, placed-seat, seat-deleted}
+use Rattle.free_tree.proofs.ChangeSteps.{deletes, delete-none, placed-node, node-deleted}
 use Rattle.free_tree.proofs.delete.Statement.{statement}
 use Rattle.free_tree.proofs.delete.Tie as tie
 
@@ -23,7 +23,7 @@ returns c =
 delete-at-requires : tie.Need-delete-at-requires
 delete-at-requires c κs =
     let s = c .before .before .before .before .before in
-    (s .pre, placed-seat (readable _) (c .before .before .place-of .ensures) (c .before .if1 .left) (s .pre))
+    (s .pre, placed-node (readable _) (c .before .before .place-of .ensures) (c .before .if1 .left) (s .pre))
 
 same-length-2 : tie.Need-same-length-2
 same-length-2 c = search needs
@@ -33,7 +33,7 @@ returns-2 c =
     let b2 = c .before .before in
     let b4 = b2 .before .before in
     let b5 = b4 .before in
-    seat-deleted (readable _) (b5 .place-of .ensures) (b4 .if1 .left) (b2 .delete-at .ensures)
+    node-deleted (readable _) (b5 .place-of .ensures) (b4 .if1 .left) (b2 .delete-at .ensures)
 
 pub delete-spec : {M : Type 1} → statement M
 delete-spec =

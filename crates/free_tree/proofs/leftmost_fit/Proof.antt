@@ -9,7 +9,7 @@ use Rattle.stored_forms.specs.Tree.{formOf}
 use Rattle.stored_forms.proofs.NodeLaws.{readable}
 use Rattle.free_tree.proofs.StepLaws.{count, at-in, down-left}
 use Rattle.free_tree.proofs.SeekSteps.{FitLeft, fit-start, fit-tree, fit-stop, fit-next, fit-end}
-use Rattle.free_tree.proofs.SeekSteps.{OnLeft, left-start, left-next, left-seat}
+use Rattle.free_tree.proofs.SeekSteps.{OnLeft, left-start, left-next, left-node}
 use Rattle.free_tree.proofs.leftmost_fit.Statement.{statement}
 use Rattle.free_tree.proofs.leftmost_fit.Tie as tie
 
@@ -40,7 +40,7 @@ returns c =
     let b3 = b2 .before in
     let inv = b3 .loop .inv in (
       fit-stop (readable _) (b2 .loop-test .taken) (b1 .length-of .ensures) (inv .0) (c .if1 .taken),
-      λ z. left-seat (readable _) z (inv .2 z),
+      λ z. left-node (readable _) z (inv .2 z),
     )
 
 left-of-requires : tie.Need-left-of-requires Inv-loop μ-loop
@@ -74,7 +74,7 @@ loop-again c =
 returns-2 : tie.Need-returns-2 Inv-loop μ-loop
 returns-2 c =
     let inv = c .before .loop .inv in
-    (fit-end (readable _) (c .loop-test .left) (inv .0), λ z. left-seat (readable _) z (inv .2 z))
+    (fit-end (readable _) (c .loop-test .left) (inv .0), λ z. left-node (readable _) z (inv .2 z))
 
 pub leftmost-fit-spec : {M : Type 1} → statement M
 leftmost-fit-spec =

@@ -38,8 +38,8 @@ length-of-requires c κs =
 cast-n : tie.Need-cast-n
 cast-n c = search needs
 
-add-settle : tie.Need-add-settle
-add-settle c =
+add-heapify : tie.Need-add-heapify
+add-heapify c =
     let b1 = c .before in
     let b3 = b1 .before .before in
     let b5 = b3 .before .before in
@@ -49,8 +49,8 @@ add-settle c =
     (at-run b8) in
     omega (arith, few-links (b8 .args .form))
 
-sub-settle : tie.Need-sub-settle
-sub-settle c =
+sub-heapify : tie.Need-sub-heapify
+sub-heapify c =
     let b1 = c .before in
     let b3 = b1 .before .before in
     let b5 = b3 .before .before in
@@ -60,11 +60,11 @@ sub-settle c =
     (at-run b8) in
     omega arith
 
-cast-settle : tie.Need-cast-settle
-cast-settle c = search needs
+cast-heapify : tie.Need-cast-heapify
+cast-heapify c = search needs
 
-settle-requires : tie.Need-settle-requires
-settle-requires c κs =
+heapify-requires : tie.Need-heapify-requires
+heapify-requires c κs =
     let b1 = c .before in
     let b3 = b1 .before .before in
     let b5 = b3 .before .before in
@@ -85,7 +85,7 @@ attach-requires c κs =
     let (inside, link, root) =
     place-ready (readable _) (shrinks (readable _) (s .args .at - 1) n (s .args .k)) (s .pre .1 .1)
     (shrink-here (readable _) (b9 .left-of .ensures) (b7 .right-of .ensures) (b5 .length-of .ensures)
-    (b3 .settle .ensures)) (t, p) in
+    (b3 .heapify .ensures)) (t, p) in
     (inside, (link, root, omega arith))
 
 link-of-requires : tie.Need-link-of-requires
@@ -105,7 +105,7 @@ returns c t n =
     rw (c .link-of .ensures)
     (place-attached (readable _) (shrinks (readable _) (s .args .at - 1) n (s .args .k)) (s .pre .1 .1)
     (shrink-here (readable _) (b13 .left-of .ensures) (b11 .right-of .ensures) (b9 .length-of .ensures)
-    (b7 .settle .ensures)) (b3 .attach .ensures .0) t)
+    (b7 .heapify .ensures)) (b3 .attach .ensures .0) t)
 
 pub shrink-spec : {M : Type 1} → statement M
 shrink-spec =
@@ -116,10 +116,10 @@ shrink-spec =
     right-of-requires
     length-of-requires
     cast-n
-    add-settle
-    sub-settle
-    cast-settle
-    settle-requires
+    add-heapify
+    sub-heapify
+    cast-heapify
+    heapify-requires
     attach-requires
     link-of-requires
     same-length

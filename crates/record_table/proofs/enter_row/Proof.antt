@@ -1,13 +1,14 @@
 -- `record_table::enter_row` meets its contract. Assumes nothing.
+use native.Mathlib.Nat.{mul-div-le, mul-mod-right}
 use native.Mathlib.Omega.{arith}
 use mathlib.Core.Path.{_≡_, sym, ap, _∙_}
 use mathlib.Core.Bool.{true, false≢true}
 use denote.Ref.{now}
 use Rattle.words.proofs.Tests.{not-true, not-false}
-use Rattle.ledger.specs.declared.Row.{Row}
 use Rattle.ledger.specs.Records.{recordAt, isEmpty}
 use Rattle.record_table.specs.Checks.{rowOk}
-use Rattle.record_table.proofs.EnterLaws.{empty-joins, live-joins, note-none, fit-row}
+use Rattle.record_table.proofs.CheckLaws.{row-whole}
+use Rattle.record_table.proofs.EnterLaws.{empty-joins, note-none, fit-row}
 use borrow.Author.Needs.{needs}
 use Rattle.record_table.proofs.enter_row.Statement.{statement}
 use Rattle.record_table.proofs.enter_row.Tie as tie
@@ -31,45 +32,43 @@ returns c =
       λ ok new. omega arith,
     )
 
-row-fits-requires : tie.Need-row-fits-requires
-row-fits-requires c κs = search needs
+cast-unit : tie.Need-cast-unit
+cast-unit c = search needs
+
+whole-units-requires : tie.Need-whole-units-requires
+whole-units-requires c κs = search needs
+
+mul-room : tie.Need-mul-room
+mul-room c =
+    let s = c .before .before .before .before .before .before in
+    rw (c .whole-units .ensures) (omega (arith, s .pre .0 .1, mul-div-le (s .args .words) (s .args .rule .unit)))
+
+may-enter-requires : tie.Need-may-enter-requires
+may-enter-requires c κs =
+    let o = c .before in
+    let empty = o .before .before .before in
+    let s = empty .before .before .before in
+    let (unit, words, i, is) = s .pre .0 in (
+      (unit, mul-mod-right (s .args .rule .unit) (o .whole-units .result), i, is),
+      (sym (empty .is-empty .ensures) ∙ o .before .before .if1 .left, s .pre .1),
+    )
 
 add-result : tie.Need-add-result
 add-result c = search needs
 
-returns-2 : tie.Need-returns-2
-returns-2 c =
-    let fit = c .before in
-    let s = fit .before .before .before .before .before in
-    let a = s .args in (
-      λ l. absurd (omega arith),
-      λ ok new. absurd (false≢true (sym (not-true (fit .row-fits .result) (c .if2 .taken)) ∙ fit .row-fits .ensures
-          ∙ ap (rowOk (a .rule) (a .words) (a .next)) (s .pre .0 .3) ∙ ok)),
-    )
-
-is-new-requires : tie.Need-is-new-requires
-is-new-requires c κs =
-    let fit = c .before .before in
-    let empty = fit .before .before in
-    let s = empty .before .before .before in
-    let a = s .args in
-    let (unit, words, i, is) = s .pre .0 in
-    let (live, room) = fit-row (a .rule) unit (a .words) (a .next) (a .r)
-    (sym (empty .is-empty .ensures) ∙ fit .before .if1 .left)
-    (sym (fit .row-fits .ensures) ∙ not-false (fit .row-fits .result) (c .before .if2 .left)) in
-    ((i, ap (λ (r : Row). r .ticket) is, live), s .pre .1)
-
-add-result-2 : tie.Need-add-result-2
-add-result-2 c = search needs
-
 same-length : tie.Need-same-length
 same-length c = search needs
 
-returns-3 : tie.Need-returns-3
-returns-3 c =
-    let new = c .before .before .before in (
+returns-2 : tie.Need-returns-2
+returns-2 c =
+    let m = c .before .before .before in
+    let o = m .before .before in
+    let s = o .before .before .before .before .before .before in
+    let a = s .args in (
       λ l. absurd (omega arith),
-      λ ok is. absurd (false≢true (sym (not-true (new .is-new .result) (c .if3 .taken)) ∙ new .is-new .ensures .0 ∙ is)),
+      λ ok new. absurd (false≢true (sym (not-true (m .may-enter .result) (c .if2 .taken)) ∙ m .may-enter .ensures .1
+          (row-whole (a .rule) (s .pre .0 .0) (a .words) (a .next) (recordAt (now (a .table)) (a .i)) (o .whole-units .result)
+          (o .whole-units .ensures) ∙ ok) new)),
     )
 
 span-of-requires : tie.Need-span-of-requires
@@ -78,24 +77,22 @@ span-of-requires c κs = search needs
 same-length-2 : tie.Need-same-length-2
 same-length-2 c = search needs
 
-returns-4 : tie.Need-returns-4
-returns-4 c =
-    let new = c .before .before .before .before in
-    let fit = new .before .before .before in
-    let empty = fit .before .before in
+returns-3 : tie.Need-returns-3
+returns-3 c =
+    let m = c .before .before .before .before in
+    let o = m .before .before in
+    let empty = o .before .before .before in
     let s = empty .before .before .before in
     let a = s .args in
-    let fit-ok = not-false (fit .row-fits .result) (new .before .before .if2 .left) in
-    let new-ok = not-false (new .is-new .result) (c .before .if3 .left) in
-    let live = sym (empty .is-empty .ensures) ∙ fit .before .if1 .left in
-    let ok = sym (fit .row-fits .ensures) ∙ fit-ok in
-    let (ticket, room) = fit-row (a .rule) (s .pre .0 .0) (a .words) (a .next) (a .r) live ok in
+    let whole = row-whole (a .rule) (s .pre .0 .0) (a .words) (a .next) (recordAt (now (a .table)) (a .i)) (o .whole-units .result)
+    (o .whole-units .ensures) in
+    let (joins, noted) = m .may-enter .ensures .0 (not-false (m .may-enter .result) (c .before .if2 .left)) in
+    let live = sym (empty .is-empty .ensures) ∙ o .before .before .if1 .left in
+    let ok = sym whole ∙ joins .0 in
+    let (ticket, room) = fit-row (a .rule) (s .pre .0 .0) (a .words) (a .next) (a .r) live
+    (ap (rowOk (a .rule) (a .words) (a .next)) (s .pre .0 .3) ∙ ok) in
     let units = c .span-of .ensures in (
-      λ l. (
-        live-joins (a .rule) (a .words) (a .next) (now (a .table)) (a .i) (c .span-of .result) (a .r) (s .pre .0 .3)
-            live ok (sym (new .is-new .ensures .0) ∙ new-ok) units,
-        new .is-new .ensures .1,
-      ),
+      λ l. ((ok, joins .1, units ∙ joins .2), noted),
       λ good is. omega arith,
     )
 
@@ -105,13 +102,13 @@ enter-row-spec =
     (tie.spec
     is-empty-requires
     returns
-    row-fits-requires
+    cast-unit
+    whole-units-requires
+    mul-room
+    may-enter-requires
     add-result
-    returns-2
-    is-new-requires
-    add-result-2
     same-length
-    returns-3
+    returns-2
     span-of-requires
     same-length-2
-    returns-4)
+    returns-3)

@@ -1,9 +1,7 @@
 -- `record_table::live_fits` meets its contract. Assumes nothing.
-use native.Mathlib.Omega.{arith}
 use mathlib.Core.Path.{sym}
 use borrow.Author.Needs.{needs}
-use Rattle.ledger.specs.Units.{fits}
-use Rattle.record_table.proofs.CheckLaws.{past-low, low-unfit}
+use Rattle.record_table.proofs.CheckLaws.{low-unfit, fits-by-words}
 use Rattle.record_table.proofs.live_fits.Statement.{statement}
 use Rattle.record_table.proofs.live_fits.Tie as tie
 
@@ -18,14 +16,11 @@ begin-of-requires c κs = search needs
 cast-end : tie.Need-cast-end
 cast-end c = search needs
 
-past-unit-requires : tie.Need-past-unit-requires
-past-unit-requires c κs = search needs
+cast-end-2 : tie.Need-cast-end-2
+cast-end-2 c = search needs
 
-mul-end : tie.Need-mul-end
-mul-end c =
-    let a = c .before .before .before .before .before .before .args in
-    let e = c .past-unit .ensures in
-    rw e (omega (arith, past-low (a .rule) (a .r)))
+add-end : tie.Need-add-end
+add-end c = search needs
 
 is-party-requires : tie.Need-is-party-requires
 is-party-requires c κs = search needs
@@ -34,11 +29,13 @@ rest-requires : tie.Need-rest-requires
 rest-requires c κs = search needs
 
 returns-2 : tie.Need-returns-2
-unfolding fits
 returns-2 c =
     let p = c .before .before .before in
-    let d = p .before .before .before .before in
-    rw (c .rest .ensures, p .is-party .ensures, d .past-unit .ensures, d .before .before .begin-of .ensures)
+    let b = p .before .before .before .before .before .before in
+    let s = b .before .before .before .before in
+    let a = s .args in
+    rw (c .rest .ensures, p .is-party .ensures, b .begin-of .ensures)
+    (fits-by-words (a .rule) (s .pre .0) (a .words) (s .pre .1) (a .next) (a .r))
 
 pub live-fits-spec : {M : Type 1} → statement M
 live-fits-spec =
@@ -47,8 +44,8 @@ live-fits-spec =
     returns
     begin-of-requires
     cast-end
-    past-unit-requires
-    mul-end
+    cast-end-2
+    add-end
     is-party-requires
     rest-requires
     returns-2)

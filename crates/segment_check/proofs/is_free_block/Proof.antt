@@ -8,7 +8,7 @@ use denote.Ref.{now}
 use lib.Dec.{ltb}
 use lib.ListN.{length}
 use Rattle.words.proofs.Tests.{or-l, or-r, not-lt, of-ge}
-use Rattle.segment_check.proofs.LaidLaws.{free-block, block-zeros}
+use Rattle.segment_check.proofs.AdjoiningLaws.{free-block, block-zeros}
 use Rattle.segment_check.proofs.is_free_block.Statement.{statement}
 use Rattle.segment_check.proofs.is_free_block.Tie as tie
 

@@ -4,7 +4,7 @@ use native.Mathlib.Omega.{arith}
 use mathlib.Core.Path.{_≡_, _∙_}
 use lib.ListN.{length}
 use Rattle.ledger.specs.Records.{slots}
-use Rattle.segment_check.specs.Laid.{Headed, Shown}
+use Rattle.segment_check.specs.Adjoining.{Headed, Shown}
 use mathlib.Core.Bool.{false≢true}
 use borrow.Author.Needs.{needs}
 use denote.Ref.{now}
@@ -13,11 +13,11 @@ use Rattle.segment_check.proofs.HeadLaws.{tiles-stored, stored-good, st
 use Rattle.segment_check.proofs.is_shown_over.Statement.{statement}
 use Rattle.segment_check.proofs.is_shown_over.Tie as tie
 
--- the places before: the blocks laid, the records entered before that, and the function's entry
-abbrev entered : tie.After-lay-all → tie.After-map-rows
+-- the places before: the blocks walked over, the records entered before that, and the function's entry
+abbrev entered : tie.After-walk-segments → tie.After-map-rows
 entered c = c .before .before .before .before .before .before .before
 
-abbrev start : tie.After-lay-all → tie.Start
+abbrev start : tie.After-walk-segments → tie.Start
 start c = entered c .before .before .before .before .before .before .before
 
 -- what the records say of a pool that is stored
@@ -32,17 +32,17 @@ headed d P =
     d .map-rows .ensures .1
     (stored-good (now (a .arena)) (a .next) (now (a .table)) (now (a .index)) _ _ (s .pre .0) P)
 
--- and the blocks that are laid
-exact : (c : tie.After-lay-all) → (let a = start c .args in
+-- and the blocks that were walked over
+exact : (c : tie.After-walk-segments) → (let a = start c .args in
     Shown (a .next) (now (a .arena)) (now (a .table)) (now (a .index)) (a .segments .count)
-    → c .lay-all .result + entered c .map-rows .result ≡ length (now (a .arena)))
+    → c .walk-segments .result + entered c .map-rows .result ≡ length (now (a .arena)))
 exact c P =
     let d = entered c in
     let s = start c in
     let a = s .args in
     stored-exact (now (a .arena)) (a .next) (now (a .table)) (now (a .index)) _ _ (s .pre .0) P
     (d .map-rows .last .1 .1 .1 .0) (d .map-rows .last .1 .1 .1 .1 .0) (a .m) (d .map-rows .result) (headed d P)
-    (c .lay-all .result) (c .lay-all .ensures .1)
+    (c .walk-segments .result) (c .walk-segments .ensures .1)
 
 map-rows-requires : tie.Need-map-rows-requires
 map-rows-requires c κs = search needs
@@ -67,8 +67,8 @@ returns c =
       )),
     )
 
-lay-all-requires : tie.Need-lay-all-requires
-lay-all-requires c κs = search needs
+walk-segments-requires : tie.Need-walk-segments-requires
+walk-segments-requires c κs = search needs
 
 same-length-3 : tie.Need-same-length-3
 same-length-3 c = search needs
@@ -108,11 +108,11 @@ returns-4 c =
     let d = entered f in
     let s = start f in
     let a = s .args in
-    let free = f .lay-all .result in (
+    let free = f .walk-segments .result in (
       λ e. tiles-stored (now (a .arena)) (a .next) (now (a .table)) (now (a .index)) (d .map-rows .last .1 .1 .1 .0)
           (d .map-rows .last .1 .1 .1 .1 .0) (a .m) (d .map-rows .result) free _ _ (s .pre .0)
           (d .map-rows .ensures .0 (f .before .before .if1 .left))
-          (f .lay-all .ensures .0 (c .before .before .if2 .left)) (c .before .if3 .left) (c .tree-right .result)
+          (f .walk-segments .ensures .0 (c .before .before .if2 .left)) (c .before .if3 .left) (c .tree-right .result)
           (c .tree-right .ensures) e,
       λ P. c .tree-right .ensures
           ∙ stored-tree (now (a .arena)) (a .next) (now (a .table)) (now (a .index)) _ _ (s .pre .0) P,
@@ -126,7 +126,7 @@ is-shown-over-spec =
     same-length
     same-length-2
     returns
-    lay-all-requires
+    walk-segments-requires
     same-length-3
     same-length-4
     returns-2

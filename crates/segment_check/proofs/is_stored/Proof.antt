@@ -4,7 +4,7 @@ use mathlib.Core.Path.{subst}
 use borrow.Author.Needs.{needs}
 use denote.Ref.{now}
 use Rattle.words.specs.Flags.{Says}
-use Rattle.segment_check.specs.Laid.{Shown}
+use Rattle.segment_check.specs.Adjoining.{Shown}
 use Rattle.segment_check.proofs.GateLaws.{InRange, in-range, measured, stored-says}
 use Rattle.segment_check.proofs.is_stored.Statement.{statement}
 use Rattle.segment_check.proofs.is_stored.Tie as tie

@@ -7,7 +7,7 @@ use borrow.Author.Needs.{needs}
 use denote.Ref.{now}
 use lib.ListN.{length}
 use Rattle.ledger.specs.Records.{slots}
-use Rattle.segment_check.specs.Laid.{Headed}
+use Rattle.segment_check.specs.Adjoining.{Headed}
 use Rattle.segment_check.proofs.HeadLaws.{headed-start, headed-next}
 use Rattle.segment_check.proofs.map_rows.Statement.{statement}
 use Rattle.segment_check.proofs.map_rows.Tie as tie

@@ -1,25 +1,25 @@
 -- `segment_cores::begun_before` meets its contract. Assumes nothing.
 use native.Mathlib.Omega.{arith}
-use Rattle.segment_cores.proofs.NearLaws.{seat-few, seat-narrow, seat-long, seat-segment, begun-own, seat-later}
+use Rattle.segment_cores.proofs.NearLaws.{later-few, later-narrow, later-long, later-segment, begun-own, later-index}
 use Rattle.segment_cores.proofs.NearLaws.{last-low, last-inside, begun-last}
 use Rattle.segment_cores.proofs.begun_before.Statement.{statement}
 use Rattle.segment_cores.proofs.begun_before.Tie as tie
 
 segment-of-requires : tie.Need-segment-of-requires
-segment-of-requires c κs = let (f, w, k) = c .before .pre in seat-narrow k
+segment-of-requires c κs = let (f, w, k) = c .before .pre in later-narrow k
 
 mul-index-word : tie.Need-mul-index-word
-mul-index-word c = let (f, w, k) = c .before .before .pre in omega (arith, seat-few k)
+mul-index-word c = let (f, w, k) = c .before .before .pre in omega (arith, later-few k)
 
 add-index-word : tie.Need-add-index-word
 add-index-word c =
     let (f, w, k) = c .before .before .pre in
-    omega (arith, seat-few k, seat-segment k (c .segment-of .ensures))
+    omega (arith, later-few k, later-segment k (c .segment-of .ensures))
 
 index-word-requires : tie.Need-index-word-requires
 index-word-requires c κs =
     let (f, w, k) = c .before .before .pre in
-    omega (arith, seat-long k, seat-segment k (c .segment-of .ensures))
+    omega (arith, later-long k, later-segment k (c .segment-of .ensures))
 
 returns : tie.Need-returns
 returns c =
@@ -29,13 +29,13 @@ returns c =
 add-last-before : tie.Need-add-last-before
 add-last-before c =
     let (f, w, k) = c .before .before .before .before .pre in
-    omega (arith, seat-few k, seat-segment k (c .before .before .segment-of .ensures))
+    omega (arith, later-few k, later-segment k (c .before .before .segment-of .ensures))
 
 last-before-requires : tie.Need-last-before-requires
 last-before-requires c κs =
     let (f, w, k) = c .before .before .before .before .pre in
     let e = c .before .index-word .ensures in
-    seat-later k (c .before .before .segment-of .ensures) (rw e at (c .if1 .left))
+    later-index k (c .before .before .segment-of .ensures) (rw e at (c .if1 .left))
 
 sub-j : tie.Need-sub-j
 sub-j c =
@@ -47,7 +47,7 @@ sub-j c =
 mul-index-word-2 : tie.Need-mul-index-word-2
 mul-index-word-2 c =
     let (f, w, k) = c .before .before .before .before .before .pre in
-    omega (arith, seat-few k)
+    omega (arith, later-few k)
 
 add-index-word-2 : tie.Need-add-index-word-2
 add-index-word-2 c =
@@ -56,7 +56,7 @@ add-index-word-2 c =
     let e = i .before .index-word .ensures in
     omega (
       arith,
-      seat-few k,
+      later-few k,
       last-inside k (i .before .before .segment-of .ensures) (rw e at (i .if1 .left)) (c .last-before .ensures),
     )
 
@@ -67,7 +67,7 @@ index-word-requires-2 c κs =
     let e = i .before .index-word .ensures in
     omega (
       arith,
-      seat-long k,
+      later-long k,
       last-inside k (i .before .before .segment-of .ensures) (rw e at (i .if1 .left)) (c .last-before .ensures),
     )
 

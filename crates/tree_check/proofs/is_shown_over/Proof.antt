@@ -16,7 +16,7 @@ map-rows-requires c κs =
     let s = c .before .before .before .before .before .before in
     let places = s .pre .1 .1 .0 in
     let seen = s .pre .1 .1 .1 in
-    ((s .pre .1 .0 .0, s .pre .0 .1, places .0), ((places .1, seen .0, seen .1), s .pre .1 .0 .1))
+    ((s .pre .1 .0 .0, s .pre .0 .1, places .0), ((places .1, seen .0, seen .1), (s .pre .1 .0 .1, s .pre .0 .2)))
 
 same-length : tie.Need-same-length
 same-length c = search needs

@@ -175,7 +175,7 @@ place-requires c κs =
       empty = sym (m .empty-slot .ensures) ∙ v .slot .given .1;
       ticket = k .before .if2 .left;
       fit = fit l;
-      seat = l .leftmost-fit .ensures .1 (c .before .before .if3 .left);
+      node-of = l .leftmost-fit .ensures .1 (c .before .before .if3 .left);
     }
 
 same-length-5 : tie.Need-same-length-5

@@ -20,7 +20,7 @@ use Rattle.segment_index.specs.Control.{freeSize}
 use Rattle.segment_check.specs.Right.{runRight}
 use Rattle.record_table.specs.Partition.{total}
 use Rattle.segment_check.specs.BitMaps.{bitAt}
-use Rattle.segment_check.specs.Laid.{heldFrom, blockRight, endsBefore, Laid}
+use Rattle.segment_check.specs.Adjoining.{heldFrom, blockRight, endsBefore, Adjoining}
 
 -- ---- a list of runs with one more at its end
 
@@ -72,8 +72,8 @@ held-weight (negsuc n) e h = refl
 -- ---- block after block
 
 module _ (v : List ℤ) (map : Words) where
-  pub laid-start : Laid v map 0 0 false
-  laid-start = record {
+  pub adjoining-start : Adjoining v map 0 0 false
+  adjoining-start = record {
     runs = [];
     gapped = tt;
     ends = λ e. refl;
@@ -84,9 +84,9 @@ module _ (v : List ℤ) (map : Words) where
 
   module _ (at free n : ℕ) (some : 0 < n) where
     -- a held block more
-    pub laid-held : (after : Bool) → Laid v map at free after → bitAt map at ≡ true
-        → n ≡ natAbs (getD v at (pos 0)) → Laid v map (at + n) free false
-    laid-held after L set size = record {
+    pub adjoining-held : (after : Bool) → Adjoining v map at free after → bitAt map at ≡ true
+        → n ≡ natAbs (getD v at (pos 0)) → Adjoining v map (at + n) free false
+    adjoining-held after L set size = record {
       runs = L .runs;
       gapped = gapped-widen (L .runs) 0 at (at + n) (L .gapped) (omega arith);
       ends = λ e. ends-later (L .runs) 0 at (at + n) (L .gapped) (omega arith);
@@ -104,9 +104,9 @@ module _ (v : List ℤ) (map : Words) where
         go u l e (no h) = (at, omega arith, omega (arith, says))
 
     -- a free block more, not right after a free one
-    pub laid-free : (after : Bool) → after ≡ false → Laid v map at free after → runRight v at (at + n) ≡ true
-        → Laid v map (at + n) (free + n) true
-    laid-free after apart L right = record {
+    pub adjoining-free : (after : Bool) → after ≡ false → Adjoining v map at free after → runRight v at (at + n) ≡ true
+        → Adjoining v map (at + n) (free + n) true
+    adjoining-free after apart L right = record {
       runs = L .runs ++ run at n ∷ [];
       gapped = gapped-last (L .runs) 0 at at n (L .gapped) (L .ends apart) (omega arith) (omega arith) some;
       ends = λ e. absurd (true≢false e);

@@ -1,9 +1,9 @@
--- `record_table::over` meets its contract. Assumes nothing.
+-- `record_table::whole_units` meets its contract. Assumes nothing.
 use native.Mathlib.Nat.{div-one}
 use mathlib.Core.Path.{sym}
 use borrow.Author.Needs.{needs}
-use Rattle.record_table.proofs.over.Statement.{statement}
-use Rattle.record_table.proofs.over.Tie as tie
+use Rattle.record_table.proofs.whole_units.Statement.{statement}
+use Rattle.record_table.proofs.whole_units.Tie as tie
 
 returns : tie.Need-returns
 returns c = sym (rw (c .if1 .taken) (div-one (c .before .args .w)))
@@ -23,5 +23,5 @@ div-result c = search needs
 returns-5 : tie.Need-returns-5
 returns-5 c = search needs
 
-pub over-spec : {M : Type 1} → statement M
-over-spec = tie.close (tie.spec returns returns-2 returns-3 returns-4 div-result returns-5)
+pub whole-units-spec : {M : Type 1} → statement M
+whole-units-spec = tie.close (tie.spec returns returns-2 returns-3 returns-4 div-result returns-5)

@@ -1,13 +1,13 @@
--- `free_tree::settle` meets its contract: the block stays on top, or is inserted into the two trees joined.
+-- `free_tree::heapify` meets its contract: the block stays on top, or is inserted into the two trees joined.
 -- Assumes nothing.
 use borrow.Author.Needs.{needs}
 use native.Mathlib.Omega.{arith}
 use Rattle.stored_forms.proofs.NodeLaws.{readable}
 use Rattle.tree_nodes.proofs.FormLaws.{few-links}
 use Rattle.free_tree.proofs.ChangeSteps.{between-ready}
-use Rattle.free_tree.proofs.ShrinkSteps.{between-in, between-beside, both-room, settle-top, settle-among}
-use Rattle.free_tree.proofs.settle.Statement.{statement}
-use Rattle.free_tree.proofs.settle.Tie as tie
+use Rattle.free_tree.proofs.ShrinkSteps.{between-in, between-beside, both-room, heapify-top, heapify-among}
+use Rattle.free_tree.proofs.heapify.Statement.{statement}
+use Rattle.free_tree.proofs.heapify.Tie as tie
 
 over-root-requires : tie.Need-over-root-requires
 over-root-requires c κs = search needs
@@ -31,7 +31,7 @@ same-length c = search needs
 returns : tie.Need-returns
 returns c =
     let d = c .before .before .before .before in
-    settle-top (readable _) (d .before .before .before .over-root .ensures) (d .before .over-root2 .ensures)
+    heapify-top (readable _) (d .before .before .before .over-root .ensures) (d .before .over-root2 .ensures)
     (d .if1 .taken) (c .before .before .put-first .ensures .0)
 
 join-trees-requires : tie.Need-join-trees-requires
@@ -54,11 +54,11 @@ returns-2 c =
     let b3 = c .before .before .before in
     let b7 = b3 .before .before .before .before in
     let d = b7 .before .before in
-    settle-among (readable _) (d .before .before .before .over-root .ensures) (d .before .over-root2 .ensures)
+    heapify-among (readable _) (d .before .before .before .over-root .ensures) (d .before .over-root2 .ensures)
     (b3 .insert .result) (d .if1 .left) (b7 .join-trees .ensures) (b3 .insert .ensures) (c .link-of .ensures)
 
-pub settle-spec : {M : Type 1} → statement M
-settle-spec =
+pub heapify-spec : {M : Type 1} → statement M
+heapify-spec =
     tie.close
     (tie.spec
     over-root-requires

@@ -36,7 +36,7 @@ endsBefore at r = ltb (r .start + r .size) at
 
 -- Blocks lie side by side in the first `at` words: free ones, of so many words together and no two of them side by
 -- side, and held ones. `after` is false if the last one is held, or none is there.
-pub record Laid (v : List ℤ) (map : Words) (at free : ℕ) (after : Bool) : Type 0 where
+pub record Adjoining (v : List ℤ) (map : Words) (at free : ℕ) (after : Bool) : Type 0 where
   pub runs : List Run
   pub gapped : Gapped 0 at runs
   pub ends : after ≡ false → all (endsBefore at) runs ≡ true
@@ -60,8 +60,8 @@ pub record FreeBlock (v : List ℤ) (at : ℕ) (after : Bool) (n : ℕ) : Type 0
 
 -- Blocks lie side by side up to `next`, the first place at or past hi. If the blocks are those with control words c,
 -- `most` is the largest weight of those from `from` up to hi.
-pub record Strip (v : List ℤ) (map : Words) (from hi next free : ℕ) (after : Bool) (most : ℕ) : Type 0 where
-  pub laid : Laid v map next free after
+pub record Walked (v : List ℤ) (map : Words) (from hi next free : ℕ) (after : Bool) (most : ℕ) : Type 0 where
+  pub adjoining : Adjoining v map next free after
   pub few : free ≤ next
   pub high : hi ≤ next
   pub swept : (c : ℕ → ℤ) → Scan v c from → (most ≡ largest c from (hi - from)) × Reaches v c from hi next
@@ -70,7 +70,7 @@ pub record Strip (v : List ℤ) (map : Words) (from hi next free : ℕ) (after :
 -- and first blocks.
 pub record Matched (v : List ℤ) (map t : Words) (s g free : ℕ) : Type 0 where
   pub after : Bool
-  pub laid : Laid v map (length v) free after
+  pub adjoining : Adjoining v map (length v) free after
   pub right : (c : ℕ → ℤ) → Ground v c s g → every (segmentRight c (length v) s t) 0 s ≡ true
 
 -- ---- the blocks of a sound pool
@@ -88,15 +88,15 @@ pub record Led (c : ℕ → ℤ) (sum : ℕ → ℕ) (at free : ℕ) (after : Bo
   pub count : free ≡ sum at
   pub turn : after ≡ true → freeSize (c at) ≡ 0
 
--- blocks that are kept are laid to their end
-abbrev pub Lays : List ℤ → Words → ℕ → ℕ → Bool → ℕ → ℕ → Bool → Type 0
-Lays v map from free after next free′ after′ =
+-- blocks that are kept are walked over to their end
+abbrev pub Walks : List ℤ → Words → ℕ → ℕ → Bool → ℕ → ℕ → Bool → Type 0
+Walks v map from free after next free′ after′ =
     (c : ℕ → ℤ) → (sum : ℕ → ℕ) → Kept v map c sum → Scan v c from → Led c sum from free after
     → (next ≤ length v) × Led c sum next free′ after′
 
 -- and all of them with the index that is theirs
-abbrev pub LaysAll : List ℤ → Words → Words → ℕ → ℕ → ℕ → Type 0
-LaysAll v map t s g free =
+abbrev pub WalksAll : List ℤ → Words → Words → ℕ → ℕ → ℕ → Type 0
+WalksAll v map t s g free =
     (c : ℕ → ℤ) → (sum : ℕ → ℕ) → Kept v map c sum → sum 0 ≡ 0 → Ground v c s g
     → every (segmentRight c (length v) s t) 0 s ≡ true → free ≡ sum (length v)
 

@@ -1,4 +1,4 @@
--- `segment_check::lay_all` meets its contract: the segments before k are laid, and the index has their two words.
+-- `segment_check::walk_segments` meets its contract: the segments before k are walked over, and the index has their two words.
 -- Assumes nothing.
 use Prim.Native.Nat.{ℕ, _+_, _*_, _-_, _≤_, min}
 use native.Mathlib.Omega.{arith}
@@ -9,11 +9,11 @@ use denote.Ref.{now}
 use lib.ListN.{length}
 use Rattle.segment_blocks.proofs.UpkeepLaws.{sizes-top}
 use Rattle.segment_blocks.specs.Upkeep.{Ground}
-use Rattle.segment_check.specs.Laid.{Kept, Led}
+use Rattle.segment_check.specs.Adjoining.{Kept, Led}
 use Rattle.segment_check.proofs.MatchLaws.{Matching, match-start, match-two, match-on, match-whole, match-end}
-use Rattle.segment_check.proofs.MatchLaws.{strip-none, two-laid, two-none, laid-two, none-two}
-use Rattle.segment_check.proofs.lay_all.Statement.{statement}
-use Rattle.segment_check.proofs.lay_all.Tie as tie
+use Rattle.segment_check.proofs.MatchLaws.{walked-none, two-walked, two-none, walked-two, none-two}
+use Rattle.segment_check.proofs.walk_segments.Statement.{statement}
+use Rattle.segment_check.proofs.walk_segments.Tie as tie
 
 abbrev Inv-loop : tie.InvT-loop
 Inv-loop v map t s g w at₀ free₀ after₀ k₀ at free after k =
@@ -62,13 +62,13 @@ cast-first c =
     let l = c .before .before .before in
     omega (arith, c .shared-slice-known3 .given (2 * l .before .before .before .args .segments .count + l .loop .k))
 
-lay-requires : tie.Need-lay-requires Inv-loop μ-loop
-lay-requires c κs =
+walk-blocks-requires : tie.Need-walk-blocks-requires Inv-loop μ-loop
+walk-blocks-requires c κs =
     let top = c .before .before in
     let l = top .before .before in
     let s = l .before .before .before in
     let (is, upto, m, leads) = l .loop .inv in
-    (s .pre .0 .most, s .pre .2, omega (arith, top .lesser .ensures), m .inside, m .few, m .laid)
+    (s .pre .0 .most, s .pre .2, omega (arith, top .lesser .ensures), m .inside, m .few, m .adjoining)
 
 add-if2 : tie.Need-add-if2 Inv-loop μ-loop
 add-if2 c = omega arith
@@ -95,13 +95,13 @@ returns c =
     let hi : top .lesser .result ≡ min ((l .loop .k + 1) * a .segments .size) w = rw is at (top .lesser .ensures) in (
       λ h. absurd (omega arith),
       λ f n K z G right.
-          let (inside, led) = turn .lay .ensures .1 f n K (m .right f G .0 .scan) (leads f n K z G) in
+          let (inside, led) = turn .walk-blocks .ensures .1 f n K (m .right f G .0 .scan) (leads f n K z G) in
           let two = match-two (now (a .v)) (now (a .map)) (now (a .t)) _ _ (l .loop .k) (l .loop .at)
-          (l .loop .free) (top .lesser .result) (turn .lay .result .next) (turn .lay .result .free)
-          (turn .lay .result .most) (l .loop .after) (turn .lay .result .after) m (t .loop-test .taken) hi
-          (turn .lay .ensures .0 inside) f G right in
-          let no = laid-two (now (a .t)) (a .segments .count) (l .loop .k) (l .loop .at) (top .lesser .result) w
-          (turn .lay .result .most) (turn .lay .result .next) (i .if1 .taken) inside two in
+          (l .loop .free) (top .lesser .result) (turn .walk-blocks .result .next) (turn .walk-blocks .result .free)
+          (turn .walk-blocks .result .most) (l .loop .after) (turn .walk-blocks .result .after) m (t .loop-test .taken) hi
+          (turn .walk-blocks .ensures .0 inside) f G right in
+          let no = walked-two (now (a .t)) (a .segments .count) (l .loop .k) (l .loop .at) (top .lesser .result) w
+          (turn .walk-blocks .result .most) (turn .walk-blocks .result .next) (i .if1 .taken) inside two in
           absurd (true≢false (sym (c .if2 .taken) ∙ rw is no)),
     )
 
@@ -122,15 +122,15 @@ loop-again c =
     let (is, upto, m, leads) = l .loop .inv in
     let here = t .loop-test .taken in
     let w = length (now (a .v)) in
-    let (inside, right) = two-laid (now (a .t)) (a .segments .count) (l .loop .k) (l .loop .at) (top .lesser .result) w
-    (turn .lay .result .most) (turn .lay .result .next) (i .if1 .taken) (c .if2 .left) in
+    let (inside, right) = two-walked (now (a .t)) (a .segments .count) (l .loop .k) (l .loop .at) (top .lesser .result) w
+    (turn .walk-blocks .result .most) (turn .walk-blocks .result .next) (i .if1 .taken) (c .if2 .left) in
     let hi : top .lesser .result ≡ min ((l .loop .k + 1) * a .segments .size) w = rw is at (top .lesser .ensures) in (
       is,
       omega arith,
       match-on (now (a .v)) (now (a .map)) (now (a .t)) _ _ (l .loop .k) (l .loop .at) (l .loop .free)
-          (top .lesser .result) (turn .lay .result .next) (turn .lay .result .free) (turn .lay .result .most)
-          (l .loop .after) (turn .lay .result .after) m here hi inside (turn .lay .ensures .0 inside) right,
-      λ f n K z G. turn .lay .ensures .1 f n K (m .right f G .0 .scan) (leads f n K z G) .1,
+          (top .lesser .result) (turn .walk-blocks .result .next) (turn .walk-blocks .result .free) (turn .walk-blocks .result .most)
+          (l .loop .after) (turn .walk-blocks .result .after) m here hi inside (turn .walk-blocks .ensures .0 inside) right,
+      λ f n K z G. turn .walk-blocks .ensures .1 f n K (m .right f G .0 .scan) (leads f n K z G) .1,
     )
 
 add-if3 : tie.Need-add-if3 Inv-loop μ-loop
@@ -156,13 +156,13 @@ returns-2 c =
     let w = length (now (a .v)) in
     let past = i .if1 .left in
     let hi : top .lesser .result ≡ min ((l .loop .k + 1) * a .segments .size) w = rw is at (top .lesser .ensures) in
-    let strip = strip-none (now (a .v)) (now (a .map)) (l .loop .at) (top .lesser .result) (l .loop .free)
-    (l .loop .after) (m .laid) (m .few) past in (
+    let walked = walked-none (now (a .v)) (now (a .map)) (l .loop .at) (top .lesser .result) (l .loop .free)
+    (l .loop .after) (m .adjoining) (m .few) past in (
       λ h. absurd (omega arith),
       λ f n K z G right.
           let two = match-two (now (a .v)) (now (a .map)) (now (a .t)) _ _ (l .loop .k) (l .loop .at)
           (l .loop .free) (top .lesser .result) (l .loop .at) (l .loop .free) 0 (l .loop .after) (l .loop .after) m
-          (t .loop-test .taken) hi strip f G right in
+          (t .loop-test .taken) hi walked f G right in
           let no = none-two (now (a .t)) (a .segments .count) (l .loop .k) (l .loop .at) (top .lesser .result) w past
           two in
           absurd (true≢false (sym (c .if3 .taken) ∙ rw is no)),
@@ -188,13 +188,13 @@ loop-again-2 c =
     let hi : top .lesser .result ≡ min ((l .loop .k + 1) * a .segments .size) w = rw is at (top .lesser .ensures) in
     let right = two-none (now (a .t)) (a .segments .count) (l .loop .k) (l .loop .at) (top .lesser .result) w past
     (c .if3 .left) in
-    let strip = strip-none (now (a .v)) (now (a .map)) (l .loop .at) (top .lesser .result) (l .loop .free)
-    (l .loop .after) (m .laid) (m .few) past in (
+    let walked = walked-none (now (a .v)) (now (a .map)) (l .loop .at) (top .lesser .result) (l .loop .free)
+    (l .loop .after) (m .adjoining) (m .few) past in (
       is,
       omega arith,
       match-on (now (a .v)) (now (a .map)) (now (a .t)) _ _ (l .loop .k) (l .loop .at) (l .loop .free)
           (top .lesser .result) (l .loop .at) (l .loop .free) 0
-          (l .loop .after) (l .loop .after) m here hi (m .inside) strip right,
+          (l .loop .after) (l .loop .after) m here hi (m .inside) walked right,
       leads,
     )
 
@@ -211,8 +211,8 @@ returns-3 c =
           (l .loop .at) (l .loop .free) (l .loop .after) m (omega arith)),
     )
 
-pub lay-all-spec : {M : Type 1} → statement M
-lay-all-spec =
+pub walk-segments-spec : {M : Type 1} → statement M
+walk-segments-spec =
     tie.close
     (tie.spec
     Inv-loop
@@ -226,7 +226,7 @@ lay-all-spec =
     mul-first-2
     shared-slice-read-first
     cast-first
-    lay-requires
+    walk-blocks-requires
     add-if2
     mul-if2
     shared-slice-read-if2

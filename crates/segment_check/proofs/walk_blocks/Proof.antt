@@ -1,4 +1,4 @@
--- `segment_check::lay` meets its contract: the blocks up to `at` lie side by side; and if they are those with control
+-- `segment_check::walk_blocks` meets its contract: the blocks up to `at` lie side by side; and if they are those with control
 -- words c, the largest weight so far, with that of the blocks from here on, is that of all. Assumes nothing.
 use Prim.Native.Nat.{ℕ, _-_, _≤_, _<_, max}
 use native.Mathlib.Omega.{arith}
@@ -13,15 +13,15 @@ use Rattle.stored_forms.specs.Segments.{largest}
 use Rattle.segment_index.specs.Control.{freeSize}
 use Rattle.segment_blocks.specs.Blocks.{Scan}
 use Rattle.segment_blocks.proofs.ScanLaws.{Coming, come-start, come-on, come-end, leaf-on}
-use Rattle.segment_check.specs.Laid.{Laid, HeldBlock, FreeBlock, Kept, Led}
-use Rattle.segment_check.proofs.LaidLaws.{laid-held, laid-free, held-weight, free-weight, free-whole}
+use Rattle.segment_check.specs.Adjoining.{Adjoining, HeldBlock, FreeBlock, Kept, Led}
+use Rattle.segment_check.proofs.AdjoiningLaws.{adjoining-held, adjoining-free, held-weight, free-weight, free-whole}
 use Rattle.segment_check.proofs.KeptLaws.{kept-held, led-held, kept-free, led-free}
-use Rattle.segment_check.proofs.lay.Statement.{statement}
-use Rattle.segment_check.proofs.lay.Tie as tie
+use Rattle.segment_check.proofs.walk_blocks.Statement.{statement}
+use Rattle.segment_check.proofs.walk_blocks.Tie as tie
 
 abbrev Inv-loop : tie.InvT-loop
 Inv-loop v map from hi free after at₀ sum₀ last₀ most₀ at sum last most =
-    (at ≤ length v) × (sum ≤ at) × Laid v map at sum last
+    (at ≤ length v) × (sum ≤ at) × Adjoining v map at sum last
     × ((c : ℕ → ℤ) → Scan v c from
     → Coming v c from hi at × (max most (largest c at (hi - at)) ≡ largest c from (hi - from)))
     × ((c : ℕ → ℤ) → (free-before : ℕ → ℕ) → Kept v map c free-before → Scan v c from
@@ -32,8 +32,8 @@ abbrev μ-loop : tie.MeasureT-loop
 
 loop-holds : tie.Need-loop-holds Inv-loop μ-loop
 loop-holds c =
-    let (most, long, top, inside, few, laid) = c .before .pre in
-    (inside, few, laid, λ f s. (come-start _ f _ _ s, omega arith), λ f n k s d. d)
+    let (most, long, top, inside, few, adjoining) = c .before .pre in
+    (inside, few, adjoining, λ f s. (come-start _ f _ _ s, omega arith), λ f n k s d. d)
 
 free-at-requires : tie.Need-free-at-requires Inv-loop μ-loop
 free-at-requires c κs = omega arith
@@ -88,12 +88,12 @@ loop-again c =
     let z = getD (now (a .v)) (l .loop .at) (pos 0) in
     let here = held c in
     let below = f .before .loop-test .taken in
-    let (inside, few, laid, scans, leads) = l .loop .inv in
+    let (inside, few, adjoining, scans, leads) = l .loop .inv in
     let some : 0 < n = omega (arith, c .before .if2 .left) in
     let none : freeSize z ≡ 0 = sym (f .free-at .ensures) ∙ b .before .if1 .taken in (
       here .inside,
       omega arith,
-      laid-held (now (a .v)) (now (a .map)) (l .loop .at) (l .loop .sum) n some (l .loop .last) laid (here .set)
+      adjoining-held (now (a .v)) (now (a .map)) (l .loop .at) (l .loop .sum) n some (l .loop .last) adjoining (here .set)
           (here .size),
       λ k scan.
           let (come, inv) = scans k scan in (
@@ -167,14 +167,14 @@ loop-again-2 c =
     let z = getD (now (a .v)) (l .loop .at) (pos 0) in
     let here = spare c in
     let below = f .before .loop-test .taken in
-    let (inside, few, laid, scans, leads) = l .loop .inv in
+    let (inside, few, adjoining, scans, leads) = l .loop .inv in
     let is : n ≡ freeSize z = f .free-at .ensures in
     let free : freeSize z ≢ 0 = λ e. i .if1 .left (is ∙ e) in
     let size : n ≡ natAbs z = is ∙ free-whole z free in (
       here .inside,
       omega arith,
-      laid-free (now (a .v)) (now (a .map)) (l .loop .at) (l .loop .sum) n (omega (arith, i .if1 .left))
-          (l .loop .last) (here .apart) laid (here .right),
+      adjoining-free (now (a .v)) (now (a .map)) (l .loop .at) (l .loop .sum) n (omega (arith, i .if1 .left))
+          (l .loop .last) (here .apart) adjoining (here .right),
       λ k scan.
           let (come, inv) = scans k scan in (
             come-on _ k _ _ _ _ come (s .pre .2) below size,
@@ -190,10 +190,10 @@ loop-again-2 c =
 returns-3 : tie.Need-returns-3 Inv-loop μ-loop
 returns-3 c =
     let l = c .before in
-    let (inside, few, laid, scans, leads) = l .loop .inv in
+    let (inside, few, adjoining, scans, leads) = l .loop .inv in
     let none : l .before .before .args .hi - l .loop .at ≡ 0 = omega arith in (
       λ h. record {
-        laid = laid;
+        adjoining = adjoining;
         few = few;
         high = c .loop-test .left;
         swept = λ k scan.
@@ -203,8 +203,8 @@ returns-3 c =
       λ k u K scan d. (inside, leads k u K scan d),
     )
 
-pub lay-spec : {M : Type 1} → statement M
-lay-spec =
+pub walk-blocks-spec : {M : Type 1} → statement M
+walk-blocks-spec =
     tie.close
     (tie.spec
     Inv-loop

@@ -2,11 +2,13 @@
 #include <stdlib.h>
 #include <string.h>
 
+#include "bursts.h"
 #include "report.h"
 
 static measured rows[ROWS_MOST];
 static size_t row_count;
 static odd_rows odd;
+static burst_rows bursts;
 static growth by_words = {.along = "words", .at = "16 slots, 16 segments"};
 static growth by_records = {.along = "slots", .at = "16,384 words, 64 segments"};
 
@@ -35,6 +37,9 @@ static const lengths odd_sizes[ENGINES][SIZES_MOST] = {
     [TREE_2] = {{65536, 256, 0}, {1048576, 32, 0}, {1048576, 256, 0}},
     [SEGMENT] = {{24, 4, 4}, {1024, 16, 16}, {16384, 16, 64}, {16384, 32, 64}, {16384, 256, 256}},
 };
+
+// Of sessions.
+static const lengths burst_sizes[] = {{24, 4, 0}, {1024, 16, 0}, {TEXT_WORDS, 16, 0}, {TEXT_WORDS, 256, 0}};
 
 static bool is_wanted(const measured *m)
 {
@@ -65,6 +70,22 @@ static void plan_engine(enum engine g)
                                     .records = l->records,
                                     .segments = l->segments,
                                     .state = (enum state)s});
+}
+
+// Bursts are served by a tree pool in form 1. On a crowded pool no request would be granted.
+static void plan_bursts(void)
+{
+    for (int c = LINE; c <= BURST; c++)
+        for (const lengths *l = burst_sizes; l < burst_sizes + sizeof burst_sizes / sizeof burst_sizes[0]; l++)
+            for (int s = EMPTY; s <= FRAGMENTED; s++) {
+                measured m = {.engine = TREE,
+                              .call = (enum call)c,
+                              .words = l->words,
+                              .records = l->records,
+                              .state = (enum state)s};
+                if (is_wanted(&m))
+                    bursts.rows[bursts.count++] = m;
+            }
 }
 
 // A pool out of the ordinary, and beside it all the usual ones of its lengths.
@@ -125,7 +146,7 @@ static void plan_growth(enum engine e)
 static void must_agree(pool *p)
 {
     for (size_t k = 0; k < contestant_count; k++)
-        if (!agrees(&contestants[k], p)) {
+        if (!agrees(&contestants[k], p) || !bursts_agree(&contestants[k], p)) {
             fprintf(stderr, "bench: %s answers otherwise on a %s pool of %zu words, %s\n", contestants[k].name,
                     engine_name(p->engine), p->words, p->name);
             exit(1);
@@ -139,10 +160,14 @@ static void measure(effort e, measured *m)
         make_odd(&p, m->engine, m->words, m->records, m->segments, m->odd);
     else
         make_pool(&p, m->engine, m->words, m->records, m->segments, m->state);
-    if (m->call == LIST)
+    if (m->call == LIST || m->call == BURST)
         make_lists(&p);
     if (m->call == MIX)
         make_mix(&p);
+    if (m->call == LINE || m->call == TIGHT_LINE)
+        make_line_bursts(&p, m->call == TIGHT_LINE);
+    if (m->call == BURST)
+        make_list_bursts(&p, BURST_LINES);
     must_agree(&p);
     time_pass(&m->t, e, &p, contest_of(m->call, &p));
 }
@@ -160,6 +185,8 @@ static void each(effort e, void (*act)(effort, measured *))
         act(e, &rows[i]);
     each_point(&by_words, e, act);
     each_point(&by_records, e, act);
+    for (size_t i = 0; i < bursts.count; i++)
+        act(e, &bursts.rows[i]);
     for (size_t i = 0; i < odd.usual_count; i++)
         act(e, &odd.usual[i]);
     for (size_t i = 0; i < odd.count; i++)
@@ -206,10 +233,14 @@ static int report(effort e, const char *path)
         print_growth(stdout, &by_words);
         print_growth(stdout, &by_records);
     }
+    if (bursts.count > 0)
+        print_bursts(stdout, &bursts);
     if (odd.count > 0)
         print_odd(stdout, &odd);
     if (only == NULL)
         print_summary(stdout, rows, row_count, &by_words, &by_records);
+    if (bursts.count > 0)
+        print_burst_summary(stdout, &bursts);
     if (odd.count > 0)
         print_odd_summary(stdout, &odd);
     return only == NULL ? draw_into(path) : 0;
@@ -235,6 +266,7 @@ int main(int argc, char **argv)
         if (only == NULL && g != TREE_3)
             plan_growth((enum engine)g);
     }
+    plan_bursts();
     for (int i = 0; i < e.passes; i++)
         each(e, measure);
     each(e, finish);

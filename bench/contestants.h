@@ -22,12 +22,17 @@
     ONE(P, segment_release)                                                                                          \
     ONE(P, segment_trim)                                                                                             \
     ONE(P, segment_find)                                                                                             \
-    ONE(P, segment_list)
+    ONE(P, segment_list)                                                                                             \
+    ONE(P, session_start)                                                                                            \
+    ONE(P, session_burst)                                                                                            \
+    ONE(P, session_end)
 
 enum group {
     PROVED,
     MARKS_UNITS,
     LAYS_TILES,
+    IN_PLACE, // has a session's words where they lie; for bursts and the text program alone
+    EARLIER,  // an earlier build of the text program
     LIMIT,
 };
 

@@ -368,6 +368,7 @@ void make_pool(pool *p, enum engine e, size_t words, size_t records, uint32_t se
     p->ask = s == FRAGMENTED ? blocks[records / 4 * 2].words : words_for(p, units_of(p) / records);
     p->requests = 0;
     p->mix.requests = 0;
+    p->burst_count = 0;
     copy_arena(p);
 }
 

@@ -2,6 +2,7 @@
 #ifndef POOLS_H
 #define POOLS_H
 
+#include <stdalign.h>
 #include <stdbool.h>
 
 #include "contestants.h"
@@ -31,6 +32,10 @@ enum {
     LISTS = 8,
     MIX_LENGTH = 48,
     TRIM = 3, // kind of a call of a mix; lists have none such
+    TEXT_WORDS = 8192, // the most of a session's pool
+    BURST_LINES = 64,
+    BURST_BYTES = BURST_LINES * 40,
+    BURSTS_MOST = LISTS * (LIST_MOST / BURST_LINES),
 };
 
 // A list of requests that leaves the pool as it was, with the answers to them. For each release `granted_by` has the
@@ -40,6 +45,14 @@ typedef struct {
     uint32_t list[4 * LIST_MOST], expected[4 * LIST_MOST];
     uint32_t granted_by[LIST_MOST];
 } traffic;
+
+// Lines handed to a session together, their answers, and the room lent for those. Behind the last burst of several the
+// pool is as before them, but for its next ticket.
+typedef struct {
+    size_t bytes, answered, room;
+    bool last;
+    uint8_t text[BURST_BYTES], answers[BURST_BYTES];
+} burst;
 
 typedef struct {
     enum engine engine;
@@ -58,6 +71,11 @@ typedef struct {
     size_t requests;      // of all lists
     traffic mix;          // grants, trims and releases, to be made by single calls
     uint32_t answers[4 * LIST_MOST];
+
+    size_t burst_count, burst_lines;
+    burst bursts[BURSTS_MOST];
+    alignas(64) uint8_t session[LF_STATE_BYTES]; // the pool as the text program's, in a session's state
+    uint8_t session_copy[LF_STATE_BYTES], said[BURST_BYTES];
 } pool;
 
 const char *engine_name(enum engine e);

@@ -49,31 +49,6 @@ const char *pool_name(const measured *m)
     return m->odd != NULL ? m->odd->name : state_name(m->state);
 }
 
-double ratio(double a, double b)
-{
-    return b > 0 ? a / b : 0;
-}
-
-void print_against(FILE *to, const timed *us, const timed *other)
-{
-    if (other == NULL) {
-        fprintf(to, " %28s | %13s |", "-", "-");
-        return;
-    }
-    char cell[64];
-    snprintf(cell, sizeof cell, "%.0f %s", other->least, other->name);
-    fprintf(to, " %-28s | %5.2f (%5.2f) |", cell, ratio(us->least, other->least), other->by_round);
-}
-
-// Times under 100 are printed with a decimal.
-void print_proved(FILE *to, const timed *us)
-{
-    char cell[64];
-    int digits = us->least < 100;
-    snprintf(cell, sizeof cell, "%.*f (%.*f)", digits, us->least, digits, us->median);
-    fprintf(to, " %17s |", cell);
-}
-
 void print_rows(FILE *to, const measured *rows, size_t count)
 {
     fprintf(to, "| %-7s | %-18s | %-13s | %-3s | %-10s | %-17s | %-28s | %-13s | %-28s | %-13s | %-28s | %-13s |\n",

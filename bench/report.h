@@ -18,7 +18,7 @@ typedef struct {
     timings t;
 } measured;
 
-enum { ROWS_MOST = 256, POINTS_MOST = 16, ODD_MOST = 160, USUAL_MOST = 128 };
+enum { ROWS_MOST = 256, POINTS_MOST = 16, ODD_MOST = 160, USUAL_MOST = 128, BURST_ROWS_MOST = 48 };
 
 // Checked finds on crowded pools of an engine.
 typedef struct {
@@ -38,13 +38,13 @@ typedef struct {
     measured rows[ODD_MOST], usual[USUAL_MOST];
 } odd_rows;
 
+// Bursts to a session.
+typedef struct {
+    size_t count;
+    measured rows[BURST_ROWS_MOST];
+} burst_rows;
+
 const char *pool_name(const measured *m);
-
-double ratio(double a, double b);
-
-// Cells of a row: the proved library's time; another's, with the ratio to it.
-void print_proved(FILE *to, const timed *us);
-void print_against(FILE *to, const timed *us, const timed *other);
 
 // Whether both have pools of the same engine and lengths.
 bool is_like(const measured *a, const measured *b);
@@ -55,6 +55,8 @@ void print_growth(FILE *to, const growth *g);
 void print_summary(FILE *to, const measured *rows, size_t count, const growth *by_words, const growth *by_records);
 void print_odd(FILE *to, const odd_rows *odd);
 void print_odd_summary(FILE *to, const odd_rows *odd);
+void print_bursts(FILE *to, const burst_rows *bursts);
+void print_burst_summary(FILE *to, const burst_rows *bursts);
 void draw(FILE *to, const measured *rows, size_t count, const growth *by_words, const growth *by_records);
 
 #endif

@@ -3,13 +3,15 @@
 #include <stdlib.h>
 #include <string.h>
 
+#include "bursts.h"
 #include "damage.h"
 #include "lots.h"
 #include "meter.h"
 
-enum step { FIND, ALLOCATE, RELEASE, CUT, LIST, FORMAT, STEPS };
+enum step { FIND, ALLOCATE, RELEASE, CUT, LIST, FORMAT, START, BURST, END, STEPS };
 
-static const char *const step_names[STEPS] = {"find", "allocate", "release", "trim", "list", "format"};
+static const char *const step_names[STEPS] = {"find",   "allocate", "release", "trim", "list",
+                                              "format", "start",    "burst",   "end"};
 
 // ---- one call
 
@@ -27,12 +29,27 @@ typedef struct {
     lf_answer block; // to find, release or trim
     const uint32_t *list;
     size_t requests;
+    const char *line; // to a session
+    size_t room;      // for its answer
 } job;
+
+static void do_session_job(const job *j)
+{
+    uint8_t *state = j->p->session, *said = j->p->said;
+    if (j->step == START)
+        j->who->session_start(state, LF_STATE_BYTES);
+    else if (j->step == BURST)
+        j->who->session_burst(state, LF_STATE_BYTES, (const uint8_t *)j->line, strlen(j->line), said, j->room);
+    else
+        j->who->session_end(state, LF_STATE_BYTES, said, j->room);
+}
 
 static void do_job(void *given)
 {
     const job *j = given;
-    if (j->step == FIND)
+    if (j->step >= START)
+        do_session_job(j);
+    else if (j->step == FIND)
         find_in(j->who, j->p, j->block);
     else if (j->step == ALLOCATE)
         ask_for(j->who, j->p, j->words);
@@ -162,14 +179,40 @@ static void try_calls(seen *s, bool sound, pool *p)
     meter(s, sound, (job){.p = p, .step = FORMAT});
 }
 
+// A line in a burst, and as a last one without a line feed, to the session that the pool is.
+static void try_line(seen *s, bool sound, pool *p, const char *line, size_t room)
+{
+    put_session(p, p->session);
+    meter(s, sound, (job){.p = p, .step = BURST, .line = line, .room = room});
+    put_session(p, p->session);
+    put_last_line(p->session, line, strlen(line) - 1);
+    meter(s, sound, (job){.p = p, .step = END, .room = room});
+}
+
+// The calls of a session, with room for any answer and with less.
+static void try_session(seen *s, bool sound, pool *p)
+{
+    char lines[3][64];
+    lf_answer b = p->named;
+    snprintf(lines[0], sizeof lines[0], "A\t%u\n", p->ask);
+    snprintf(lines[1], sizeof lines[1], "R\t%u\t%u\t%u\n", b.ticket, b.address, b.words);
+    snprintf(lines[2], sizeof lines[2], "T\t%u\t%u\t%u\t%u\n", b.ticket, b.address, b.words, kept_of(b.words));
+    for (size_t i = 0; i < 3; i++)
+        for (size_t room = 4; room < 4 * LF_ANSWER_BYTES; room += 10)
+            try_line(s, sound, p, lines[i], room);
+    meter(s, sound, (job){.p = p, .step = START});
+}
+
+typedef void (*tries)(seen *s, bool sound, pool *p);
+
 // A sound pool, then damaged by lot, so many times.
-static void try_lots(seen *s, pool *p, int lots)
+static void try_lots(seen *s, pool *p, int lots, tries try)
 {
     keep(1, p);
     p->name = "damage by lot";
     for (int i = 0; i < lots; i++) {
         damage_by_lot(p);
-        try_calls(s, false, p);
+        try(s, false, p);
         put_back(1, p);
     }
 }
@@ -182,23 +225,23 @@ static void must_answer(const pool *p)
         fail(p, "find answers otherwise");
 }
 
-static void try_pools(seen *s, enum engine e, size_t words, size_t records, uint32_t segments, int lots)
+static void try_pools(seen *s, enum engine e, size_t words, size_t records, uint32_t segments, int lots, tries try)
 {
     static pool p;
     for (int state = EMPTY; state <= CROWDED; state++) {
         make_pool(&p, e, words, records, segments, (enum state)state);
         must_answer(&p);
-        try_calls(s, true, &p);
-        try_lots(s, &p, lots);
+        try(s, true, &p);
+        try_lots(s, &p, lots, try);
     }
     for (const oddity *o = oddities; o < oddities + oddity_count; o++) {
         if (!has_engine(o, e) || (o->extent == AT_MOST_WORDS && words < POOL_WORDS))
             continue;
         make_odd(&p, e, words, records, segments, o);
         must_answer(&p);
-        try_calls(s, o->sound, &p);
+        try(s, o->sound, &p);
         if (o->sound)
-            try_lots(s, &p, lots);
+            try_lots(s, &p, lots, try);
     }
 }
 
@@ -214,18 +257,31 @@ static void print_most(const most *m, enum engine e)
     printf(" %6zu | %-48s |", m->bytes, cell);
 }
 
+static void print_seen(const char *name, const seen *s, enum engine e, size_t words, size_t records)
+{
+    char size[32];
+    snprintf(size, sizeof size, "%zu / %zu", words, records);
+    printf("| %-7s | %-13s |", name, size);
+    print_most(&s->sound, e);
+    print_most(&s->any, e);
+    printf("\n");
+}
+
 static void print_size(enum engine e, size_t words, size_t records, int lots)
 {
     static const uint32_t segments[] = {4, 16, 64, 256};
     seen s = {{0, FIND, "", 0}, {0, FIND, "", 0}};
     for (size_t i = 0; i < (e == SEGMENT ? sizeof segments / sizeof segments[0] : 1); i++)
-        try_pools(&s, e, words, records, segments[i], lots);
-    char size[32];
-    snprintf(size, sizeof size, "%zu / %zu", words, records);
-    printf("| %-7s | %-13s |", engine_name(e), size);
-    print_most(&s.sound, e);
-    print_most(&s.any, e);
-    printf("\n");
+        try_pools(&s, e, words, records, segments[i], lots, try_calls);
+    print_seen(engine_name(e), &s, e, words, records);
+}
+
+// A session's pool is a tree pool in form 1.
+static void print_session_size(size_t words, size_t records, int lots)
+{
+    seen s = {{0, BURST, "", 0}, {0, BURST, "", 0}};
+    try_pools(&s, TREE, words, records, 0, lots, try_session);
+    print_seen("session", &s, TREE, words, records);
 }
 
 typedef struct {
@@ -242,6 +298,8 @@ static const lengths sizes[ENGINES][SIZES_MOST] = {
     [SEGMENT] = {{24, 4}, {128, 8}, {1024, 16}, {4096, 64}, {16384, 16}, {16384, 256}},
 };
 
+static const lengths session_sizes[] = {{24, 4}, {1024, 16}, {TEXT_WORDS, 16}, {TEXT_WORDS, 256}};
+
 int main(int argc, char **argv)
 {
     int lots = argc > 1 ? atoi(argv[1]) : 250;
@@ -255,5 +313,7 @@ int main(int argc, char **argv)
     for (int e = 0; e < ENGINES; e++)
         for (const lengths *l = sizes[e]; l < sizes[e] + SIZES_MOST && l->words != 0; l++)
             print_size((enum engine)e, l->words, l->records, l->words <= POOL_WORDS ? lots : (lots + 9) / 10);
+    for (size_t i = 0; i < sizeof session_sizes / sizeof session_sizes[0]; i++)
+        print_session_size(session_sizes[i].words, session_sizes[i].records, lots);
     return 0;
 }

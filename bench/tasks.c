@@ -3,10 +3,13 @@
 #include <stdlib.h>
 #include <string.h>
 
+#include "bursts.h"
+
 const char *call_name(enum call c)
 {
-    static const char *const names[] = {"find",          "allocate + release", "with trim between",
-                                         "mix, per call", "list, per request",  "format"};
+    static const char *const names[] = {
+        "find",   "allocate + release", "with trim between",       "mix, per call",        "list, per request",
+        "format", "burst of a line",    "burst, room just enough", "burst of 64, per line"};
     return names[c];
 }
 
@@ -62,6 +65,16 @@ static uint64_t list_once(const contestant *c, pool *p)
 static uint64_t format_once(const contestant *c, pool *p)
 {
     return format_pool(c, p).number;
+}
+
+static uint64_t bursts_once(const contestant *c, pool *p)
+{
+    uint64_t sum = 0;
+    for (const burst *b = p->bursts; b < p->bursts + p->burst_count; b++) {
+        lf_burst done = hand_over(c, p, b);
+        sum += done.number + (done.written != b->answered);
+    }
+    return sum;
 }
 
 // ---- the limits
@@ -126,20 +139,32 @@ static uint64_t set_once(const contestant *c, pool *p)
     return 0;
 }
 
+// The whole state, used or not, for each burst.
+static uint64_t compare_states(const contestant *c, pool *p)
+{
+    uint64_t sum = 0;
+    (void)c;
+    for (size_t i = 0; i < p->burst_count; i++)
+        sum += compare(p->session, p->session_copy, sizeof p->session) != 0;
+    return sum;
+}
+
 contest contest_of(enum call c, const pool *p)
 {
     switch (c) {
     case FIND:
-        return (contest){find_once, compare_once, "memcmp", p->named.number, 1};
+        return (contest){find_once, compare_once, "memcmp", p->named.number, 1, false};
     case PAIR:
-        return (contest){pair_once, compare_twice, "memcmp, twice", 0, 1};
+        return (contest){pair_once, compare_twice, "memcmp, twice", 0, 1, false};
     case CUT:
-        return (contest){cut_once, compare_thrice, "memcmp, thrice", 0, 1};
+        return (contest){cut_once, compare_thrice, "memcmp, thrice", 0, 1, false};
     case MIX:
-        return (contest){mix_once, compare_for_mix, "memcmp", 0, p->mix.requests};
+        return (contest){mix_once, compare_for_mix, "memcmp", 0, p->mix.requests, false};
     case LIST:
-        return (contest){list_once, malloc_once, "malloc, free", 0, p->requests};
+        return (contest){list_once, malloc_once, "malloc, free", 0, p->requests, false};
+    case FORMAT:
+        return (contest){format_once, set_once, "memset", 0, 1, false};
     default:
-        return (contest){format_once, set_once, "memset", 0, 1};
+        return (contest){bursts_once, compare_states, "memcmp", 0, p->burst_lines, true};
     }
 }

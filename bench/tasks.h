@@ -4,7 +4,7 @@
 
 #include "timing.h"
 
-enum call { FIND, PAIR, CUT, MIX, LIST, FORMAT };
+enum call { FIND, PAIR, CUT, MIX, LIST, FORMAT, LINE, TIGHT_LINE, BURST };
 
 const char *call_name(enum call c);
 

@@ -437,3 +437,181 @@ lf_segment_outcome __wrap_lf_segment_trim(uint32_t next, SEGMENT, NAMED, uint32_
         done.answer.words = words;
     return done;
 }
+
+/* ---- sessions */
+
+#define STATE uint8_t *state, size_t state_len
+#define BURST STATE, const uint8_t *bytes, size_t bytes_len, uint8_t *answers, size_t answers_len
+#define BURST_PASSED state, state_len, bytes, bytes_len, answers, answers_len
+
+uint32_t __real_lf_session_start(STATE);
+lf_burst __real_lf_session_burst(BURST);
+lf_burst __real_lf_session_end(STATE, uint8_t *answers, size_t answers_len);
+
+/* Where the parts of a state lie: kept length, kept bytes, table, arena. */
+#define KEPT_LEN 4
+#define KEPT 24
+#define TABLE 92
+#define ARENA 4188
+
+static uint32_t word_at(const uint8_t *state, size_t at)
+{
+    uint32_t word;
+    memcpy(&word, state + at, sizeof word);
+    return word;
+}
+
+/* The unfinished line, and how long it is. */
+static void copy_line(uint8_t *to, const uint8_t *from)
+{
+    memcpy(to + KEPT_LEN, from + KEPT_LEN, 4);
+    memcpy(to + KEPT, from + KEPT, TABLE - KEPT);
+}
+
+static void drop_line(uint8_t *state)
+{
+    static const uint8_t none[TABLE];
+    copy_line(state, none);
+}
+
+/* Zeros behind the kept bytes, the table and the arena. */
+static void wipe_unused(uint8_t *state)
+{
+    uint32_t kept = word_at(state, KEPT_LEN), words = word_at(state, 8), slots = word_at(state, 12);
+    if (kept > TABLE - KEPT || words > 8192 || slots > LF_RECORDS_MAX)
+        return;
+    memset(state + KEPT + kept, 0, TABLE - KEPT - kept);
+    memset(state + TABLE + 16 * slots, 0, ARENA - TABLE - 16 * slots);
+    memset(state + ARENA + 4 * words, 0, LF_STATE_BYTES - ARENA - 4 * words);
+}
+
+/* Party 1 in every live record. */
+static void take_over(uint8_t *state)
+{
+    static const uint32_t party = 1;
+    for (size_t at = TABLE; at < ARENA; at += 16)
+        if (word_at(state, at))
+            memcpy(state + at + 12, &party, sizeof party);
+}
+
+/* A burst on a state that is put right first. */
+static lf_burst burst_on_mended(void (*mend)(uint8_t *), BURST)
+{
+    static uint8_t mended[LF_STATE_BYTES];
+    memcpy(mended, state, LF_STATE_BYTES);
+    mend(mended);
+    lf_burst done = __real_lf_session_burst(mended, state_len, bytes, bytes_len, answers, answers_len);
+    if (done.number != LF_DAMAGED)
+        memcpy(state, mended, LF_STATE_BYTES);
+    return done;
+}
+
+/* Line by line, as long as the longest answer has room. */
+static lf_burst burst_by_longest(BURST)
+{
+    lf_burst all = { LF_OK, 0, 0 };
+    while (all.taken < bytes_len) {
+        const uint8_t *from = bytes + all.taken, *feed = memchr(from, '\n', bytes_len - all.taken);
+        if (feed && answers_len - all.written < LF_ANSWER_BYTES) {
+            all.number = LF_MORE_ROOM;
+            break;
+        }
+        size_t len = feed ? (size_t)(feed - from) + 1 : bytes_len - all.taken;
+        lf_burst one = __real_lf_session_burst(state, state_len, from, len, answers + all.written,
+                                               answers_len - all.written);
+        all.taken += one.taken;
+        all.written += one.written;
+    }
+    return all;
+}
+
+/* Slips of a burst that stops for want of room; `before` is the state that it was given. */
+static lf_burst stopped_wrongly(lf_burst done, uint8_t *state, const uint8_t *before)
+{
+    if (broken(58) && done.taken == 0) /* kept bytes lost */
+        drop_line(state);
+    if (broken(59)) /* taken one too many */
+        done.taken++;
+    if (broken(60)) /* 10 told as 0 */
+        done.number = LF_OK;
+    if (broken(61)) { /* taken for a refusal: the lines that were served are undone */
+        memcpy(state, before, LF_STATE_BYTES);
+        done.taken = done.written = 0;
+    }
+    return done;
+}
+
+/* Slips of a burst that takes all. */
+static void taken_wrongly(lf_burst done, uint8_t *state, uint8_t *answers, size_t answers_len)
+{
+    if (broken(65) && word_at(state, KEPT_LEN) == 65) { /* 64 bytes kept of a longer line */
+        state[KEPT_LEN] = 64;
+        state[KEPT + 64] = 0;
+    }
+    if (broken(66) && answers_len < LF_STATE_BYTES) /* answer bytes wiped beyond those written */
+        memset(answers + done.written, 0, answers_len - done.written);
+    if (broken(67) && state[0] == 3) /* a stopped session keeps no line */
+        drop_line(state);
+}
+
+lf_burst __wrap_lf_session_burst(BURST)
+{
+    static uint8_t before[LF_STATE_BYTES];
+    int suits = state_len == LF_STATE_BYTES;
+    if (broken(62) && bytes_len == 0) { /* no bytes: state not looked at */
+        lf_burst none = { LF_OK, 0, 0 };
+        return none;
+    }
+    if (broken(63) && suits) /* unused bytes not compared */
+        return burst_on_mended(wipe_unused, BURST_PASSED);
+    if (broken(64) && suits) /* another party's record taken for a session's */
+        return burst_on_mended(take_over, BURST_PASSED);
+    if (suits)
+        memcpy(before, state, LF_STATE_BYTES);
+    if (broken(74) && answers_len > 0) /* an answer that just fits has no room */
+        answers_len--;
+    int at_line = suits && bytes_len > 0 && word_at(state, KEPT_LEN) == 0;
+    if (broken(75) && at_line && bytes[0] == 'P' && word_at(state, 0) == 2) /* a second P line begins anew */
+        __real_lf_session_start(state, state_len);
+    lf_burst probe = { LF_DAMAGED, 0, 0 };
+    if (broken(57)) /* room for the longest answer asked for, whatever the answer is */
+        probe = __real_lf_session_burst(state, state_len, bytes, 0, answers, 0);
+    if (probe.number == LF_OK)
+        return burst_by_longest(BURST_PASSED);
+    lf_burst done = __real_lf_session_burst(BURST_PASSED);
+    if (done.number == LF_MORE_ROOM)
+        done = stopped_wrongly(done, state, before);
+    if (done.number == LF_OK)
+        taken_wrongly(done, state, answers, answers_len);
+    return done;
+}
+
+lf_burst __wrap_lf_session_end(STATE, uint8_t *answers, size_t answers_len)
+{
+    static uint8_t before[LF_STATE_BYTES];
+    memcpy(before, state, state_len < LF_STATE_BYTES ? state_len : LF_STATE_BYTES);
+    lf_burst done = __real_lf_session_end(state, state_len, answers, answers_len);
+    if (broken(76) && done.number == LF_OK) { /* its line answered, but not done */
+        memcpy(state, before, LF_STATE_BYTES);
+        drop_line(state);
+    }
+    if (broken(68) && done.number == LF_OK) /* leaves its line */
+        copy_line(state, before);
+    if (broken(69) && done.number == LF_MORE_ROOM) /* clears a line that had no room */
+        drop_line(state);
+    if (broken(70) && done.number == LF_OK && word_at(before, KEPT_LEN) == 0) /* no line served as an empty one */
+        done = __real_lf_session_burst(state, state_len, (const uint8_t *)"\n", 1, answers, answers_len);
+    if (broken(71) && done.number == LF_DAMAGED && word_at(before, KEPT_LEN) == 0) /* no line: state not looked at */
+        done.number = LF_OK;
+    return done;
+}
+
+uint32_t __wrap_lf_session_start(STATE)
+{
+    if (broken(72) && state_len > LF_STATE_BYTES) /* begins in a longer buffer, though it says 8 */
+        __real_lf_session_start(state, LF_STATE_BYTES);
+    uint32_t number = __real_lf_session_start(state, state_len);
+    if (broken(73) && number == LF_OK) /* bytes behind the line left as they were found */
+        state[TABLE - 1] = 1;
+    return number;
+}

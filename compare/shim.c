@@ -8,6 +8,8 @@ _Static_assert(WORDS(sizeof(lf_answer)) == 4, "answer");
 _Static_assert(WORDS(sizeof(lf_tree_outcome)) == 7, "tree outcome");
 _Static_assert(WORDS(sizeof(lf_segment_outcome)) == 5, "segment outcome");
 _Static_assert(WORDS(sizeof(lf_segment_allocation)) == 6, "segment allocation");
+_Static_assert(offsetof(lf_burst, taken) == 8 && offsetof(lf_burst, written) == 16 && sizeof(lf_burst) == 24, "burst");
+_Static_assert(LF_STATE_BYTES == 36956, "state of a session");
 
 #define TREE uint32_t *, size_t, uint32_t *, size_t
 #define READ_TREE const uint32_t *, size_t, const uint32_t *, size_t
@@ -28,6 +30,9 @@ lf_segment_outcome lf_segment_trim(uint32_t, SEGMENT, uint32_t, uint32_t, uint32
 lf_answer lf_segment_find(uint32_t, READ_SEGMENT, uint32_t, uint32_t, uint32_t, uint32_t);
 lf_segment_outcome lf_segment_list(uint32_t, SEGMENT, uint32_t, LISTED);
 uint32_t lf_copy_table(const uint32_t *, size_t, uint32_t *, size_t);
+uint32_t lf_session_start(uint8_t *, size_t);
+lf_burst lf_session_burst(uint8_t *, size_t, const uint8_t *, size_t, uint8_t *, size_t);
+lf_burst lf_session_end(uint8_t *, size_t, uint8_t *, size_t);
 
 lf_tree_slice compare_tree_look(lf_tree_head head, const uint32_t *arena, size_t arena_len, const uint32_t *table,
                                 size_t table_len, const uint32_t *placeholder, size_t placeholder_len,

@@ -45,7 +45,9 @@ TEXT, LEFT, RIGHT, SIDE, BOTH, ALL = (160, 380), (390, 700), (710, 1020), (1030,
 # row from the bottom, rows high, columns, colour, name, what it holds
 CRATES = [
     (0, 1, ALL, MEANING, "words", "lists, counted tests, words by place; wipe and zero test"),
-    (0, 1, TEXT, OUTER, "text", "numbers, fields, lines"),
+    (0, 1, TEXT, OUTER, "text", "numbers, fields, lines; bursts"),
+    (1, 1, TEXT, OUTER, "word_bytes", "words as bytes"),
+    (10, 1, TEXT, OUTER, "session", "its meaning, its bytes, its calls"),
     (1, 1, ALL, MEANING, "ledger", "records, units, validity, lowest fit, free runs"),
     (2, 1, ALL, MEANING, "stored_forms", "what each engine stores of a ledger: tree; control words, index"),
     (3, 1, ALL, MEANING, "calls", "pool memory, numbers, gate, step; the three demands"),
@@ -65,23 +67,26 @@ CRATES = [
     (9, 1, RIGHT, SEGMENT, "segment_check", "one exact check of blocks and index"),
     (10, 1, RIGHT, SEGMENT, "segment_requests", "grant, release, trim, lists on a sound pool"),
     (11, 1, RIGHT, SEGMENT, "segment_pool", "the seven calls"),
-    (12, 1, (160, 485), OUTER, "pool_text", "the program's meaning; serves chunks"),
-    (13, 1, (160, 485), OUTER, "text_session", "between two files"),
-    (14, 1, (160, 317), OUTER, "pool", "the program"),
-    (14, 1, (327, 485), TRIED, "text_cases", "its cases"),
+    (12, 1, (160, 485), OUTER, "pool_text", "lines served as far as there is room"),
+    (13, 1, (160, 485), OUTER, "pool_bursts", "start, burst, end on a byte buffer"),
+    (14, 1, (160, 317), OUTER, "text_session", "between two files"),
+    (14, 1, (327, 485), TRIED, "burst_runs", "cuttings"),
+    (15, 1, (160, 255), OUTER, "pool", "the program"),
+    (15, 1, (265, 370), TRIED, "text_cases", "its cases"),
+    (15, 1, (380, 485), TRIED, "burst_cases", "the calls"),
     (12, 1, (495, 635), TRIED, "tree_cases", "and tree_trims"),
     (13, 1, (495, 635), TRIED, "tree_traffic", "random calls"),
     (14, 1, (495, 635), TRIED, "insert_counts", "links stored"),
-    (12, 1, (645, 840), OUTER, "pool_c", "both pools' calls for C"),
+    (14, 1, (645, 840), OUTER, "pool_c", "all calls for C"),
     (12, 1, (850, 1020), TRIED, "segment_cases", "worked cases"),
     (13, 1, (850, 1020), TRIED, "segment_traffic", "random calls"),
 ]
 BANDS = [(0, 4, "what it means"), (4, 2, "shared code"), (6, 5, "parts of each engine"), (11, 1, "the pools"),
-         (12, 3, "for C, as text; tests")]
+         (12, 4, "for C, as text; tests")]
 
 
 def layers():
-    high, gap, rows = 46, 6, 15
+    high, gap, rows = 46, 6, 16
     p = Picture(1220, 30 + rows * (high + gap) + 30, "Crates, bottom to top")
 
     def top(row, n):

@@ -59,7 +59,9 @@
  * records and words, its arguments, the form, the lent lengths and whether the pool is in order. Of restarts
  * (Restart.antt there): no ticket below the number given to format is ever live in the new pool, as long as each call
  * that is not refused gets head and table as the one before left them, and no other format, nor a copy of an old table,
- * is accepted there.
+ * is accepted there. Of sessions (crates/session/specs, Calls.antt and Bursts.antt): every byte that the three calls
+ * leave, and that bursts cut anywhere, with any room, bytes not taken handed over again, come to the same answers and
+ * the same state as one burst with room enough.
  *
  * WHAT IS NOT PROVED, and is yours to see to:
  *   - Pointers are not null, not even with length 0, aligned to 4 bytes, and good for their length.
@@ -67,16 +69,19 @@
  *   - After a restart, format is given a number above every earlier ticket.
  *   - A buffer that a call writes overlaps no other buffer of that call. While a call runs, no interrupt, other core or
  *     transfer unit writes to its buffers, or reads those that the call writes.
- *   - The archive links on x86-64 Linux. It needs memset, from a C library or your own, and nothing else.
+ *   - The archive links on x86-64 Linux. It needs memset and memcpy, from a C library or your own, and
+ *     nothing else.
  *   - Stack, as seen on x86-64, on any memory, at most:
- *       tree pools of up to  1,024 words and  16 records    4 KB
- *                            4,096 words and  64 records   20 KB
- *                           16,384 words and  16 records   14 KB
- *                           16,384 words and 256 records   29 KB
- *       and of form 2       65,536 words and 256 records   37 KB
- *                        1,048,576 words and  16 records   14 KB
- *                        1,048,576 words and 256 records   48 KB
+ *       tree pools of up to  1,024 words and  16 records    3 KB
+ *                            4,096 words and  64 records   17 KB
+ *                           16,384 words and  16 records   13 KB
+ *                           16,384 words and 256 records   23 KB
+ *       and of form 2       65,536 words and 256 records   28 KB
+ *                        1,048,576 words and  16 records   13 KB
+ *                        1,048,576 words and 256 records   36 KB
  *       segment pools of any size                           5 KB
+ *       sessions of up to    1,024 words and  16 records   40 KB
+ *                            8,192 words and 256 records   57 KB
  *   - Time: it grows with arena and table, since each call checks the whole pool, damaged or not. On damaged memory a
  *     call takes no longer than the slowest on a sound pool of the same lengths was seen to take (docs/benchmark.md).
  *     A list checks the pool once.
@@ -110,6 +115,7 @@ extern "C" {
 #define LF_MISMATCH 7u       /* the ticket is live, but address or words are not its own */
 #define LF_BAD_LENGTHS 8u    /* a length or the number of segments is out of range, or a list's lengths don't suit */
 #define LF_BAD_REQUEST 9u    /* in a list: a request of unknown kind, or with spare words that are not zero */
+#define LF_MORE_ROOM 10u      /* of a burst or an end call alone, and no refusal: the next answer has no room */
 #define LF_BAD_FORM 11u      /* the tree pool has no such form */
 #define LF_BAD_PARTY 12u     /* the party is not 1 to 255; also to a list without a request */
 
@@ -123,6 +129,8 @@ extern "C" {
 #define LF_TABLE_WORDS(records) (4u * (records))
 #define LF_OLD_TABLE_WORDS(records) (3u * (records)) /* before there were parties */
 #define LF_INDEX_WORDS(segments) (3u * (segments))
+#define LF_STATE_BYTES 36956u /* of a session of the text program */
+#define LF_ANSWER_BYTES 35u   /* no answer line is longer */
 #define LF_LIST_WORDS(requests) (4u * (requests))
 
 /* ---- requests of a list: four words each
@@ -288,6 +296,26 @@ static inline lf_segment_slice lf_segment_look(uint32_t next, const int32_t *are
  * anything; an old one that was in no order gives a new one that is in none. LF_OK, or LF_BAD_LENGTHS, and then nothing
  * is written. */
 uint32_t lf_copy_table(const uint32_t *old, size_t old_len, uint32_t *new_table, size_t new_len);
+
+/* ---- the text program, as the radio delivers its requests
+ *
+ * A session is one lent buffer of LF_STATE_BYTES bytes: where the program stands, the unfinished line, and the pool, of
+ * form 1 and party 1. Start fills it; from then on hand it to each call as the one before left it, and bursts of
+ * request bytes, cut anywhere. A burst is taken as far as its answers have room: LF_OK, all of it; LF_MORE_ROOM, the
+ * first `taken` bytes, and the others are to be handed over again, with room for at least the next line's answer
+ * (LF_ANSWER_BYTES is always enough). `written` bytes of the answer buffer are answers. The end call serves a last line
+ * that has no line feed; without room it is LF_MORE_ROOM and changes nothing. LF_BAD_LENGTHS, if state_len is another;
+ * LF_DAMAGED, if the buffer is no session's; then nothing changes. */
+typedef struct {
+    uint32_t number;
+    size_t taken;
+    size_t written;
+} lf_burst;
+
+uint32_t lf_session_start(uint8_t *state, size_t state_len);
+lf_burst lf_session_burst(uint8_t *state, size_t state_len, const uint8_t *bytes, size_t bytes_len, uint8_t *answers,
+                          size_t answers_len);
+lf_burst lf_session_end(uint8_t *state, size_t state_len, uint8_t *answers, size_t answers_len);
 
 #ifdef __cplusplus
 }

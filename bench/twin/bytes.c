@@ -1,4 +1,4 @@
-// Loops over the bytes of a map of units, in both shapes.
+// Loops over the bytes of a map of units, or of a buffer, in both shapes.
 #include "twin.h"
 
 #if TWIN_EXIT
@@ -11,6 +11,7 @@ static bool zero_bytes(const uint8_t *s, size_t n)
     return true;
 }
 
+#if !TWIN_TILES
 static bool no_zero_bytes(const uint8_t *s, size_t n)
 {
     for (size_t i = 0; i < n; i++)
@@ -18,6 +19,7 @@ static bool no_zero_bytes(const uint8_t *s, size_t n)
             return false;
     return true;
 }
+#endif
 
 #else
 
@@ -37,6 +39,7 @@ static bool zero_bytes(const uint8_t *s, size_t n)
     return any_bit_of_bytes(s, n) == 0;
 }
 
+#if !TWIN_TILES
 // The map holds 0 and 1 alone, so the bytes are all 1 exactly if their bits together are.
 static bool no_zero_bytes(const uint8_t *s, size_t n)
 {
@@ -45,5 +48,6 @@ static bool no_zero_bytes(const uint8_t *s, size_t n)
         all &= s[i];
     return all != 0;
 }
+#endif
 
 #endif

@@ -2,7 +2,7 @@
 #include "twin.h"
 
 #include "words.c"
-#if !TWIN_TILES
+#if !TWIN_TILES || !TWIN_IN_PLACE
 #include "bytes.c"
 #endif
 #include "table.c"
@@ -25,3 +25,6 @@
 #include "tree.c"
 #endif
 #include "tree_calls.c"
+#define FORM 1 // of the text program's pool
+#include "lines.c"
+#include "session.c"

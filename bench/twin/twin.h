@@ -12,6 +12,9 @@
 //               1: it is there once for each form, with the form as a constant; a call chooses by its form.
 // TWIN_EXIT     0: loops over words run to the end of a block of 256, so that the compiler can take many at a time.
 //               1: loops over words leave at the first wrong one.
+// TWIN_IN_PLACE 0: a session's words are copied out of its byte buffer and back; what is not used is compared with 0.
+//               1: they are used where they lie, so the buffer has to be aligned to 4 bytes; what is not used is not
+//                  looked at. For measuring alone, since it misses damage there.
 #ifndef TWIN_H
 #define TWIN_H
 
@@ -30,6 +33,9 @@
 #endif
 #ifndef TWIN_EXIT
 #define TWIN_EXIT 0
+#endif
+#ifndef TWIN_IN_PLACE
+#define TWIN_IN_PLACE 0
 #endif
 
 #ifdef PREFIX_LF
@@ -62,9 +68,14 @@ enum {
     OLD_RECORD_WORDS = 3,
     MOST_PARTY = 255,
     REQUEST_WORDS = 4,
+    MOST_TEXT_WORDS = 8192, // of the text program's pool
+    TEXT_FORM = 1,
+    TEXT_PARTY = 1,
+    MOST_LINE = 64,  // bytes of a line that can be read
+    LINE_BYTES = 68, // of a session's buffer for an unfinished line
 };
 
-// The numbers of the refusals.
+// The numbers that calls answer.
 enum {
     DONE = 0,
     UNSOUND = 1,
@@ -76,6 +87,7 @@ enum {
     OTHER_BLOCK = 7,
     BAD_LENGTHS = 8,
     BAD_REQUEST = 9,
+    MORE_ROOM = 10,
     BAD_FORM = 11,
     BAD_PARTY = 12,
 };

@@ -47,6 +47,14 @@ pub struct SegmentSlice {
     pub len: usize,
 }
 
+#[derive(Clone, Copy, PartialEq, Eq, Debug)]
+#[repr(C)]
+pub struct Burst {
+    pub number: u32,
+    pub taken: usize,
+    pub written: usize,
+}
+
 /// A 32-bit argument as x86-64 passes it: the upper half of its register or stack slot may hold
 /// anything, so here it holds noise.
 #[derive(Clone, Copy)]
@@ -129,6 +137,12 @@ unsafe extern "C" {
         segments: Word, index: *const u32, index_len: usize,
         placeholder: *const i32, placeholder_len: usize, party: Word, ticket: Word, address: Word, words: Word,
     ) -> SegmentSlice;
+
+    pub fn lf_session_start(state: *mut u8, state_len: usize) -> u32;
+    pub fn lf_session_burst(
+        state: *mut u8, state_len: usize, bytes: *const u8, bytes_len: usize, answers: *mut u8, answers_len: usize,
+    ) -> Burst;
+    pub fn lf_session_end(state: *mut u8, state_len: usize, answers: *mut u8, answers_len: usize) -> Burst;
 
     pub fn lf_copy_table(old: *const u32, old_len: usize, new_table: *mut u32, new_len: usize) -> u32;
 }

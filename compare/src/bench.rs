@@ -1,12 +1,13 @@
 //! The bench: the library's buffers beside the model's pool. Every step makes one call on both and
 //! compares the answer, the head and every word of every buffer, guards included.
 
-use crate::guarded::{Guarded, Words};
+use crate::guarded::{Guarded, Item, Words};
 use crate::library::{Lent, Library, Played};
 use crate::model::{self, Call, Head, Outcome, Placeholder, Pool, Slice};
 use crate::random::Random;
 use crate::tally::Tally;
 use crate::{segment_search, situations, watch};
+use std::fmt::Display;
 use std::ops::Range;
 
 pub struct Bench {
@@ -49,7 +50,7 @@ impl Bench {
     /// The same writing by callers on both sides.
     pub fn write(&mut self, pool: &mut Pool, at: usize, word: u32) {
         pool.arena[at] = word;
-        self.library.lent.arena.words_mut()[at] = word;
+        self.library.lent.arena.contents_mut()[at] = word;
     }
 
     /// One call on a pool of its own.
@@ -59,10 +60,15 @@ impl Bench {
         self.step(&mut pool, call)
     }
 
-    /// One call on the pool as lent: on the library's buffers, and on the model's pool.
-    pub fn step(&mut self, pool: &mut Pool, call: &Call) -> Outcome {
+    /// A call is about to be made.
+    pub fn count_step(&mut self) {
         watch::case(self.steps);
         self.steps += 1;
+    }
+
+    /// One call on the pool as lent: on the library's buffers, and on the model's pool.
+    pub fn step(&mut self, pool: &mut Pool, call: &Call) -> Outcome {
+        self.count_step();
         let before = pool.clone();
         self.library.lend_for(call, &mut self.place);
         let played = self.library.play(pool, call);
@@ -82,15 +88,14 @@ impl Bench {
 
     /// A copy of an old table into a new one, which holds anything; hands back the number.
     pub fn copy(&mut self, old: &[u32], new: &[u32]) -> u32 {
-        watch::case(self.steps);
-        self.steps += 1;
+        self.count_step();
         let got = self.library.copy(old, new, &mut self.place);
         let copied = model::copied_table(old, new.len());
         let due = if copied.is_some() { 0 } else { 8 };
         let mut all = Vec::new();
         differ("number", &due, &got, &mut all);
-        compare_words("old table", old, &self.library.requests, &mut all);
-        compare_words("new table", copied.as_deref().unwrap_or(new), &self.library.answers, &mut all);
+        compare_lent("old table", old, &self.library.requests, &mut all);
+        compare_lent("new table", copied.as_deref().unwrap_or(new), &self.library.answers, &mut all);
         if !all.is_empty() {
             let told = format!("  copy of {old:?} into {} words: {}", new.len(), all.join("\n  "));
             self.tally.mismatch(self.section, old.len() + new.len(), told);
@@ -119,9 +124,9 @@ impl Bench {
     /// Are the library's buffers, guards included, exactly this pool?
     pub fn holds(&self, pool: &Pool) -> bool {
         let mut all = Vec::new();
-        compare_words("arena", &pool.arena, &self.library.lent.arena, &mut all);
-        compare_words("table", &pool.table, &self.library.lent.table, &mut all);
-        compare_words("index", &pool.index, &self.library.lent.index, &mut all);
+        compare_lent("arena", &pool.arena, &self.library.lent.arena, &mut all);
+        compare_lent("table", &pool.table, &self.library.lent.table, &mut all);
+        compare_lent("index", &pool.index, &self.library.lent.index, &mut all);
         all.is_empty()
     }
 
@@ -148,15 +153,15 @@ impl Bench {
             differ("head", &outcome.head, &played.head, &mut all);
             differ("places", &outcome.places, &played.places, &mut all);
         }
-        compare_words("arena", &pool.arena, &self.library.lent.arena, &mut all);
-        compare_words("table", &pool.table, &self.library.lent.table, &mut all);
-        compare_words("index", &pool.index, &self.library.lent.index, &mut all);
+        compare_lent("arena", &pool.arena, &self.library.lent.arena, &mut all);
+        compare_lent("table", &pool.table, &self.library.lent.table, &mut all);
+        compare_lent("index", &pool.index, &self.library.lent.index, &mut all);
         if let Call::List { requests, .. } = call {
-            compare_words("requests", requests, &self.library.requests, &mut all);
-            compare_words("answers", &outcome.answers, &self.library.answers, &mut all);
+            compare_lent("requests", requests, &self.library.requests, &mut all);
+            compare_lent("answers", &outcome.answers, &self.library.answers, &mut all);
         }
         if let Call::Look(_, Placeholder::Own(words)) = call {
-            compare_words("placeholder", words, &self.library.placeholder, &mut all);
+            compare_lent("placeholder", words, &self.library.placeholder, &mut all);
         }
         all
     }
@@ -238,18 +243,18 @@ fn bring_part_back(part: &Part, lent: &mut Guarded, aside: &mut Guarded) {
     }
 }
 
-fn differ<T: PartialEq + std::fmt::Debug>(what: &str, due: &T, got: &T, all: &mut Vec<String>) {
+pub fn differ<T: PartialEq + std::fmt::Debug>(what: &str, due: &T, got: &T, all: &mut Vec<String>) {
     if due != got {
         all.push(format!("{what}: due {due:?}, got {got:?}"));
     }
 }
 
-fn compare_words(what: &str, due: &[u32], got: &Guarded, all: &mut Vec<String>) {
+pub fn compare_lent<T: Item + Display>(what: &str, due: &[T], got: &Guarded<T>, all: &mut Vec<String>) {
     if !got.guards_stand() {
-        all.push(format!("{what}: guard words overwritten"));
+        all.push(format!("{what}: guards overwritten"));
     }
-    if due != got.words() {
-        let places = due.iter().zip(got.words()).enumerate().filter(|(_, (due, got))| due != got);
+    if due != got.contents() {
+        let places = due.iter().zip(got.contents()).enumerate().filter(|(_, (due, got))| due != got);
         let told: Vec<String> = places.take(8).map(|(at, (due, got))| format!("[{at}] due {due} got {got}")).collect();
         all.push(format!("{what}: {}", told.join(", ")));
     }

@@ -12,6 +12,7 @@ mod large;
 mod ledger;
 mod lengths;
 mod library;
+mod lines;
 mod long_runs;
 mod model;
 mod order;
@@ -21,9 +22,14 @@ mod random;
 mod restart;
 mod segment_form;
 mod segment_search;
+mod session;
+mod session_bench;
+mod session_damage;
+mod sessions;
 mod single_calls;
 mod situations;
 mod tally;
+mod text;
 mod tiny;
 mod tree_form;
 mod vast;
@@ -34,9 +40,10 @@ use model::{Kind, SEGMENT};
 use random::Random;
 use std::process::ExitCode;
 use std::time::Instant;
+use tally::Subject;
 
-/// Random cases to the segment pool and to each form of the tree pool; the bench sheet, tiny pools and vast lengths
-/// come on top.
+/// Random cases to the segment pool and to each form of the tree pool; the bench sheet, tiny pools, vast lengths and
+/// sessions come on top.
 const CASES: u64 = 1_200_000;
 const SEED: u64 = 61;
 
@@ -45,10 +52,12 @@ struct Wanted {
     seed: u64,
     /// Leaves out what does not depend on the seed.
     random_only: bool,
+    /// Leaves out all but sessions.
+    sessions_only: bool,
 }
 
 fn wanted() -> Result<Wanted, String> {
-    let mut wanted = Wanted { cases: CASES, seed: SEED, random_only: false };
+    let mut wanted = Wanted { cases: CASES, seed: SEED, random_only: false, sessions_only: false };
     let mut arguments = std::env::args().skip(1);
     while let Some(name) = arguments.next() {
         let mut number = || {
@@ -59,6 +68,7 @@ fn wanted() -> Result<Wanted, String> {
             "--cases" => wanted.cases = number()?,
             "--seed" => wanted.seed = number()?,
             "--random-only" => wanted.random_only = true,
+            "--sessions-only" => wanted.sessions_only = true,
             _ => return Err(format!("unknown: {name}")),
         }
     }
@@ -72,7 +82,7 @@ fn kinds() -> Vec<Kind> {
 
 fn run(bench: &mut Bench, kind: Kind, wanted: &Wanted) {
     let mut random = Random::new(wanted.seed ^ (kind.form as u64) << 32);
-    bench.tally.kind = kind;
+    bench.tally.subject = Subject::Pool(kind);
     if !wanted.random_only {
         bench_sheet::run(bench, kind);
         tiny::run(bench, kind);
@@ -93,18 +103,21 @@ pub fn compare() -> ExitCode {
     let wanted = match wanted() {
         Ok(wanted) => wanted,
         Err(told) => {
-            eprintln!("{told}\nusage: compare [--cases N] [--seed S] [--random-only]");
+            eprintln!("{told}\nusage: compare [--cases N] [--seed S] [--random-only] [--sessions-only]");
             return ExitCode::from(2);
         }
     };
     watch::begin();
     let began = Instant::now();
     let mut bench = Bench::new(wanted.seed);
-    for kind in kinds() {
-        run(&mut bench, kind, &wanted);
+    let kinds = if wanted.sessions_only { Vec::new() } else { kinds() };
+    for kind in &kinds {
+        run(&mut bench, *kind, &wanted);
     }
-    vast::run(&mut bench.tally, &kinds());
-    let whole = bench.tally.report(&kinds());
+    sessions::run(&mut bench, wanted.cases / 3, wanted.random_only, &mut Random::new(wanted.seed));
+    vast::run(&mut bench.tally, &kinds);
+    let subjects: Vec<Subject> = kinds.into_iter().map(Subject::Pool).chain([Subject::Sessions]).collect();
+    let whole = bench.tally.report(&subjects);
     println!("seed {}, {:.1} s", wanted.seed, began.elapsed().as_secs_f64());
     match (bench.tally.mismatches, whole) {
         (0, true) => ExitCode::SUCCESS,

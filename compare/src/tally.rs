@@ -2,9 +2,10 @@
 //! never reached a number fails too.
 
 use crate::model::{Call, Engine, Kind, Outcome, SEGMENT};
+use crate::session::{SessionCall, SessionOutcome};
 use std::collections::BTreeMap;
 
-pub const NUMBERS: [u32; 12] = [0, 11, 8, 1, 12, 9, 2, 3, 4, 5, 6, 7];
+pub const NUMBERS: [u32; 13] = [0, 11, 8, 1, 12, 9, 2, 3, 4, 5, 6, 7, 10];
 
 /// Each row of the table and the numbers that can occur in it, 11 in the tree pool alone.
 pub const ROWS: [(&str, &[u32]); 11] = [
@@ -19,6 +20,19 @@ pub const ROWS: [(&str, &[u32]); 11] = [
     ("listed release", &[0, 6, 7]),
     ("listed unknown", &[9]),
     ("copy", &[0, 8]),
+];
+
+/// The same of sessions: their calls, and the lines that they serve.
+pub const SESSION_ROWS: [(&str, &[u32]); 9] = [
+    ("start", &[0, 8]),
+    ("burst", &[0, 8, 1, 10]),
+    ("end", &[0, 8, 1, 10]),
+    ("line P", &[0, 8, 6]),
+    ("line A", &[0, 2, 3, 4, 5]),
+    ("line R", &[0, 6, 7]),
+    ("line T", &[0, 2, 6, 7]),
+    ("bad line", &[9]),
+    ("line, stopped", &[0]),
 ];
 
 /// Situations each engine must have been in, the tree pool in each of its forms.
@@ -144,9 +158,63 @@ pub const FORM_2_SITUATIONS: [&str; 4] = [
 pub const FORM_3_SITUATIONS: [&str; 3] =
     ["damage seen: record on a cell", "seven spare words in a block", "length of no whole number of units"];
 
+/// Sessions of the text program.
+pub const SESSION_SITUATIONS: &[&str] = &[
+    "burst of no bytes",
+    "room just enough",
+    "room one byte short",
+    "room for the first answers only",
+    "no room, and nothing taken",
+    "no room for a line that began before",
+    "no room, and only its line feed has come",
+    "answers longer than written",
+    "line of 64 bytes",
+    "line of 65 bytes",
+    "65 bytes kept",
+    "more bytes of a line than are kept",
+    "burst amid a line",
+    "bytes taken when stopped",
+    "end: serves a P line",
+    "end: serves a later line",
+    "end: clears a line when stopped",
+    "end: no line",
+    "end: second one",
+    "end: and goes on",
+    "whole input",
+    "whole input, no last line feed",
+    "whole input, many bursts",
+    "whole input, many lines",
+    "empty input",
+    "8,192 words",
+    "256 slots",
+    "last ticket",
+    "damage seen: stage",
+    "damage seen: kept length",
+    "damage seen: line feed kept",
+    "damage seen: behind the line",
+    "damage seen: head",
+    "damage seen: table",
+    "damage seen: behind the table",
+    "damage seen: arena",
+    "damage seen: behind the arena",
+    "damage seen: party",
+    "damage seen: pool",
+    "damage seen: noise",
+    "change that leaves a session",
+    "one byte too few",
+    "one byte too many",
+];
+
+/// What cases are about.
+#[derive(Clone, Copy, PartialEq, Eq, Debug)]
+pub enum Subject {
+    Pool(Kind),
+    Sessions,
+}
+
 pub struct Tally {
     /// What the cases are about that are counted now.
-    pub kind: Kind,
+    pub subject: Subject,
     pub mismatches: u64,
     cases: BTreeMap<(&'static str, &'static str), u64>,
     seen: BTreeMap<(&'static str, &'static str, u32), u64>,
@@ -155,22 +223,35 @@ pub struct Tally {
     smallest: Option<(usize, String)>,
 }
 
-pub fn name(kind: Kind) -> &'static str {
-    match (kind.engine, kind.form) {
-        (Engine::Segment, _) => "segment",
-        (Engine::Tree, 1) => "tree 1",
-        (Engine::Tree, 2) => "tree 2",
-        (Engine::Tree, 3) => "tree 3",
-        (Engine::Tree, _) => "tree",
+impl Subject {
+    fn name(self) -> &'static str {
+        let Subject::Pool(kind) = self else { return "sessions" };
+        match (kind.engine, kind.form) {
+            (Engine::Segment, _) => "segment",
+            (Engine::Tree, 1) => "tree 1",
+            (Engine::Tree, 2) => "tree 2",
+            (Engine::Tree, 3) => "tree 3",
+            (Engine::Tree, _) => "tree",
+        }
     }
-}
 
-fn own_situations(kind: Kind) -> Vec<&'static str> {
-    match (kind.engine, kind.form) {
-        (Engine::Segment, _) => SEGMENT_SITUATIONS.to_vec(),
-        (Engine::Tree, 2) => [&TREE_SITUATIONS[..], &FORM_2_SITUATIONS].concat(),
-        (Engine::Tree, 3) => [&TREE_SITUATIONS[..], &FORM_3_SITUATIONS].concat(),
-        (Engine::Tree, _) => TREE_SITUATIONS.to_vec(),
+    fn rows(self) -> &'static [(&'static str, &'static [u32])] {
+        if self == Subject::Sessions { &SESSION_ROWS } else { &ROWS }
+    }
+
+    /// 11 is the tree pool's.
+    fn has_forms(self) -> bool {
+        matches!(self, Subject::Pool(Kind { engine: Engine::Tree, .. }))
+    }
+
+    fn situations(self) -> Vec<&'static str> {
+        let Subject::Pool(kind) = self else { return SESSION_SITUATIONS.to_vec() };
+        match (kind.engine, kind.form) {
+            (Engine::Segment, _) => [SITUATIONS, &SEGMENT_SITUATIONS].concat(),
+            (Engine::Tree, 2) => [SITUATIONS, &TREE_SITUATIONS, &FORM_2_SITUATIONS].concat(),
+            (Engine::Tree, 3) => [SITUATIONS, &TREE_SITUATIONS, &FORM_3_SITUATIONS].concat(),
+            (Engine::Tree, _) => [SITUATIONS, &TREE_SITUATIONS].concat(),
+        }
     }
 }
 
@@ -186,6 +267,14 @@ fn row(call: &Call) -> &'static str {
     }
 }
 
+fn session_row(call: &SessionCall) -> &'static str {
+    match call {
+        SessionCall::Start => "start",
+        SessionCall::Burst { .. } => "burst",
+        SessionCall::End { .. } => "end",
+    }
+}
+
 fn listed_row(kind: u32) -> &'static str {
     match kind {
         1 => "listed allocate",
@@ -197,7 +286,7 @@ fn listed_row(kind: u32) -> &'static str {
 impl Tally {
     pub fn new() -> Tally {
         let (cases, seen, situations, mismatches_in) = Default::default();
-        Tally { kind: SEGMENT, mismatches: 0, cases, seen, situations, mismatches_in, smallest: None }
+        Tally { subject: Subject::Pool(SEGMENT), mismatches: 0, cases, seen, situations, mismatches_in, smallest: None }
     }
 
     pub fn case(&mut self, section: &'static str, call: &Call, outcome: &Outcome) {
@@ -216,18 +305,27 @@ impl Tally {
         self.number("copy", number);
     }
 
+    /// A call of a session, with the lines that it served.
+    pub fn session(&mut self, section: &'static str, call: &SessionCall, outcome: &SessionOutcome) {
+        self.plain_case(section);
+        self.number(session_row(call), outcome.number);
+        for (line, number) in &outcome.served {
+            self.number(line, *number);
+        }
+    }
+
     /// A case whose call is not among the model's.
     pub fn plain_case(&mut self, section: &'static str) {
-        *self.cases.entry((name(self.kind), section)).or_default() += 1;
+        *self.cases.entry((self.subject.name(), section)).or_default() += 1;
     }
 
     fn number(&mut self, row: &'static str, number: u32) {
-        *self.seen.entry((name(self.kind), row, number)).or_default() += 1;
+        *self.seen.entry((self.subject.name(), row, number)).or_default() += 1;
     }
 
     pub fn situation(&mut self, situation: &'static str, holds: bool) {
         if holds {
-            *self.situations.entry((name(self.kind), situation)).or_default() += 1;
+            *self.situations.entry((self.subject.name(), situation)).or_default() += 1;
         }
     }
 
@@ -245,21 +343,21 @@ impl Tally {
 
     /// Cases so far of what is counted now.
     pub fn cases(&self) -> u64 {
-        self.cases_of(self.kind)
+        self.cases_of(self.subject)
     }
 
-    fn cases_of(&self, kind: Kind) -> u64 {
-        self.cases.iter().filter(|((of, _), _)| *of == name(kind)).map(|(_, count)| count).sum()
+    fn cases_of(&self, subject: Subject) -> u64 {
+        self.cases.iter().filter(|((of, _), _)| *of == subject.name()).map(|(_, count)| count).sum()
     }
 
     /// Prints everything; true if nothing is missing.
-    pub fn report(&self, kinds: &[Kind]) -> bool {
+    pub fn report(&self, subjects: &[Subject]) -> bool {
         let mut whole = true;
-        for kind in kinds {
-            whole &= self.report_numbers(*kind) & self.report_situations(*kind);
+        for subject in subjects {
+            whole &= self.report_numbers(*subject) & self.report_situations(*subject);
         }
-        for kind in kinds {
-            self.report_cases(*kind);
+        for subject in subjects {
+            self.report_cases(*subject);
         }
         if let Some((_, told)) = &self.smallest {
             println!("the smallest mismatch:\n{told}");
@@ -269,18 +367,18 @@ impl Tally {
         whole
     }
 
-    fn report_numbers(&self, kind: Kind) -> bool {
+    fn report_numbers(&self, subject: Subject) -> bool {
         let heading: String = NUMBERS.iter().map(|number| format!("{number:>9}")).collect();
-        println!("{:<8} {:<16}{heading}", name(kind), "number:");
-        ROWS.iter().fold(true, |whole, (row, possible)| self.report_row(kind, row, possible) & whole)
+        println!("{:<8} {:<16}{heading}", subject.name(), "number:");
+        subject.rows().iter().fold(true, |whole, (row, possible)| self.report_row(subject, row, possible) & whole)
     }
 
-    fn report_row(&self, kind: Kind, row: &'static str, possible: &[u32]) -> bool {
+    fn report_row(&self, subject: Subject, row: &'static str, possible: &[u32]) -> bool {
         let mut whole = true;
         let mut line = String::new();
         for number in NUMBERS {
-            let count = self.seen.get(&(name(kind), row, number)).copied().unwrap_or(0);
-            let may = possible.contains(&number) && (number != 11 || kind.engine == Engine::Tree);
+            let count = self.seen.get(&(subject.name(), row, number)).copied().unwrap_or(0);
+            let may = possible.contains(&number) && (number != 11 || subject.has_forms());
             whole &= may == (count > 0);
             line += &match (may, count) {
                 (false, 0) => format!("{:>9}", "."),
@@ -289,16 +387,16 @@ impl Tally {
                 (true, _) => format!("{count:>9}"),
             };
         }
-        println!("{:<8} {row:<16}{line}", name(kind));
+        println!("{:<8} {row:<16}{line}", subject.name());
         whole
     }
 
-    fn report_situations(&self, kind: Kind) -> bool {
-        let count = |situation: &'static str| self.situations.get(&(name(kind), situation)).copied().unwrap_or(0);
-        let all = SITUATIONS.iter().copied().chain(own_situations(kind));
+    fn report_situations(&self, subject: Subject) -> bool {
+        let count = |situation: &'static str| self.situations.get(&(subject.name(), situation)).copied().unwrap_or(0);
+        let all = subject.situations().into_iter();
         let all: Vec<(&str, u64)> = all.map(|situation| (situation, count(situation))).collect();
         let told: Vec<String> = all.iter().map(|(situation, count)| format!("{situation} {count}")).collect();
-        println!("{} situations: {}", name(kind), told.join("; "));
+        println!("{} situations: {}", subject.name(), told.join("; "));
         let missing: Vec<&str> = all.iter().filter(|(_, count)| *count == 0).map(|(situation, _)| *situation).collect();
         if !missing.is_empty() {
             println!("NEVER: {}", missing.join("; "));
@@ -306,9 +404,9 @@ impl Tally {
         missing.is_empty()
     }
 
-    fn report_cases(&self, kind: Kind) {
-        let of_kind = self.cases.iter().filter(|((of, _), _)| *of == name(kind));
-        let parts: Vec<String> = of_kind.map(|((_, section), count)| format!("{section} {count}")).collect();
-        println!("cases, {}: {} ({})", name(kind), self.cases_of(kind), parts.join(", "));
+    fn report_cases(&self, subject: Subject) {
+        let of_it = self.cases.iter().filter(|((of, _), _)| *of == subject.name());
+        let parts: Vec<String> = of_it.map(|((_, section), count)| format!("{section} {count}")).collect();
+        println!("cases, {}: {} ({})", subject.name(), self.cases_of(subject), parts.join(", "));
     }
 }

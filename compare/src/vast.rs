@@ -1,11 +1,14 @@
-//! Lengths above 4,294,967,295 words: a length cut to 32 bits would look right. The memory is really
+//! Lengths above 4,294,967,295 words, or bytes: a length cut to 32 bits would look right. The memory is really
 //! lent; the system gives pages only where they are touched.
 
-use crate::guarded::{Words, map};
+use crate::abi::Burst;
+use crate::guarded::{Lies, Words, map};
 use crate::ledger::{Ledger, Record};
 use crate::library::{Played, View, copy_table, play};
 use crate::model::{Answer, Call, Engine, Head, Kind, Placeholder, Pool};
-use crate::tally::Tally;
+use crate::session::{LINE_FEED, Session, SessionCall};
+use crate::session_bench::play as play_session;
+use crate::tally::{Subject, Tally};
 
 const VAST: usize = 1 << 32;
 const SHOWN: usize = 4_096;
@@ -21,11 +24,48 @@ pub fn run(tally: &mut Tally, kinds: &[Kind]) {
         if (kind.engine, BUFFERS[which]) != (Engine::Tree, "index") {
             // SAFETY: the mapping is longer, and nothing else uses it.
             let shown = unsafe { std::slice::from_raw_parts_mut(vast as *mut u32, SHOWN) };
-            tally.kind = kind;
+            tally.subject = Subject::Pool(kind);
             one_vast(tally, kind, which, shown);
         }
     }
     copy_vast(tally, vast as *mut u32);
+    tally.subject = Subject::Sessions;
+    state_vast(tally, vast);
+    burst_vast(tally, vast);
+}
+
+/// A vast buffer that begins with a session's state: 8, and nothing changes.
+fn state_vast(tally: &mut Tally, vast: *mut u8) {
+    let before = Session::started().stored();
+    // SAFETY: the mapping is longer, and nothing else uses it.
+    let shown = unsafe { std::slice::from_raw_parts_mut(vast, before.len()) };
+    shown.copy_from_slice(&before);
+    let (mut few, answers) = ([LINE_FEED; 8], vec![]);
+    let [state, bytes, room] = [(vast, VAST + before.len()), (few.as_mut_ptr(), 4), (few[4..].as_mut_ptr(), 4)]
+        .map(|(at, len)| Lies { at, len });
+    let burst = SessionCall::Burst { bytes: vec![], answers: answers.clone() };
+    for call in [SessionCall::Start, burst, SessionCall::End { answers }] {
+        let got = play_session(state, bytes, room, &call);
+        check(tally, format!("{call:?} on a vast state: {got:?}"), got == Burst { number: 8, taken: 0, written: 0 });
+    }
+    check(tally, "bytes of a vast state".to_string(), *shown == before && few == [LINE_FEED; 8]);
+}
+
+/// An empty first line in a vast burst, without room; then alone, with vast room.
+fn burst_vast(tally: &mut Tally, vast: *mut u8) {
+    let mut state = Session::started().stored();
+    let (mut few, call) = ([LINE_FEED; 2], SessionCall::Burst { bytes: vec![], answers: vec![] });
+    // SAFETY: the mapping is longer, and nothing else uses it.
+    let shown = unsafe { std::slice::from_raw_parts_mut(vast, 8) };
+    shown.fill(LINE_FEED);
+    let whole = Lies { at: state.as_mut_ptr(), len: state.len() };
+    let (one, none) = (Lies { at: few.as_mut_ptr(), len: 1 }, Lies { at: few[1..].as_mut_ptr(), len: 0 });
+    let much = Lies { at: vast, len: VAST };
+    let got = play_session(whole, much, none, &call);
+    check(tally, format!("vast burst, no room: {got:?}"), got == Burst { number: 10, taken: 0, written: 0 });
+    let got = play_session(whole, one, much, &call);
+    check(tally, format!("vast room: {got:?}"), got == Burst { number: 0, taken: 1, written: 4 });
+    check(tally, "answers in vast room".to_string(), shown == b"N\t9\n\n\n\n\n" && few == [LINE_FEED; 2]);
 }
 
 /// An old or a new table of vast length.
@@ -114,6 +154,6 @@ fn due(pool: &Pool, view: &View, call: &Call, vast: &str) -> Played {
 fn check(tally: &mut Tally, told: String, holds: bool) {
     tally.plain_case("vast lengths");
     if !holds {
-        tally.mismatch("vast lengths", 0, format!("  {:?}, {told}", tally.kind));
+        tally.mismatch("vast lengths", 0, format!("  {:?}, {told}", tally.subject));
     }
 }

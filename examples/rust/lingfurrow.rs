@@ -1,4 +1,4 @@
-//! Safe calls of both pools, over the archive that include/lingfurrow.h describes. A slice has what the header asks of
+//! Safe calls of both pools and of the text program, over the archive that include/lingfurrow.h describes. A slice has what the header asks of
 //! a pointer and its length, and `&mut` that nobody else reads or writes: so no call here needs a promise of its
 //! caller.
 //!
@@ -137,6 +137,14 @@ struct SegmentAllocation {
     places: u32,
 }
 
+/// `lf_burst`
+#[repr(C)]
+struct BurstOutcome {
+    number: u32,
+    taken: usize,
+    written: usize,
+}
+
 #[rustfmt::skip]
 extern "C" {
     fn lf_tree_format(form: u32, arena: *mut u32, arena_len: usize, table: *mut u32, table_len: usize,
@@ -170,6 +178,11 @@ extern "C" {
         answers: *mut u32, answers_len: usize) -> SegmentOutcome;
 
     fn lf_copy_table(old: *const u32, old_len: usize, new_table: *mut u32, new_len: usize) -> u32;
+
+    fn lf_session_start(state: *mut u8, state_len: usize) -> u32;
+    fn lf_session_burst(state: *mut u8, state_len: usize, bytes: *const u8, bytes_len: usize, answers: *mut u8,
+        answers_len: usize) -> BurstOutcome;
+    fn lf_session_end(state: *mut u8, state_len: usize, answers: *mut u8, answers_len: usize) -> BurstOutcome;
 }
 
 // Every unsafe block below passes the pointers and lengths of slices that are borrowed for the call, `&mut` where the
@@ -384,5 +397,68 @@ impl Pool for SegmentPool<'_> {
     fn words_of(&mut self, party: u32, run: Run) -> Result<&mut [i32], Refusal> {
         self.find(party, run)?;
         Ok(&mut self.arena[run.range()])
+    }
+}
+
+// ---- the text program
+
+/// The bytes of a session's memory.
+pub const STATE_BYTES: usize = 36_956;
+
+/// The longest answer line.
+pub const ANSWER_BYTES: usize = 35;
+
+/// What a session made of a burst.
+#[derive(Clone, Copy, Debug, PartialEq, Eq)]
+pub struct Burst {
+    /// The bytes that were taken, from the first on; the others are to be handed over again.
+    pub taken: usize,
+    /// The bytes of the answer buffer that are answers.
+    pub written: usize,
+    /// The next answer had no room.
+    pub more_room: bool,
+}
+
+impl BurstOutcome {
+    fn result(self) -> Result<Burst, Refusal> {
+        let BurstOutcome { number, taken, written } = self;
+        match number {
+            0 | 10 => Ok(Burst { taken, written, more_room: number == 10 }),
+            number => Err(Refusal(number)),
+        }
+    }
+}
+
+/// The text program in borrowed memory, its requests in bursts that break anywhere.
+pub struct Session<'a> {
+    state: &'a mut [u8],
+}
+
+impl<'a> Session<'a> {
+    /// The program before its P line. `state` has `STATE_BYTES` bytes, and what they hold does not matter.
+    pub fn start(state: &'a mut [u8]) -> Result<Self, Refusal> {
+        match unsafe { lf_session_start(state.as_mut_ptr(), state.len()) } {
+            0 => Ok(Session { state }),
+            number => Err(Refusal(number)),
+        }
+    }
+
+    /// The session that lies in the memory. If that is none, its calls refuse.
+    pub fn resume(state: &'a mut [u8]) -> Self {
+        Session { state }
+    }
+
+    /// Takes a burst as far as its answers have room. With room of `ANSWER_BYTES` a burst that is not empty is never
+    /// left whole.
+    pub fn burst(&mut self, bytes: &[u8], answers: &mut [u8]) -> Result<Burst, Refusal> {
+        let (state, room) = (self.state.as_mut_ptr(), answers.as_mut_ptr());
+        let (state_len, room_len) = (self.state.len(), answers.len());
+        unsafe { lf_session_burst(state, state_len, bytes.as_ptr(), bytes.len(), room, room_len) }.result()
+    }
+
+    /// Serves a last line that has no line feed. Without room for its answer nothing changes.
+    pub fn end(&mut self, answers: &mut [u8]) -> Result<Burst, Refusal> {
+        let (room, room_len) = (answers.as_mut_ptr(), answers.len());
+        unsafe { lf_session_end(self.state.as_mut_ptr(), self.state.len(), room, room_len) }.result()
     }
 }

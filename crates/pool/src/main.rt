@@ -3,5 +3,5 @@ use libc::STDIN_FILENO;
 use libc::STDOUT_FILENO;
 
 fn main() {
-    text_session::run(STDIN_FILENO, STDOUT_FILENO, 512);
+    text_session::run(STDIN_FILENO, STDOUT_FILENO, 65536);
 }

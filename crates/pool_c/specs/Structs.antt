@@ -6,14 +6,16 @@ use Rattle.tree_requests.specs.declared.Outcome as tree
 use Rattle.segment_check.specs.declared.Head as segment-head
 use Rattle.segment_requests.specs.declared.Outcome as segment
 use Rattle.segment_requests.specs.declared.Allocation as segment-allocation
+use Rattle.pool_bursts.specs.declared.Counts as bursts
 use Rattle.pool_c.specs.declared.TreeHead.{TreeHead}
 use Rattle.pool_c.specs.declared.Answer.{Answer}
 use Rattle.pool_c.specs.declared.TreeOutcome.{TreeOutcome}
 use Rattle.pool_c.specs.declared.SegmentOutcome.{SegmentOutcome}
 use Rattle.pool_c.specs.declared.SegmentAllocation.{SegmentAllocation}
+use Rattle.pool_c.specs.declared.Burst.{Burst}
 
 abbrev pub headOf : TreeHead → tree-head.Head
-headOf h = record { root = h .root; next = h .next; form = h .form }
+headOf h = record { root = h .first .root; next = h .first .next; form = h .form }
 
 -- the head of the segment pool is one number, and crosses as that
 abbrev pub segmentHead : ℕ → segment-head.Head
@@ -39,3 +41,6 @@ segmentAllocation r = record {
   answer = answerOf (r .answer);
   places = r .places;
 }
+
+abbrev pub countsOf : Burst → bursts.Counts
+countsOf r = record { number = r .number; taken = r .taken; written = r .written }

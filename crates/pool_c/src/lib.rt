@@ -1,6 +1,7 @@
-// The calls of both pools for C, as include/lingfurrow.h declares them. Each makes one call of its pool, and its promise
-// is the pool's: an equation with the machine's step on all inputs.
+// The calls of both pools and of the text program for C, as include/lingfurrow.h declares them. Each makes one call of
+// its pool, and its promise is the pool's: an equation with the machine's step on all inputs.
 use ledger::Row;
+use pool_bursts::Counts;
 ghost use mathlib.Core.Path.{_≡_};
 ghost use mathlib.Core.List.{[], _∷_};
 ghost use Rattle.ledger.specs.Records.{row};
@@ -12,14 +13,22 @@ ghost use Rattle.tree_check.specs.Gate.{treePool, noHead};
 ghost use Rattle.segment_check.specs.Gate.{segmentPool};
 ghost use Rattle.tree_requests.specs.Outcomes as tree;
 ghost use Rattle.segment_requests.specs.Outcomes as segment;
+ghost use Rattle.session.specs.Calls.{startCall, burstCall, endCall};
+ghost use Rattle.pool_bursts.specs.Calls.{replied, started};
 ghost use Rattle.pool_c.specs.Structs.{headOf, segmentHead, answerOf, treeOutcome, segmentOutcome, segmentAllocation};
+ghost use Rattle.pool_c.specs.Structs.{countsOf};
 
-// lf_tree_head
+// lf_tree_head. Root and next ticket are written at once, since a caller in C copies them so.
 #[repr(C)]
 pub struct TreeHead {
+    pub first: First,
+    pub form: u32,
+}
+
+#[repr(C)]
+pub struct First {
     pub root: u32,
     pub next: u32,
-    pub form: u32,
 }
 
 // lf_answer, in two halves: a caller in C reads eight bytes of it at a time, and finds them soonest if they were
@@ -64,6 +73,14 @@ pub struct SegmentAllocation {
     pub places: u32,
 }
 
+// lf_burst
+#[repr(C)]
+pub struct Burst {
+    pub number: u32,
+    pub taken: usize,
+    pub written: usize,
+}
+
 // ---- from the pools' structs to those of C
 
 // Both halves are passed, which is what makes the compiler write each at once.
@@ -87,16 +104,23 @@ fn c_answer(answer: calls::Answer) -> Answer
     both(told, place)
 }
 
+// So for the head.
+fn with_form(first: First, form: u32) -> TreeHead
+    ensures { λ r. ⌜ (r .first ≡ first) × (r .form ≡ form) ⌝ }
+{
+    TreeHead { first, form }
+}
+
 fn c_tree_outcome(done: tree_requests::Outcome) -> TreeOutcome
     ensures { λ r. ⌜ treeOutcome r ≡ done ⌝ }
 {
     let after = done.head;
+    let first = First {
+        root: after.root,
+        next: after.next,
+    };
     TreeOutcome {
-        head: TreeHead {
-            root: after.root,
-            next: after.next,
-            form: after.form,
-        },
+        head: with_form(first, after.form),
         answer: c_answer(done.answer),
     }
 }
@@ -151,8 +175,8 @@ pub extern "C" fn lf_tree_allocate(
         (treePool (headOf head) (now (arena .entry)) (now (table .entry)))) ⌝ }
 {
     let pool = tree_check::Head {
-        root: head.root,
-        next: head.next,
+        root: head.first.root,
+        next: head.first.next,
         form: head.form,
     };
     let done = tree_pool::allocate(pool, arena, table, party, words);
@@ -174,8 +198,8 @@ pub extern "C" fn lf_tree_release(
         (treePool (headOf head) (now (arena .entry)) (now (table .entry)))) ⌝ }
 {
     let pool = tree_check::Head {
-        root: head.root,
-        next: head.next,
+        root: head.first.root,
+        next: head.first.next,
         form: head.form,
     };
     let named = Row {
@@ -204,8 +228,8 @@ pub extern "C" fn lf_tree_trim(
         (treePool (headOf head) (now (arena .entry)) (now (table .entry)))) ⌝ }
 {
     let pool = tree_check::Head {
-        root: head.root,
-        next: head.next,
+        root: head.first.root,
+        next: head.first.next,
         form: head.form,
     };
     let named = Row {
@@ -233,8 +257,8 @@ pub extern "C" fn lf_tree_find(
         (treePool (headOf head) (now (arena .entry)) (now (table .entry))) .answer ⌝ }
 {
     let pool = tree_check::Head {
-        root: head.root,
-        next: head.next,
+        root: head.first.root,
+        next: head.first.next,
         form: head.form,
     };
     let named = Row {
@@ -261,8 +285,8 @@ pub extern "C" fn lf_tree_list(
         (treePool (headOf head) (now (arena .entry)) (now (table .entry)))) ⌝ }
 {
     let pool = tree_check::Head {
-        root: head.root,
-        next: head.next,
+        root: head.first.root,
+        next: head.first.next,
         form: head.form,
     };
     let done = tree_pool::list(pool, arena, table, party, requests, answers);
@@ -434,4 +458,41 @@ pub extern "C" fn lf_copy_table(old: &[u32], table: &mut [u32]) -> u32
     ensures { λ r. ⌜ (r, now (table .exit)) ≡ copyOf (now (old .entry)) (now (table .entry)) ⌝ }
 {
     old_tables::copy_table(old, table)
+}
+
+// ---- the text program in bursts
+
+fn c_burst(c: Counts) -> Burst
+    ensures { λ r. ⌜ countsOf r ≡ c ⌝ }
+{
+    Burst {
+        number: c.number,
+        taken: c.taken,
+        written: c.written,
+    }
+}
+
+#[no_mangle]
+pub extern "C" fn lf_session_start(state: &mut [u8]) -> u32
+    ensures { λ r. ⌜ started r (now (state .exit)) ≡ startCall (now (state .entry)) ⌝ }
+{
+    pool_bursts::start(state)
+}
+
+#[no_mangle]
+pub extern "C" fn lf_session_burst(state: &mut [u8], bytes: &[u8], answers: &mut [u8]) -> Burst
+    ensures { λ r. ⌜ replied (countsOf r) (now (state .exit)) (now (answers .exit))
+        ≡ burstCall (now (state .entry)) (now (bytes .entry)) (now (answers .entry)) ⌝ }
+{
+    let done = pool_bursts::burst(state, bytes, answers);
+    c_burst(done)
+}
+
+#[no_mangle]
+pub extern "C" fn lf_session_end(state: &mut [u8], answers: &mut [u8]) -> Burst
+    ensures { λ r. ⌜ replied (countsOf r) (now (state .exit)) (now (answers .exit))
+        ≡ endCall (now (state .entry)) (now (answers .entry)) ⌝ }
+{
+    let done = pool_bursts::end(state, answers);
+    c_burst(done)
 }

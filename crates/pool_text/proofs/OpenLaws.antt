@@ -28,8 +28,8 @@ use Rattle.call_parts.specs.Results.{Result, resultOf}
 use Rattle.tree_requests.specs.Outcomes.{inForm, formatted}
 use Rattle.tree_pool.proofs.FormatLaws.{blank-owned}
 use Rattle.text.specs.Fields.{lineOf}
-use Rattle.pool_text.specs.Meaning.{serving, stopped, served, textForm, fresh, opening, opened, refusalLine}
-use Rattle.pool_text.specs.Meaning.{mostTextWords}
+use Rattle.session.specs.Meaning.{serving, stopped, served, textForm, fresh, opening, opened, refusalLine}
+use Rattle.session.specs.Meaning.{mostTextWords}
 
 abbrev zeroWords : ℕ → Words
 zeroWords n = replicate n 0

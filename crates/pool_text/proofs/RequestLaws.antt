@@ -10,9 +10,9 @@ use Rattle.text.specs.declared.Quad.{Quad}
 use Rattle.text.specs.Numbers.{Bytes, valueOf}
 use Rattle.text.specs.Fields.{pairOf, tripleOf, quadOf}
 use Rattle.text.proofs.FieldLaws.{part-rest}
-use Rattle.pool_text.specs.declared.Request.{Request}
-use Rattle.pool_text.specs.declared.Request.the-variants as request
-use Rattle.pool_text.specs.Meaning.{begins, badFirst, twoNumbers, firstLine, requestOf, askOf, giveOf, cutOf}
+use Rattle.session.specs.declared.LineRequest.{LineRequest}
+use Rattle.session.specs.declared.LineRequest.the-variants as request
+use Rattle.session.specs.Meaning.{begins, badFirst, twoNumbers, firstLine, requestOf, askOf, giveOf, cutOf}
 
 -- there is something after the tab to slice
 pub begins-long : (s : Bytes) (letter : ℕ) → begins s letter ≡ true → 2 ≤ length s
@@ -31,16 +31,16 @@ module _ (s : Bytes) where
   unfolding firstLine
   first-bad b = rw b
 
-  pub ask-line : (n : Number) (r : Request) → begins s 65 ≡ true → n ≡ valueOf rest → r ≡ askOf n → r ≡ requestOf s
+  pub ask-line : (n : Number) (r : LineRequest) → begins s 65 ≡ true → n ≡ valueOf rest → r ≡ askOf n → r ≡ requestOf s
   unfolding requestOf
   ask-line n r b e z = rw b (z ∙ ap askOf (e ∙ ap valueOf (part-rest 2 s)))
 
-  pub give-line : (t : Triple) (r : Request) → begins s 65 ≡ false → begins s 82 ≡ true → t ≡ tripleOf rest
+  pub give-line : (t : Triple) (r : LineRequest) → begins s 65 ≡ false → begins s 82 ≡ true → t ≡ tripleOf rest
       → r ≡ giveOf t → r ≡ requestOf s
   unfolding requestOf
   give-line t r a b e z = rw (a, b) (z ∙ ap giveOf (e ∙ ap tripleOf (part-rest 2 s)))
 
-  pub cut-line : (q : Quad) (r : Request) → begins s 65 ≡ false → begins s 82 ≡ false → begins s 84 ≡ true
+  pub cut-line : (q : Quad) (r : LineRequest) → begins s 65 ≡ false → begins s 82 ≡ false → begins s 84 ≡ true
       → q ≡ quadOf rest → r ≡ cutOf q → r ≡ requestOf s
   unfolding requestOf
   cut-line q r a b t e z = rw (a, b, t) (z ∙ ap cutOf (e ∙ ap quadOf (part-rest 2 s)))

@@ -1,3 +1,2 @@
--- The text program: what its lines ask, and what its bytes are answered.
-pub mod Meaning
+-- A session of the text program in lent memory.
 pub mod Session

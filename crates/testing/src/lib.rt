@@ -281,14 +281,14 @@ pub struct Draw {
 
 // ---- random calls
 
-fn stirred(seed: u64) -> u64
+pub fn stirred(seed: u64) -> u64
     ensures { λ r. ⌜ r < 2147483648 ⌝ }
 {
     ((seed % 2147483648) * 1103515245 + 12345) % 2147483648
 }
 
 // A number below n, or 0 where n is 0.
-fn pick(seed: u64, n: u64) -> u32 {
+pub fn pick(seed: u64, n: u64) -> u32 {
     if n == 0 {
         return 0;
     }

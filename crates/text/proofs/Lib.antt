@@ -5,3 +5,5 @@ pub mod RoundTrip
 pub mod FieldLaws
 pub mod LineLaws
 pub mod CutLaw
+pub mod RoomLaws
+pub mod WholeLines

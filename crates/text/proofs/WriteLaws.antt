@@ -50,6 +50,16 @@ module _ (ns : List ℕ) (i : ℕ) (h : i < length ns) where
 pub fields-end : (ns : List ℕ) (i : ℕ) → length ns ≤ i → fieldsOf (drop i ns) ≡ []
 fields-end ns i h = rw (drop-of-length-le ns h)
 
+-- a step of the loop that writes bytes
+pub byte-step : (bs : Bytes) (i : ℕ) → i < length bs → (l : Bytes) (at : ℕ)
+    → sets (set l (at + i) (getD bs i 0)) (at + (i + 1)) (drop (i + 1) bs) ≡ sets l (at + i) (drop i bs)
+byte-step bs i h l at =
+    let e : at + (i + 1) ≡ suc (at + i) = omega arith in
+    rw (e, add-one, drop-cons bs i 0 h)
+
+pub bytes-end : (bs : Bytes) (i : ℕ) → length bs ≤ i → drop i bs ≡ []
+bytes-end bs i h = drop-of-length-le bs h
+
 pub line-long : (letter : ℕ) (ns : List ℕ) → length (lineOf letter ns) ≡ length (fieldsOf ns) + 2
 unfolding lineOf
 line-long letter ns = omega (arith, length-append (fieldsOf ns) (10 ∷ []))

@@ -42,22 +42,38 @@ module _ {S : Type 0} (serve : S → Bytes → Served S) where
   finish s [] = record { state = s; said = [] }
   finish s (b ∷ bs) = serve s (b ∷ bs)
 
-  -- all that the bytes are answered
-  abbrev pub answered : S → Bytes → Bytes
-  answered s bs = let f = feed s [] bs in f .said ++ finish (f .state) (f .kept) .said
+  -- what was fed, and the end
+  abbrev pub ended : Fed S → Served S
+  ended f =
+      let e = finish (f .state) (f .kept) in
+      record { state = e .state; said = f .said ++ e .said }
 
--- what pieces are together
-abbrev pub joined : List Bytes → Bytes
-joined [] = []
-joined (c ∷ cs) = c ++ joined cs
+-- ---- whole lines
+
+-- "a last line without one counts if not empty"
+abbrev pub lastLine : Bytes → List Bytes
+lastLine [] = []
+lastLine (b ∷ bs) = (b ∷ bs) ∷ []
+
+-- the lines of the bytes, after the bytes u of an unfinished one
+abbrev pub linesFrom : Bytes → Bytes → List Bytes
+linesFrom u [] = lastLine u
+linesFrom u (b ∷ bs) = cond (eqb b 10) (u ∷ linesFrom [] bs) (linesFrom (u ++ b ∷ []) bs)
+
+-- "lines ended by a line feed"
+abbrev pub linesOf : Bytes → List Bytes
+linesOf bs = linesFrom [] bs
 
 module _ {S : Type 0} (serve : S → Bytes → Served S) where
-  -- the pieces one after another, after a state and an unfinished line
-  abbrev pub feedAll : S → Bytes → List Bytes → Fed S
-  feedAll s k [] = record { state = s; kept = k; said = [] }
-  feedAll s k (c ∷ cs) =
-      let f = feed serve s k c in
-      also (f .said) (feedAll (f .state) (f .kept) cs)
+  -- the lines one after another
+  abbrev pub serveAll : S → List Bytes → Served S
+  serveAll s [] = record { state = s; said = [] }
+  serveAll s (l ∷ ls) =
+      let r = serve s l in
+      let rest = serveAll (r .state) ls in
+      record { state = rest .state; said = r .said ++ rest .said }
+
+-- ---- one line
 
 -- a line as far as its line feed, or as far as there are bytes, and the bytes from there on
 pub record Run : Type 0 where

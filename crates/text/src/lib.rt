@@ -243,12 +243,26 @@ pub fn put_line(out: &mut [u8], at: usize, letter: u8, ns: &[u32]) -> usize
     put_byte(out, b, 10)
 }
 
+// Bytes as they are.
+pub fn put_bytes(out: &mut [u8], at: usize, bs: &[u8]) -> usize
+    requires { ⌜ at + length (now bs) ≤ length (now out) ⌝ }
+    ensures { λ r. ⌜ Wrote (now (out .entry)) (now (out .exit)) at r (now (bs .entry)) ⌝ }
+{
+    let mut i = 0;
+    while i < bs.len() {
+        out[at + i] = bs[i];
+        i += 1;
+    }
+    at + i
+}
+
 // ---- lines that are read
 
 // One byte more of an unfinished line of `kept` bytes: how many there are then.
 fn keep_byte(line: &mut [u8], kept: usize, b: u8) -> usize
     requires { ⌜ (length (now line) ≡ 65) × (kept ≤ 65) ⌝ }
-    ensures { λ r. ⌜ (r ≤ 65) × (take r (now (line .exit)) ≡ keep (take kept (now (line .entry))) b) ⌝ }
+    ensures { λ r. ⌜ (r ≤ 65) × (kept ≤ r) × (take r (now (line .exit)) ≡ keep (take kept (now (line .entry))) b)
+        × (take kept (now (line .exit)) ≡ take kept (now (line .entry))) ⌝ }
 {
     if 64 < kept {
         return kept;
@@ -263,10 +277,11 @@ pub struct Kept {
     pub at: usize,
 }
 
-// Keeps the bytes of the chunk from `from` on, as far as the first line feed.
+// Keeps the bytes of the chunk from `from` on, as far as the first line feed. The bytes kept before stay.
 pub fn keep_run(line: &mut [u8], kept: usize, chunk: &[u8], from: usize) -> Kept
     requires { ⌜ (length (now line) ≡ 65) × (kept ≤ 65) × (from ≤ length (now chunk)) ⌝ }
-    ensures { λ r. ⌜ (r .kept ≤ 65) × (from ≤ r .at) × (r .at ≤ length (now (chunk .entry))) ⌝ }
+    ensures { λ r. ⌜ (r .kept ≤ 65) × (from ≤ r .at) × (r .at ≤ length (now (chunk .entry)))
+        × (take kept (now (line .exit)) ≡ take kept (now (line .entry))) ⌝ }
     ensures { λ r. ⌜ record { kept = take (r .kept) (now (line .exit)); rest = drop (r .at) (now (chunk .entry)) }
         ≡ run (take kept (now (line .entry))) (drop from (now (chunk .entry))) ⌝ }
 {

@@ -1,2 +1,2 @@
--- What the session keeps from read to read.
-pub mod Between
+-- What a read does to the session that it is handed to.
+pub mod Handing

@@ -1,43 +1,36 @@
-// The text program between two file descriptors: it reads large chunks, serves them, and writes large pieces.
-use pool_text::Stage;
-use pool_text::Turn;
+// The text program between two file descriptors: it reads, hands over what was read as bursts, writes the answers, and
+// reads again. What a burst does is pool_bursts' promise. Of what is read and written no contract can speak.
+use libc::STDERR_FILENO;
 ghost use mathlib.Core.Path.{_≡_};
-ghost use Prim.Native.Nat.{_+_, _≤_, _<_};
-ghost use lib.ListN.{length};
-ghost use Rattle.text_session.specs.Between.{Between};
+ghost use mathlib.Core.Bool.{true};
+ghost use Prim.Native.Nat.{_≤_, _<_};
+ghost use lib.Dec.{eqb};
+ghost use lib.ListN.{length, drop, getD};
+ghost use Rattle.session.specs.Bursts.{mostAnswer};
+ghost use Rattle.session.specs.Calls.{endCall};
+ghost use Rattle.text_session.specs.Handing.{Ready, after};
 
-// Writes the answers before place `at`: whether they could be written.
-fn write_out(fd: i32, out: &[u8], at: usize) -> bool
-    requires { ⌜ at ≤ length (now out) ⌝ }
+// Tells on standard error what went wrong.
+fn complain(words: &[u8]) {
+    io::write_all(STDERR_FILENO, words);
+}
+
+// Writes the first n answer bytes: whether they could be written.
+fn write_out(fd: i32, answers: &[u8], n: usize) -> bool
+    requires { ⌜ n ≤ length (now answers) ⌝ }
 {
     let start = 0;
-    io::write_all(fd, &out[start..at])
-}
-
-// The place to go on at, and whether all answers before could be written.
-struct Room {
-    at: usize,
-    fine: bool,
-}
-
-// Makes room for the answers to 512 bytes, 35 for each.
-fn make_room(fd: i32, out: &[u8], at: usize) -> Room
-    requires { ⌜ at ≤ length (now out) ⌝ }
-    ensures { λ r. ⌜ r .at ≤ 47616 ⌝ }
-{
-    if at <= 47616 {
-        return Room { at, fine: true };
+    if io::write_all(fd, &answers[start..n]) {
+        return true;
     }
-    Room {
-        at: 0,
-        fine: write_out(fd, out, at),
-    }
+    complain(b"pool: the answers could not be written\n");
+    false
 }
 
 // The end of a piece of at most `piece` bytes.
 fn piece_end(from: usize, piece: usize, length: usize) -> usize
-    requires { ⌜ (from < length) × (0 < piece) × (piece ≤ 512) ⌝ }
-    ensures { λ r. ⌜ (from < r) × (r ≤ length) × (r ≤ from + 512) ⌝ }
+    requires { ⌜ (from < length) × (0 < piece) ⌝ }
+    ensures { λ r. ⌜ (from < r) × (r ≤ length) ⌝ }
 {
     if length - from <= piece {
         return length;
@@ -45,210 +38,137 @@ fn piece_end(from: usize, piece: usize, length: usize) -> usize
     from + piece
 }
 
-// Serves the next piece of what was read. Where answers can't be written any more, the session stops.
+// A place in what was read, and whether all answers before it could be written.
+struct Reached {
+    from: usize,
+    written: bool,
+}
+
+// Hands over the next piece of what was read, and writes its answers: the place after what was taken of it.
 fn serve_piece(
     fd: i32,
-    turn: Turn,
-    line: &mut [u8],
-    arena: &mut [u32],
-    table: &mut [u32],
-    chunk: &[u8],
+    state: &mut [u8],
+    bytes: &[u8],
+    from: usize,
     piece: usize,
-    out: &mut [u8],
-) -> Turn
-    requires { ⌜ Between turn (now line) (now arena) (now table) (now out) ⌝ }
-    requires { ⌜ (turn .from < length (now chunk)) × (0 < piece) × (piece ≤ 512) ⌝ }
-    ensures { λ r. ⌜ Between r (now (line .exit)) (now (arena .exit)) (now (table .exit)) (now (out .exit)) ⌝ }
-    ensures { λ r. ⌜ (turn .from < r .from) × (r .from ≤ length (now (chunk .entry))) ⌝ }
+    answers: &mut [u8],
+) -> Reached
+    requires { ⌜ Ready (now state) × (mostAnswer ≤ length (now answers)) ⌝ }
+    requires { ⌜ (from < length (now bytes)) × (0 < piece) ⌝ }
+    ensures { λ r. ⌜ Ready (now (state .exit)) × (from < r .from) × (r .from ≤ length (now (bytes .entry))) ⌝ }
+    ensures { λ r. ⌜ after (now (state .exit)) (drop (r .from) (now (bytes .entry)))
+        ≡ after (now (state .entry)) (drop from (now (bytes .entry))) ⌝ }
 {
-    let room = make_room(fd, out, turn.at);
-    if !room.fine {
-        return Turn {
-            stage: Stage::Stopped,
-            kept: 0,
-            at: 0,
-            from: chunk.len(),
-        };
-    }
-    let at = room.at;
-    let from = turn.from;
-    let end = piece_end(from, piece, chunk.len());
-    let stage = turn.stage;
-    let done = pool_text::serve_chunk(
-        stage,
-        turn.kept,
-        line,
-        arena,
-        table,
-        &chunk[from..end],
-        out,
-        at,
-    );
-    let after = done.stage;
-    Turn {
-        stage: after,
-        kept: done.kept,
-        at: done.at,
-        from: end,
+    let end = piece_end(from, piece, bytes.len());
+    let done = pool_bursts::burst(state, &bytes[from..end], answers);
+    Reached {
+        from: from + done.taken,
+        written: write_out(fd, &*answers, done.written),
     }
 }
 
-// Serves all that was read, in pieces of at most `piece` bytes.
-fn serve_read(
-    fd: i32,
-    turn: Turn,
-    line: &mut [u8],
-    arena: &mut [u32],
-    table: &mut [u32],
-    chunk: &[u8],
-    piece: usize,
-    out: &mut [u8],
-) -> Turn
-    requires { ⌜ Between turn (now line) (now arena) (now table) (now out) ⌝ }
-    requires { ⌜ (0 < piece) × (piece ≤ 512) ⌝ }
-    ensures { λ r. ⌜ Between r (now (line .exit)) (now (arena .exit)) (now (table .exit)) (now (out .exit)) ⌝ }
+// Hands over all that was read, in pieces of at most `piece` bytes, as long as answers can be written: whether they could.
+fn serve_read(fd: i32, state: &mut [u8], bytes: &[u8], piece: usize, answers: &mut [u8]) -> bool
+    requires { ⌜ Ready (now state) × (mostAnswer ≤ length (now answers)) × (0 < piece) ⌝ }
+    ensures { λ r. ⌜ Ready (now (state .exit)) ⌝ }
+    ensures { λ r. ⌜ (r ≡ true → now (state .exit) ≡ after (now (state .entry)) (now (bytes .entry))) ⌝ }
 {
-    let stage = turn.stage;
-    let mut now = Turn {
-        stage,
-        kept: turn.kept,
-        at: turn.at,
+    let mut place = Reached {
         from: 0,
+        written: true,
     };
-    while now.from < chunk.len() {
-        now = serve_piece(fd, now, line, arena, table, chunk, piece, out);
+    while place.written & (place.from < bytes.len()) {
+        place = serve_piece(fd, state, bytes, place.from, piece, answers);
     }
-    now
+    place.written
 }
 
-// Whether the program has stopped: then nothing more is read.
-fn has_stopped(stage: Stage) -> bool {
-    match stage {
-        Stage::Before => false,
-        Stage::Serving(_) => false,
-        Stage::Stopped => true,
-    }
+// Whether the program has stopped, by the low byte of the state's first word: then nothing more is read.
+fn has_stopped(state: &[u8]) -> bool
+    requires { ⌜ 0 < length (now state) ⌝ }
+    ensures { λ r. ⌜ r ≡ eqb (getD (now (state .entry)) 0 0) 3 ⌝ }
+{
+    state[0] == 3
 }
 
-// What one read came to: the session after it, and whether to read on.
-struct Read {
-    turn: Turn,
+// What one read came to: whether to read on, and whether nothing failed.
+struct AfterRead {
     more: bool,
+    fine: bool,
 }
 
-// One read, served. Where the input is a terminal, its answers are written at once.
+// One read, handed over: its answers are written before the next.
 fn read_once(
     input: i32,
     output: i32,
-    turn: Turn,
-    line: &mut [u8],
-    arena: &mut [u32],
-    table: &mut [u32],
+    state: &mut [u8],
     chunk: &mut [u8],
     piece: usize,
-    out: &mut [u8],
-) -> Read
-    requires { ⌜ Between turn (now line) (now arena) (now table) (now out) ⌝ }
-    requires { ⌜ (0 < piece) × (piece ≤ 512) ⌝ }
-    ensures { λ r. ⌜ Between (r .turn) (now (line .exit)) (now (arena .exit)) (now (table .exit)) (now (out .exit)) ⌝ }
+    answers: &mut [u8],
+) -> AfterRead
+    requires { ⌜ Ready (now state) × (mostAnswer ≤ length (now answers)) × (0 < piece) ⌝ }
+    ensures { λ r. ⌜ Ready (now (state .exit)) ⌝ }
 {
     let got = libc::read(input, chunk);
     let n = io::count(got, chunk);
-    if n == 0 {
-        return Read { turn, more: false };
+    if got < 0 {
+        complain(b"pool: the input could not be read\n");
+        return AfterRead {
+            more: false,
+            fine: false,
+        };
     }
     let start = 0;
-    let done = serve_read(
-        output,
-        turn,
-        line,
-        arena,
-        table,
-        &chunk[start..n],
-        piece,
-        out,
-    );
-    let stage = done.stage;
-    let more = !has_stopped(stage);
-    let kept = done.kept;
-    let mut at = done.at;
-    if libc::isatty(input) != 0 {
-        write_out(output, out, at);
-        at = 0;
-    }
-    Read {
-        turn: Turn {
-            stage,
-            kept,
-            at,
-            from: 0,
-        },
-        more,
+    let fine = serve_read(output, state, &chunk[start..n], piece, answers);
+    AfterRead {
+        more: fine & (n != 0) & !has_stopped(&*state),
+        fine,
     }
 }
 
-// The end of the input: a last line, and what is not written yet.
-fn finish(
-    output: i32,
-    turn: Turn,
-    line: &[u8],
-    arena: &mut [u32],
-    table: &mut [u32],
-    out: &mut [u8],
-)
-    requires { ⌜ Between turn (now line) (now arena) (now table) (now out) ⌝ }
+// The end of the input: a last line without a line feed counts if not empty. Whether its answer could be written.
+fn finish(output: i32, state: &mut [u8], answers: &mut [u8]) -> bool
+    requires { ⌜ Ready (now state) × (mostAnswer ≤ length (now answers)) ⌝ }
+    ensures { λ _. ⌜ now (state .exit) ≡ endCall (now (state .entry)) (now (answers .entry)) .state ⌝ }
 {
-    let room = make_room(output, out, turn.at);
-    let stage = turn.stage;
-    let done = pool_text::serve_end(stage, turn.kept, line, arena, table, out, room.at);
-    write_out(output, out, done.at);
+    let done = pool_bursts::end(state, answers);
+    write_out(output, &*answers, done.written)
 }
 
-// All reads of a session in lent memory.
+// All reads of a session, as long as nothing fails, and its end: whether nothing failed.
 fn converse(
     input: i32,
     output: i32,
-    line: &mut [u8],
-    arena: &mut [u32],
-    table: &mut [u32],
+    state: &mut [u8],
     chunk: &mut [u8],
     piece: usize,
-    out: &mut [u8],
-)
-    requires { ⌜ (length (now line) ≡ 65) × (length (now arena) ≡ 8192) × (length (now table) ≡ 1024)
-        × (length (now out) ≡ 65536) ⌝ }
-    requires { ⌜ (0 < piece) × (piece ≤ 512) ⌝ }
+    answers: &mut [u8],
+) -> bool
+    requires { ⌜ Ready (now state) × (mostAnswer ≤ length (now answers)) × (0 < piece) ⌝ }
 {
-    let mut turn = pool_text::start();
-    let mut more = true;
+    let mut last = AfterRead {
+        more: true,
+        fine: true,
+    };
     let mut reads = u64::MAX;
-    while more & (reads > 0) {
-        let read = read_once(input, output, turn, line, arena, table, chunk, piece, out);
-        let next = read.turn;
-        turn = next;
-        more = read.more;
+    while last.more & (reads > 0) {
+        last = read_once(input, output, state, chunk, piece, answers);
         reads -= 1;
     }
-    finish(output, turn, line, arena, table, out);
+    if !last.fine {
+        return false;
+    }
+    finish(output, state, answers)
 }
 
-// Serves all of the input, in pieces of at most `piece` bytes, which makes no difference to the answers.
-pub fn run(input: i32, output: i32, piece: usize)
-    requires { ⌜ (0 < piece) × (piece ≤ 512) ⌝ }
+// Serves all of the input, in pieces of at most `piece` bytes, which makes no difference to the answers. Whether nothing
+// failed.
+pub fn run(input: i32, output: i32, piece: usize) -> bool
+    requires { ⌜ 0 < piece ⌝ }
 {
-    let mut line = [0u8; 65];
-    let mut arena = [0u32; 8192];
-    let mut table = [0u32; 1024];
+    let mut state = [0u8; 36956];
     let mut chunk = io::large_buffer();
-    let mut out = io::large_buffer();
-    converse(
-        input,
-        output,
-        &mut line,
-        &mut arena,
-        &mut table,
-        &mut chunk,
-        piece,
-        &mut out,
-    );
+    let mut answers = io::large_buffer();
+    pool_bursts::start(&mut state);
+    converse(input, output, &mut state, &mut chunk, piece, &mut answers)
 }

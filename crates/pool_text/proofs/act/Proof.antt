@@ -13,8 +13,8 @@ use Rattle.tree_requests.specs.declared.Outcome.{Outcome}
 use Rattle.tree_check.specs.Gate.{treePool}
 use Rattle.tree_requests.specs.Outcomes.{handed, releaseOutcome}
 use Rattle.tree_requests.proofs.RefusedLaws.{refused-acted}
-use Rattle.pool_text.specs.declared.Request.{Request}
-use Rattle.pool_text.specs.Meaning.{actOf}
+use Rattle.session.specs.declared.LineRequest.{LineRequest}
+use Rattle.session.specs.Meaning.{actOf}
 use Rattle.pool_text.proofs.act.Statement.{statement}
 use Rattle.pool_text.proofs.act.Tie as tie
 
@@ -68,7 +68,7 @@ returns c =
     let s = m .before .before .before .before in
     let p = treePool (s .args .head) (now (s .args .arena)) (now (s .args .table)) in
     ap (λ (o : Outcome). handed o (g .grant .last .1 .0) (g .grant .last .1 .1 .0) []) (c .outcome-of-grant .ensures)
-    ∙ g .grant .ensures ∙ ap (λ (x : Request). acted treeEngine (actOf x) p) (sym (m .request .given .1))
+    ∙ g .grant .ensures ∙ ap (λ (x : LineRequest). acted treeEngine (actOf x) p) (sym (m .request .given .1))
 
 same-length-3 : tie.Need-same-length-3
 same-length-3 c = search needs
@@ -83,7 +83,7 @@ returns-2 c =
     let s = m .before .before .before .before in
     let p = treePool (s .args .head) (now (s .args .arena)) (now (s .args .table)) in
     ap (λ (o : Outcome). handed o (g .vacate .last .1 .0) (g .vacate .last .1 .1 .0) []) (c .outcome-of-release .ensures)
-    ∙ g .vacate .ensures ∙ ap (λ (x : Request). acted treeEngine (actOf x) p) (sym (m .request2 .given .1))
+    ∙ g .vacate .ensures ∙ ap (λ (x : LineRequest). acted treeEngine (actOf x) p) (sym (m .request2 .given .1))
 
 same-length-5 : tie.Need-same-length-5
 same-length-5 c = search needs
@@ -101,7 +101,7 @@ returns-3 c =
     ap (λ (o : Outcome). handed o (g .trim .last .1 .0) (g .trim .last .1 .1 .0) [])
     (c .outcome-of-release2 .ensures
     ∙ ap (λ (r : Row). releaseOutcome (s .args .head) r (g .trim .result)) (k .shortened .ensures))
-    ∙ g .trim .ensures ∙ ap (λ (x : Request). acted treeEngine (actOf x) p) (sym (m .request3 .given .1))
+    ∙ g .trim .ensures ∙ ap (λ (x : LineRequest). acted treeEngine (actOf x) p) (sym (m .request3 .given .1))
 
 returns-4 : tie.Need-returns-4
 returns-4 c =
@@ -110,7 +110,7 @@ returns-4 c =
     let t = now (s .args .table) in
     refused-acted (s .args .head) a t bad (c .refused-with .result) 9 (c .refused-with .ensures)
     (bad-refused treeEngine (treePool (s .args .head) a t))
-    ∙ ap (λ (x : Request). acted treeEngine (actOf x) (treePool (s .args .head) a t)) (sym (c .before .enum-told .given .1))
+    ∙ ap (λ (x : LineRequest). acted treeEngine (actOf x) (treePool (s .args .head) a t)) (sym (c .before .enum-told .given .1))
 
 pub act-spec : {M : Type 1} → statement M
 act-spec =

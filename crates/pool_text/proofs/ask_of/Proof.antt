@@ -1,7 +1,7 @@
 -- `pool_text::ask_of` meets its contract: the number asks, or is bad. Assumes nothing.
 use borrow.Author.Needs.{needs}
 use mathlib.Core.Path.{sym, ap}
-use Rattle.pool_text.specs.Meaning.{askOf}
+use Rattle.session.specs.Meaning.{askOf}
 use Rattle.pool_text.proofs.ask_of.Statement.{statement}
 use Rattle.pool_text.proofs.ask_of.Tie as tie
 

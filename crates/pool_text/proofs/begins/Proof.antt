@@ -2,7 +2,7 @@
 use native.Mathlib.Omega.{arith}
 use lib.ListN.{length}
 use Rattle.words.proofs.Tests.{of-le, of-gt}
-use Rattle.pool_text.specs.Meaning.{begins}
+use Rattle.session.specs.Meaning.{begins}
 use Rattle.pool_text.proofs.begins.Statement.{statement}
 use Rattle.pool_text.proofs.begins.Tie as tie
 

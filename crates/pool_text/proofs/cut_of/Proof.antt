@@ -1,7 +1,7 @@
 -- `pool_text::cut_of` meets its contract: the four name a record and the words to keep, or is bad. Assumes nothing.
 use borrow.Author.Needs.{needs}
 use mathlib.Core.Path.{sym, ap}
-use Rattle.pool_text.specs.Meaning.{cutOf}
+use Rattle.session.specs.Meaning.{cutOf}
 use Rattle.pool_text.proofs.cut_of.Statement.{statement}
 use Rattle.pool_text.proofs.cut_of.Tie as tie
 

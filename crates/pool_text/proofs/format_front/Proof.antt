@@ -6,7 +6,7 @@ use Rattle.calls.specs.Engines.{treeEngine}
 use Rattle.tree_check.specs.Gate.{treePool, noHead}
 use Rattle.call_parts.specs.Results.{resultOf}
 use Rattle.tree_requests.specs.Outcomes.{formatted}
-use Rattle.pool_text.specs.Meaning.{textForm}
+use Rattle.session.specs.Meaning.{textForm}
 use Rattle.pool_text.proofs.FrontLaws.{fronts}
 use Rattle.pool_text.proofs.format_front.Statement.{statement}
 use Rattle.pool_text.proofs.format_front.Tie as tie

@@ -1,7 +1,7 @@
 -- `pool_text::give_of` meets its contract: the triple names a record, or is bad. Assumes nothing.
 use borrow.Author.Needs.{needs}
 use mathlib.Core.Path.{sym, ap}
-use Rattle.pool_text.specs.Meaning.{giveOf}
+use Rattle.session.specs.Meaning.{giveOf}
 use Rattle.pool_text.proofs.give_of.Statement.{statement}
 use Rattle.pool_text.proofs.give_of.Tie as tie
 

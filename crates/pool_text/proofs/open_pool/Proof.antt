@@ -11,7 +11,7 @@ use mathlib.Core.Bool.{false, _||_}
 use Rattle.words.proofs.Tests.{or-l, or-r, not-lt}
 use Rattle.pool_text.specs.declared.Own.{Own}
 use Rattle.pool_text.specs.declared.Stage.the-variants.{Serving}
-use Rattle.pool_text.proofs.RoomLaws.{line-room}
+use Rattle.session.proofs.LineLaws.{line-room}
 use Rattle.pool_text.proofs.OpenLaws.{too-large, opens-not, opens, opens-sound}
 use Rattle.pool_text.proofs.StandLaws.{lent-own, became-as, became-stopped}
 use Rattle.pool_text.proofs.open_pool.Statement.{statement}
@@ -125,7 +125,7 @@ returns-3 c =
     let lb = d .kept .0 ∙ s .pre .0 in
     let lu = d .kept .1 .1 .0 ∙ s .pre .1 in
     became-as (sym e) (Serving o) b u (s .args .out .now) (p .put-line .last .0) (s .args .at) (p .put-line .result) (
-      lent-own o b u lb lu (omega (arith, few .0, lb)) (omega (arith, few .1, lu)) ok,
+      lent-own o b u (omega (arith, lb)) (omega (arith, lu)) (omega (arith, few .0, lb)) (omega (arith, few .1, lu)) ok,
       refl,
       p .put-line .ensures,
     )

@@ -1,7 +1,7 @@
 -- `pool_text::open_three` meets its contract: three numbers open a pool, other fields stop. Assumes nothing.
 use mathlib.Core.Path.{_∙_, sym, ap}
 use borrow.Author.Needs.{needs}
-use Rattle.pool_text.specs.Meaning.{threeNumbers}
+use Rattle.session.specs.Meaning.{threeNumbers}
 use Rattle.pool_text.proofs.StandLaws.{became-as, became-stopped}
 use Rattle.pool_text.proofs.open_three.Statement.{statement}
 use Rattle.pool_text.proofs.open_three.Tie as tie

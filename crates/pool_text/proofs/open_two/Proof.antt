@@ -3,7 +3,7 @@ use mathlib.Core.Path.{_∙_, sym, ap}
 use borrow.Author.Needs.{needs}
 use Rattle.text.specs.declared.Pair.{Pair}
 use Rattle.text.specs.Fields.{tripleOf}
-use Rattle.pool_text.specs.Meaning.{twoNumbers}
+use Rattle.session.specs.Meaning.{twoNumbers}
 use Rattle.pool_text.proofs.StandLaws.{became-as}
 use Rattle.pool_text.proofs.open_two.Statement.{statement}
 use Rattle.pool_text.proofs.open_two.Tie as tie

@@ -3,8 +3,8 @@ use native.Mathlib.Omega.{arith}
 use borrow.Author.Needs.{needs}
 use mathlib.Core.List.{[], _∷_}
 use Rattle.words.proofs.Tests.{eqb-ne}
-use Rattle.pool_text.specs.Meaning.{answerLine}
-use Rattle.pool_text.proofs.RoomLaws.{line-room}
+use Rattle.session.specs.Meaning.{answerLine}
+use Rattle.session.proofs.LineLaws.{line-room}
 use Rattle.pool_text.proofs.put_answer.Statement.{statement}
 use Rattle.pool_text.proofs.put_answer.Tie as tie
 

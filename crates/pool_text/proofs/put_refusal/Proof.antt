@@ -2,7 +2,7 @@
 use native.Mathlib.Omega.{arith}
 use borrow.Author.Needs.{needs}
 use mathlib.Core.List.{[], _∷_}
-use Rattle.pool_text.proofs.RoomLaws.{line-room}
+use Rattle.session.proofs.LineLaws.{line-room}
 use Rattle.pool_text.proofs.put_refusal.Statement.{statement}
 use Rattle.pool_text.proofs.put_refusal.Tie as tie
 

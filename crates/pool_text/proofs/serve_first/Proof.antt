@@ -6,7 +6,7 @@ use Prim.Native.Nat.{_≤_}
 use lib.ListN.{length}
 use borrow.Author.Needs.{needs}
 use borrow.Author.Tests.{not-true, not-false}
-use Rattle.pool_text.specs.Meaning.{begins}
+use Rattle.session.specs.Meaning.{begins}
 use Rattle.pool_text.proofs.RequestLaws.{begins-long, first-fields, first-bad}
 use Rattle.pool_text.proofs.StandLaws.{became-as, became-stopped}
 use Rattle.pool_text.proofs.serve_first.Statement.{statement}

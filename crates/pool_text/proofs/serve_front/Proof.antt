@@ -7,7 +7,7 @@ use Rattle.calls.specs.Engines.{treeEngine}
 use Rattle.call_parts.specs.Results.{acted}
 use Rattle.tree_check.specs.Gate.{treePool}
 use Rattle.tree_requests.specs.Outcomes.{handed}
-use Rattle.pool_text.specs.Meaning.{actOf}
+use Rattle.session.specs.Meaning.{actOf}
 use Rattle.pool_text.proofs.FrontLaws.{fronts}
 use Rattle.pool_text.proofs.serve_front.Statement.{statement}
 use Rattle.pool_text.proofs.serve_front.Tie as tie

@@ -26,6 +26,9 @@ slice-aggregate-run-case-2 c = search needs
 run-case-requires-2 : tie.Need-run-case-requires-2 Inv-loop μ-loop
 run-case-requires-2 c κs = search needs
 
+run-bursts-requires : tie.Need-run-bursts-requires Inv-loop μ-loop
+run-bursts-requires c κs = search needs
+
 add-n : tie.Need-add-n Inv-loop μ-loop
 add-n c = search needs
 
@@ -52,6 +55,7 @@ main-spec =
     run-case-requires
     slice-aggregate-run-case-2
     run-case-requires-2
+    run-bursts-requires
     add-n
     loop-less
     loop-again

@@ -1,68 +1,52 @@
--- `text_session::converse` meets its contract: between two reads all is as lent, and a count of reads falls. Assumes
--- nothing.
+-- `text_session::converse` meets its contract: a state stays one, and a count of reads falls. Assumes nothing.
 use native.Mathlib.Omega.{arith}
-use mathlib.Core.Path.{_≡_, _∙_, refl, sym, subst}
-use borrow.Author.Needs.{needs}
-use Prim.Native.Nat.{ℕ, _<_, _≤_}
+use Prim.Native.Nat.{ℕ, _<_}
+use mathlib.Core.Path.{_≡_, _∙_, refl}
 use mathlib.Core.Bool.{Bool, true, _&&_}
 use lib.Dec.{ltb}
 use lib.ListN.{length}
 use Rattle.words.proofs.Tests.{and-r, lt-of}
-use Rattle.pool_text.specs.declared.Turn.{Turn}
-use Rattle.text_session.specs.Between.{Between}
+use Rattle.text_session.specs.Handing.{Ready}
+use borrow.Author.Needs.{needs}
 use Rattle.text_session.proofs.converse.Statement.{statement}
 use Rattle.text_session.proofs.converse.Tie as tie
 
 abbrev Inv-loop : tie.InvT-loop
-Inv-loop input output line₀ arena₀ table₀ chunk₀ piece out₀ turn₀ more₀ reads₀ line arena table chunk out turn more n =
-    Between turn line arena table out × (0 < piece) × (piece ≤ 512) × (length chunk ≡ length chunk₀)
+Inv-loop input output state₀ chunk₀ piece answers₀ last₀ reads₀ state chunk answers last n =
+    Ready state × (length answers ≡ length answers₀) × (length chunk ≡ length chunk₀)
 
 abbrev μ-loop : tie.MeasureT-loop
-μ-loop input output line₀ arena₀ table₀ chunk₀ piece out₀ turn₀ more₀ reads₀ line arena table chunk out turn more n = n
+μ-loop input output state₀ chunk₀ piece answers₀ last₀ reads₀ state chunk answers last n = n
 
 reads-left : (more : Bool) (n : ℕ) → (more && ltb 0 n) ≡ true → 0 < n
 reads-left more n e = lt-of 0 n (and-r more (ltb 0 n) e)
 
-start-requires : tie.Need-start-requires Inv-loop μ-loop
-start-requires c κs = search needs
-
 loop-holds : tie.Need-loop-holds Inv-loop μ-loop
 loop-holds c =
-    let s = c .before .before .before .before .before .before in
-    let l = s .pre .0 in
-    let held : Turn → Type 0 =
-    λ (t : Turn). Between t (s .args .line .now) (s .args .arena .now) (s .args .table .now) (s .args .out .now) in (
-      subst held (sym (c .start .ensures)) ((l .1, l .2, refl), l .0, omega arith, l .3, omega arith),
-      s .pre .1 .0,
-      s .pre .1 .1,
-      refl,
-    )
+    let s = c .before .before .before in
+    (s .pre .0, refl, refl)
 
 read-once-requires : tie.Need-read-once-requires Inv-loop μ-loop
 read-once-requires c κs =
-    let inv = c .before .before .before .before .before .before .loop .inv in
-    (inv .0, (inv .1, inv .2))
+    let s = c .before .before .before .before .before .before .before .before .before in
+    let inv = c .before .before .before .before .before .loop .inv in
+    (inv .0, omega (arith, inv .1, s .pre .1), s .pre .2)
 
 sub-reads : tie.Need-sub-reads Inv-loop μ-loop
 sub-reads c =
-    let r = c .before .before .before .before .before .before .before .before .before .before .before in
-    let t = r .before .before .before .before .before .before in
-    reads-left (t .before .loop .more) (t .before .loop .reads) (t .loop-test .taken)
+    let l = c .before .before .before .before .before .before .before .before .before .before .before .before .loop in
+    reads-left (l .last .more) (l .reads) (c .before .before .before .before .before .before .before .before .before .before .if1 .taken)
 
 loop-less : tie.Need-loop-less Inv-loop μ-loop
 loop-less c =
-    let r = c .before .before .before .before .before .before .before .before .before .before .before in
-    let t = r .before .before .before .before .before .before in
-    omega (arith, reads-left (t .before .loop .more) (t .before .loop .reads) (t .loop-test .taken))
+    let l = c .before .before .before .before .before .before .before .before .before .before .before .before .loop in
+    omega (arith, reads-left (l .last .more) (l .reads) (c .before .before .before .before .before .before .before .before .before .before .if1 .taken))
 
 loop-again : tie.Need-loop-again Inv-loop μ-loop
 loop-again c =
-    let r = c .before .before .before .before .before .before .before .before .before .before .before in
-    let inv = r .before .before .before .before .before .before .before .loop .inv in
-    (r .read-once .ensures, inv .1, inv .2, r .read-once .kept .1 .1 .1 .1 .1 .1 .0 ∙ inv .3)
-
-finish-requires : tie.Need-finish-requires Inv-loop μ-loop
-finish-requires c κs = c .before .before .before .before .before .loop .inv .0
+    let r = c .before .before .before .before .before .before .read-once in
+    let inv = c .before .before .before .before .before .before .before .before .before .before .before .before .loop .inv in
+    (r .ensures, r .kept .1 .1 .1 .1 .1 .0 ∙ inv .1, r .kept .1 .1 .1 .0 ∙ inv .2)
 
 same-length : tie.Need-same-length Inv-loop μ-loop
 same-length c = search needs
@@ -73,14 +57,25 @@ same-length-2 c = search needs
 same-length-3 : tie.Need-same-length-3 Inv-loop μ-loop
 same-length-3 c = search needs
 
+returns : tie.Need-returns Inv-loop μ-loop
+returns c = search needs
+
+finish-requires : tie.Need-finish-requires Inv-loop μ-loop
+finish-requires c κs =
+    let inv = c .before .before .before .before .before .before .loop .inv in
+    (inv .0, omega (arith, inv .1, c .before .before .before .before .before .before .before .before .before .before .pre .1))
+
 same-length-4 : tie.Need-same-length-4 Inv-loop μ-loop
 same-length-4 c = search needs
 
 same-length-5 : tie.Need-same-length-5 Inv-loop μ-loop
 same-length-5 c = search needs
 
-returns : tie.Need-returns Inv-loop μ-loop
-returns c = tt
+same-length-6 : tie.Need-same-length-6 Inv-loop μ-loop
+same-length-6 c = search needs
+
+returns-2 : tie.Need-returns-2 Inv-loop μ-loop
+returns-2 c = search needs
 
 pub converse-spec : {M : Type 1} → statement M
 converse-spec =
@@ -88,16 +83,17 @@ converse-spec =
     (tie.spec
     Inv-loop
     μ-loop
-    start-requires
     loop-holds
     read-once-requires
     sub-reads
     loop-less
     loop-again
-    finish-requires
     same-length
     same-length-2
     same-length-3
+    returns
+    finish-requires
     same-length-4
     same-length-5
-    returns)
+    same-length-6
+    returns-2)

@@ -1,91 +1,116 @@
--- `text_session::serve_piece` meets its contract: a piece of at most 512 bytes has room for its answers. Assumes
--- nothing.
+-- `text_session::serve_piece` meets its contract: one burst, with room for the longest answer. Assumes nothing.
 use native.Mathlib.Omega.{arith}
-use mathlib.Core.Path.{refl, _∙_}
+use Prim.Native.Nat.{ℕ, _+_, _-_, _≤_, _<_}
+use mathlib.Core.Path.{_≡_, _∙_, sym, ap, ap₂, subst}
+use lib.ListN.{length, take, drop, length-take, length-drop}
+use Rattle.text.specs.Numbers.{Bytes}
+use Rattle.session.specs.Calls.{Reply, burstCall}
+use Rattle.text_session.specs.Handing.{Ready, after}
+use Rattle.text_session.proofs.HandingLaws.{ready-next, burst-fits, takes, takes-some, piece-on}
 use borrow.Author.Needs.{needs}
-use Prim.Native.Nat.{_-_}
-use lib.ListN.{drop, length-drop}
-use lib.Seq.{length-take-le}
 use Rattle.text_session.proofs.serve_piece.Statement.{statement}
 use Rattle.text_session.proofs.serve_piece.Tie as tie
 
-make-room-requires : tie.Need-make-room-requires
-make-room-requires c κs = search needs
+abbrev entry : tie.After-burst → tie.Start
+entry v = v .before .before .before .before .before .before .before .before
 
-same-length : tie.Need-same-length
-same-length c = search needs
+-- the piece, and its burst
+abbrev part : tie.After-burst → Bytes
+part v =
+    take (v .before .before .before .before .piece-end .result - entry v .args .from) (drop (entry v .args .from) (entry v .args .bytes .now))
 
-returns : tie.Need-returns
-returns c =
-    let s = c .before .before .before .before .before .before .before .before .before in
-    let g = s .pre .0 in (
-      ((g .0 .0, g .0 .1, refl), g .1, omega arith, g .3, omega arith),
-      (s .pre .1 .0, omega arith),
+abbrev call : tie.After-burst → Reply
+call v = burstCall (entry v .args .state .now) (part v) (entry v .args .answers .now)
+
+took : (v : tie.After-burst) → v .burst .result .taken ≡ call v .taken
+took v = ap (λ (r : Reply). r .taken) (v .burst .ensures)
+
+part-long : (v : tie.After-burst) → length (part v) ≡ v .before .before .before .before .piece-end .result - entry v .args .from
+part-long v =
+    let s = entry v in
+    let end = v .before .before .before .before .piece-end in
+    omega (
+      arith,
+      length-take (end .result - s .args .from) (drop (s .args .from) (s .args .bytes .now)),
+      length-drop (s .args .from) (s .args .bytes .now),
+      end .ensures .0,
+      end .ensures .1,
     )
+
+-- the place after what was taken
+placed : (v : tie.After-burst) → let s = entry v in
+    (s .args .from < s .args .from + v .burst .result .taken)
+    × (s .args .from + v .burst .result .taken ≤ length (s .args .bytes .now))
+placed v =
+    let s = entry v in
+    let st = s .args .state .now in
+    let out = s .args .answers .now in
+    let end = v .before .before .before .before .piece-end in
+    let some : 0 < length (part v) = omega (arith, part-long v, end .ensures .0) in
+    let on = takes-some st (s .pre .0 .0) (part v) out (s .pre .0 .1) some in
+    let few = takes st (s .pre .0 .0) (part v) out in
+    (omega (arith, took v, on), omega (arith, took v, few, part-long v, end .ensures .0, end .ensures .1))
 
 piece-end-requires : tie.Need-piece-end-requires
 piece-end-requires c κs = search needs
 
-sub-serve-chunk : tie.Need-sub-serve-chunk
-sub-serve-chunk c = search needs
+sub-burst : tie.Need-sub-burst
+sub-burst c = search needs
 
-part-serve-chunk-start : tie.Need-part-serve-chunk-start
-part-serve-chunk-start c = search needs
+part-burst-start : tie.Need-part-burst-start
+part-burst-start c = search needs
 
-part-serve-chunk-end : tie.Need-part-serve-chunk-end
-part-serve-chunk-end c = search needs
+part-burst-end : tie.Need-part-burst-end
+part-burst-end c = search needs
 
-serve-chunk-requires : tie.Need-serve-chunk-requires
-serve-chunk-requires c κs =
-    let e = c .before .before .before .before .before in
-    let m = e .before .before .before in
-    let s = m .before .before .before .before .before .before .before in
-    let g = s .pre .0 in
-    let from = s .args .turn .from in
-    let p = e .piece-end in
-    let chunk = s .args .chunk .now in
-    let there = length-drop from chunk in
-    let long = length-take-le (p .result - from) (drop from chunk) (omega (arith, p .ensures .1, there)) in
-    (g .0, (g .1, g .2, omega (arith, m .make-room .ensures, p .ensures .0, p .ensures .2, long, g .3)))
+burst-requires : tie.Need-burst-requires
+burst-requires c κs = search needs
+
+add-t9 : tie.Need-add-t9
+add-t9 c =
+    let v = c .before .before .before .before .before in
+    omega (arith, placed v .1)
+
+write-out-requires : tie.Need-write-out-requires
+write-out-requires c κs =
+    let v = c .before .before .before .before .before .before in
+    let s = entry v in
+    let wrote = ap (λ (r : Reply). r .written) (v .burst .ensures) in
+    omega (arith, wrote, burst-fits (s .args .state .now) (s .pre .0 .0) (part v) (s .args .answers .now), v .burst .kept .1 .1 .0)
+
+same-length : tie.Need-same-length
+same-length c = search needs
 
 same-length-2 : tie.Need-same-length-2
 same-length-2 c = search needs
 
-same-length-3 : tie.Need-same-length-3
-same-length-3 c = search needs
-
-same-length-4 : tie.Need-same-length-4
-same-length-4 c = search needs
-
-same-length-5 : tie.Need-same-length-5
-same-length-5 c = search needs
-
-returns-2 : tie.Need-returns-2
-returns-2 c =
-    let v = c .before .before .before .before .before .before .before .before in
-    let e = v .before .before .before .before .before .before in
-    let s = e .before .before .before .before .before .before .before .before .before .before in
-    let g = s .pre .0 in
-    let r = v .serve-chunk in
-    let long = r .kept .1 .1 .1 .1 .1 .1 .0 ∙ g .3 in (
-      (r .ensures .0 .0, r .kept .1 .1 .0 ∙ g .1, r .ensures .0 .1, long, omega (arith, r .ensures .0 .2, g .3)),
-      (e .piece-end .ensures .0, e .piece-end .ensures .1),
+returns : tie.Need-returns
+returns c =
+    let v = c .before .before .before .before .before .before .before in
+    let s = entry v in
+    let st = s .args .state .now in
+    let h = s .pre .0 .0 in
+    let bytes = s .args .bytes .now in
+    let out = s .args .answers .now in
+    let from = s .args .from in
+    let left = ap (λ (r : Reply). r .state) (v .burst .ensures) in
+    let end = v .before .before .before .before .piece-end in (
+      (subst Ready (sym left) (ready-next st h (part v) out), placed v .0, placed v .1),
+      ap₂ (λ (b : Bytes) (n : ℕ). after b (drop (from + n) bytes)) left (took v)
+          ∙ piece-on st h bytes out from (end .result) (omega (arith, end .ensures .0)),
     )
 
 pub serve-piece-spec : {M : Type 1} → statement M
 serve-piece-spec =
     tie.close
     (tie.spec
-    make-room-requires
-    same-length
-    returns
     piece-end-requires
-    sub-serve-chunk
-    part-serve-chunk-start
-    part-serve-chunk-end
-    serve-chunk-requires
+    sub-burst
+    part-burst-start
+    part-burst-end
+    burst-requires
+    add-t9
+    write-out-requires
+    same-length
     same-length-2
-    same-length-3
-    same-length-4
-    same-length-5
-    returns-2)
+    returns)

@@ -1,0 +1,2 @@
+-- Laws of bytes handed over.
+pub mod HandingLaws

@@ -1,0 +1,2 @@
+-- Words as little-endian bytes.
+pub mod Little

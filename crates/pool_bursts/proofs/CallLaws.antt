@@ -28,7 +28,7 @@ use Rattle.pool_text.specs.declared.Stage.the-variants.{Before, Serving, Stoppe
 use Rattle.pool_text.specs.Session.{Landed, landed, ownPool, standingOf, Lent}
 use Rattle.pool_text.proofs.StandLaws.{lent-own}
 use Rattle.pool_bursts.specs.declared.Fields.{Fields}
-use Rattle.pool_bursts.specs.Layout.{fieldsIn, isSized, isSmall, isClear, laid}
+use Rattle.pool_bursts.specs.Layout.{fieldsIn, isSized, isSmall, isClear, wellFormed}
 use Rattle.pool_bursts.specs.Inside.{Suits, stageIn, isPlaced}
 use Rattle.pool_bursts.proofs.LayoutLaws.{few-words, few-slots}
 use Rattle.pool_bursts.proofs.StateIs.{state-is}
@@ -97,17 +97,17 @@ lent-of (Serving o) a t la lt h f =
     (right-sound (ownPool o a t) f)
 lent-of Stopped a t la lt h f = (la, lt, refl)
 
-pub laid-sized : (b : Bytes) (f : Fields) → f ≡ fieldsIn b → laid b ≡ true → isSized f ≡ true
-unfolding laid
-laid-sized b f e h = ap isSized e ∙ and-l (isSized (fieldsIn b)) (isClear (fieldsIn b) b) h
+pub formed-sized : (b : Bytes) (f : Fields) → f ≡ fieldsIn b → wellFormed b ≡ true → isSized f ≡ true
+unfolding wellFormed
+formed-sized b f e h = ap isSized e ∙ and-l (isSized (fieldsIn b)) (isClear (fieldsIn b) b) h
 
 module _ (b : Bytes) (small : Small b) (long : length b ≡ stateBytes) where
-  pub not-laid : laid b ≡ false → isState b ≡ false
-  not-laid h = state-is b small long ∙ rw h
+  pub not-formed : wellFormed b ≡ false → isState b ≡ false
+  not-formed h = state-is b small long ∙ rw h
 
-  pub laid-is : laid b ≡ true → (s : Standing) (k : Bytes) → session s k ≡ sessionIn b → rightPool s ≡ isState b
+  pub formed-is : wellFormed b ≡ true → (s : Standing) (k : Bytes) → session s k ≡ sessionIn b → rightPool s ≡ isState b
   unfolding sessionIn
-  laid-is h s k e =
+  formed-is h s k e =
       ap (λ (x : Session). rightPool (x .standing)) e ∙ sym (state-is b small long ∙ rw h)
 
 -- ---- the gate of a call

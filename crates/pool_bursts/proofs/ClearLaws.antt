@@ -15,7 +15,7 @@ use Rattle.ledger.specs.Records.{recordWords}
 use Rattle.text.specs.Numbers.{Bytes}
 use Rattle.session.specs.State.{tableFrom, arenaFrom}
 use Rattle.pool_bursts.specs.declared.Fields.{Fields}
-use Rattle.pool_bursts.specs.Layout.{fieldsIn, between, isSized, isClear, laid, isBlank}
+use Rattle.pool_bursts.specs.Layout.{fieldsIn, between, isSized, isClear, wellFormed, isBlank}
 
 -- ---- what holds of all bytes holds of a part
 
@@ -65,7 +65,7 @@ blank-zeros f n =
     (all-drop isZero (4 * (arenaFrom + f .words)) (replicate n 0) z)
 
 -- the front alone, where the old session's words lie under the new one's
-module _ (f old : Fields) (b front : Bytes) (wiped : front ≡ replicate 92 0) (e : old ≡ fieldsIn b) (is : laid b ≡ true)
+module _ (f old : Fields) (b front : Bytes) (wiped : front ≡ replicate 92 0) (e : old ≡ fieldsIn b) (is : wellFormed b ≡ true)
     (words : old .words ≤ f .words) (records : old .slots ≤ f .slots) where
   abbrev now : Bytes
   now = front ++ drop 92 b
@@ -77,7 +77,7 @@ module _ (f old : Fields) (b front : Bytes) (wiped : front ≡ replicate 92 0) (
   same m = sym (drop-drop m 92 now) ∙ ap (drop m) (drop-at front (drop 92 b) 92 long) ∙ drop-drop m 92 b
 
   clear : isClear old b ≡ true
-  unfolding laid
+  unfolding wellFormed
   clear = ap (λ (g : Fields). isClear g b) e ∙ and-r (isSized (fieldsIn b)) _ is
 
   table-blank : all isZero (between (4 * (tableFrom + recordWords * f .slots)) (4 * arenaFrom) now) ≡ true

@@ -23,7 +23,7 @@ use Rattle.session.specs.State.{padded, bytesOf, poolIn, standingIn, sessionIn,
 use Rattle.session.proofs.GoodLaws.{Good, good-parts, good-of}
 use Rattle.session.proofs.StateLaws.{state-long, session-back, is-state}
 use Rattle.pool_bursts.specs.declared.Fields.{Fields}
-use Rattle.pool_bursts.specs.Layout.{fieldsIn, isSized, between, isClear, laid}
+use Rattle.pool_bursts.specs.Layout.{fieldsIn, isSized, between, isClear, wellFormed}
 
 -- ---- bytes had back from the words read there
 

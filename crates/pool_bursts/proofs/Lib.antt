@@ -1,7 +1,7 @@
 -- Laws of a session's state as code tests, reads and writes it.
 pub mod LayoutLaws
 pub mod StateIs
-pub mod LaidLaws
+pub mod FormedLaws
 pub mod LoadLaws
 pub mod ClearLaws
 pub mod StoreLaws

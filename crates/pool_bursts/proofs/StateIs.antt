@@ -19,8 +19,8 @@ use Rattle.session.specs.Meaning.{Standing, before, serving, stopped, mostTextW
 use Rattle.session.specs.State.{session, tableFrom, arenaFrom, stateBytes, stageOf, headOf, tableIn, arenaIn}
 use Rattle.session.specs.State.{padded, bytesOf, poolIn, standingIn, sessionIn, rightPool, good, isState}
 use Rattle.session.proofs.GoodLaws.{Good, good-of, good-parts}
-use Rattle.pool_bursts.specs.Layout.{fieldsIn, isSized, between, isClear, laid}
-use Rattle.pool_bursts.proofs.LaidLaws.{state-laid}
+use Rattle.pool_bursts.specs.Layout.{fieldsIn, isSized, between, isClear, wellFormed}
+use Rattle.pool_bursts.proofs.FormedLaws.{state-formed}
 use Rattle.pool_bursts.proofs.LayoutLaws.{words-here, part-padded, few-kept, few-words, few-slots, sized-stage}
 
 module _ (b : Bytes) (small : Small b) (long : length b ≡ stateBytes) (size : isSized (fieldsIn b) ≡ true)
@@ -175,28 +175,28 @@ module _ (b : Bytes) (small : Small b) (long : length b ≡ stateBytes) (size : 
       go true e h = pool-there (eqb-eq (wordAt b 0) 2 e)
       go false e h = one-of (eqb (wordAt b 0) 3) refl h
 
-  pub laid-state : rightPool (standingIn b) ≡ true → isState b ≡ true
+  pub formed-state : rightPool (standingIn b) ≡ true → isState b ≡ true
   unfolding isState sessionIn
-  laid-state h =
+  formed-state h =
       and-i (good (sessionIn b)) (sameWords b (bytesOf (sessionIn b)))
       (good-of (standingIn b) line (record { short = omega (arith, line-long, kept-few); plain = plain; right = h }))
       (ap (sameWords b) bytes-back ∙ sameWords-same b)
 
 -- Bytes of a state's length are a state exactly if they are laid out as one and their pool is right.
-pub state-is : (b : Bytes) → Small b → length b ≡ stateBytes → isState b ≡ (laid b && rightPool (standingIn b))
-unfolding isState sessionIn laid
+pub state-is : (b : Bytes) → Small b → length b ≡ stateBytes → isState b ≡ (wellFormed b && rightPool (standingIn b))
+unfolding isState sessionIn wellFormed
 state-is b small long =
-    bool-iff (isState b) (laid b && rightPool (standingIn b)) there back
+    bool-iff (isState b) (wellFormed b && rightPool (standingIn b)) there back
   where
-    there : isState b ≡ true → (laid b && rightPool (standingIn b)) ≡ true
+    there : isState b ≡ true → (wellFormed b && rightPool (standingIn b)) ≡ true
     there h =
         let g = good-parts (standingIn b) (take (wordAt b 1) (drop 24 b)) (and-l _ _ h) in
         let same = sameWords-eq b (bytesOf (sessionIn b)) (and-r (good (sessionIn b)) _ h) in
-        and-i (laid b) (rightPool (standingIn b)) (ap laid same ∙ state-laid (standingIn b) (take (wordAt b 1) (drop 24 b)) g)
+        and-i (wellFormed b) (rightPool (standingIn b)) (ap wellFormed same ∙ state-formed (standingIn b) (take (wordAt b 1) (drop 24 b)) g)
         (g .right)
 
-    back : (laid b && rightPool (standingIn b)) ≡ true → isState b ≡ true
+    back : (wellFormed b && rightPool (standingIn b)) ≡ true → isState b ≡ true
     back h =
         let l = and-l (isSized (fieldsIn b) && isClear (fieldsIn b) b) (rightPool (standingIn b)) h in
-        laid-state b small long (and-l (isSized (fieldsIn b)) _ l) (and-r (isSized (fieldsIn b)) _ l)
+        formed-state b small long (and-l (isSized (fieldsIn b)) _ l) (and-r (isSized (fieldsIn b)) _ l)
         (and-r (isSized (fieldsIn b) && isClear (fieldsIn b) b) _ h)

@@ -26,7 +26,7 @@ use Rattle.pool_text.proofs.StandLaws.{arena-lies, table-lies}
 use Rattle.pool_bursts.specs.declared.Fields.{Fields}
 use Rattle.pool_bursts.specs.Layout.{isBlank, fieldWords}
 use Rattle.pool_bursts.proofs.LayoutLaws.{zeros-are, part-clear}
-use Rattle.pool_bursts.proofs.LaidLaws.{head-long}
+use Rattle.pool_bursts.proofs.FormedLaws.{head-long}
 use Rattle.pool_bursts.proofs.ClearLaws.{all-take}
 
 abbrev zeros : ℕ → Bytes

@@ -17,7 +17,7 @@ use Rattle.pool_text.specs.declared.Stage.{Stage}
 use Rattle.pool_text.specs.declared.Stage.the-variants.{Before, Serving, Stopped}
 use Rattle.pool_text.specs.Session.{standingOf, Lent}
 use Rattle.pool_bursts.specs.declared.Fields.{Fields}
-use Rattle.pool_bursts.specs.Layout.{isSized, laid}
+use Rattle.pool_bursts.specs.Layout.{isSized, wellFormed}
 
 -- a words and a table of t words suit a session of these six words: its pool lies in them, or there is room for any
 abbrev pub Suits : Fields → ℕ → ℕ → Type 0
@@ -57,7 +57,7 @@ Read stage kept line arena table state =
     Lent stage arena table
     × (kept ≤ 65)
     × (session (standingOf stage arena table) (take kept line) ≡ sessionIn state)
-    × (laid state ≡ true)
+    × (wellFormed state ≡ true)
 
 -- a state with the words of table and arena that a pool uses
 abbrev pub withPool : Bytes → Standing → Bytes

@@ -49,8 +49,8 @@ isClear f b =
     && all isZero (between (4 * (tableFrom + recordWords * f .slots)) (4 * arenaFrom) b)
     && all isZero (drop (4 * (arenaFrom + f .words)) b)
 
-unfoldable pub laid : Bytes → Bool
-laid b = isSized (fieldsIn b) && isClear (fieldsIn b) b
+unfoldable pub wellFormed : Bytes → Bool
+wellFormed b = isSized (fieldsIn b) && isClear (fieldsIn b) b
 
 -- zeros wherever a session of these six words puts nothing of its pool
 abbrev pub isBlank : Fields → Bytes → Bool

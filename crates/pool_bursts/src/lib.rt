@@ -21,7 +21,7 @@ ghost use Rattle.session.specs.Calls.{startCall, burstDone, burstCall, endDone,
 ghost use Rattle.text.specs.Lines.{finish};
 ghost use Rattle.text.specs.Rooms.{burst};
 ghost use Rattle.pool_text.specs.Session.{ownPool, standingOf, Lent};
-ghost use Rattle.pool_bursts.specs.Layout.{fieldsIn, isSized, isSmall, isClear, laid, isBlank, fieldWords};
+ghost use Rattle.pool_bursts.specs.Layout.{fieldsIn, isSized, isSmall, isClear, wellFormed, isBlank, fieldWords};
 ghost use Rattle.pool_bursts.specs.Calls.{replied, numberAlone, started};
 ghost use Rattle.pool_bursts.specs.Inside.{Suits, stageIn, Fronts, isPlaced, Read, withPool};
 
@@ -89,9 +89,9 @@ fn is_small(f: Fields) -> bool
 }
 
 // Whether the bytes are laid out as a state's.
-fn is_laid(state: &[u8]) -> bool
+fn is_well_formed(state: &[u8]) -> bool
     requires { ⌜ length (now state) ≡ stateBytes ⌝ }
-    ensures { λ r. ⌜ r ≡ laid (now (state .entry)) ⌝ }
+    ensures { λ r. ⌜ r ≡ wellFormed (now (state .entry)) ⌝ }
 {
     let f = read_fields(state);
     if !is_sized(f) {
@@ -209,7 +209,7 @@ fn load_state(state: &[u8], line: &mut [u8], arena: &[u32], table: &[u32]) -> Lo
         (now (state .entry))) ⌝ }
 {
     let f = read_fields(state);
-    if !is_laid(state) {
+    if !is_well_formed(state) {
         return Loaded {
             fine: false,
             stage: Stage::Before,
@@ -315,7 +315,7 @@ fn put_stage(stage: Stage, arena: &[u32], table: &[u32], state: &mut [u8])
 // Makes room in a state for a session of these six words: zeros wherever it puts nothing. What it puts is written over.
 // A pool keeps its sizes, so the old session's words lie under its own; where they did not, all would be wiped.
 fn clear_for(f: Fields, state: &mut [u8])
-    requires { ⌜ (length (now state) ≡ stateBytes) × (laid (now state) ≡ true) ⌝ }
+    requires { ⌜ (length (now state) ≡ stateBytes) × (wellFormed (now state) ≡ true) ⌝ }
     ensures { λ _. ⌜ isBlank f (now (state .exit)) ≡ true ⌝ }
 {
     let old = read_fields(&*state);
@@ -337,7 +337,7 @@ fn store_front(
     table: &[u32],
     state: &mut [u8],
 )
-    requires { ⌜ Lent stage (now arena) (now table) × (length (now state) ≡ stateBytes) × (laid (now state) ≡ true) ⌝ }
+    requires { ⌜ Lent stage (now arena) (now table) × (length (now state) ≡ stateBytes) × (wellFormed (now state) ≡ true) ⌝ }
     requires { ⌜ (length (now line) ≡ 65) × (kept ≤ 65) ⌝ }
     ensures { λ _. ⌜ withPool (now (state .exit)) (standingOf stage (now (arena .entry)) (now (table .entry)))
         ≡ bytesOf (session (standingOf stage (now (arena .entry)) (now (table .entry))) (take kept (now (line .entry)))) ⌝ }
@@ -349,7 +349,7 @@ fn store_front(
 
 // The same with the words of its pool.
 fn store(stage: Stage, line: &[u8], kept: usize, arena: &[u32], table: &[u32], state: &mut [u8])
-    requires { ⌜ Lent stage (now arena) (now table) × (length (now state) ≡ stateBytes) × (laid (now state) ≡ true) ⌝ }
+    requires { ⌜ Lent stage (now arena) (now table) × (length (now state) ≡ stateBytes) × (wellFormed (now state) ≡ true) ⌝ }
     requires { ⌜ (length (now line) ≡ 65) × (kept ≤ 65) ⌝ }
     ensures { λ _. ⌜ now (state .exit)
         ≡ bytesOf (session (standingOf stage (now (arena .entry)) (now (table .entry))) (take kept (now (line .entry)))) ⌝ }
@@ -406,7 +406,7 @@ fn burst_loaded(
     answers: &mut [u8],
     state: &mut [u8],
 ) -> ServedBurst
-    requires { ⌜ Lent stage (now arena) (now table) × (length (now state) ≡ stateBytes) × (laid (now state) ≡ true) ⌝ }
+    requires { ⌜ Lent stage (now arena) (now table) × (length (now state) ≡ stateBytes) × (wellFormed (now state) ≡ true) ⌝ }
     requires { ⌜ (length (now line) ≡ 65) × (kept ≤ 65) ⌝ }
     ensures { λ r. ⌜ Lent (r .stage) (now (arena .exit)) (now (table .exit)) ⌝ }
     ensures { λ r. ⌜ replied (r .counts)
@@ -518,7 +518,7 @@ fn end_loaded(
     answers: &mut [u8],
     state: &mut [u8],
 ) -> Counts
-    requires { ⌜ Lent stage (now arena) (now table) × (length (now state) ≡ stateBytes) × (laid (now state) ≡ true) ⌝ }
+    requires { ⌜ Lent stage (now arena) (now table) × (length (now state) ≡ stateBytes) × (wellFormed (now state) ≡ true) ⌝ }
     requires { ⌜ (length (now line) ≡ 65) × (kept ≤ 65) ⌝ }
     ensures { λ r. ⌜ replied r (now (state .exit)) (now (answers .exit))
         ≡ endDone (finish serve (standingOf stage (now (arena .entry)) (now (table .entry))) (take kept (now (line .entry))))

@@ -20,7 +20,7 @@ use Rattle.text.proofs.WholeLines.{whole-lines}
 use Rattle.session.specs.Meaning.{Standing, before, serve, program, programEnd}
 use Rattle.session.specs.State.{Session, session, stateBytes, bytesOf, sessionIn, isState}
 use Rattle.session.specs.Calls.{Reply, unchanged, answering, gated, startCall, burstDone, burstCall, endDone, endCall}
-use Rattle.session.specs.Bursts.{Delivery, delivery, Talk, talk, HandsOver, AllZeroOrTen, begun, mostAnswer, Bursts}
+use Rattle.session.specs.Bursts.{Delivery, delivery, Talk, talk, HandsOver, AllZeroOrTen, begun, mostAnswer, Bursts, AllBursts}
 use Rattle.session.specs.Bursts as bursts
 use Rattle.session.proofs.LineLaws.{said-long, enough}
 use Rattle.session.proofs.GoodLaws.{Good, good-begun, good-feed}
@@ -300,8 +300,8 @@ module _ (buffer : Bytes) (long : length buffer ≡ stateBytes) where
             ∙ append-nil _ ∙ rest-back before [] xs (length out) ∙ none,
       )
 
-  pub all-bursts : Bursts buffer
-  all-bursts = record {
+  of-buffer : Bursts buffer
+  of-buffer = record {
     one-burst = λ xs out os h. one-burst xs os h out;
     program = λ xs out os h. as-program xs os h out;
     served = λ os. subst (λ (b : Bytes). AllZeroOrTen b os) (sym started) (served-there before [] good-begun os);
@@ -318,3 +318,6 @@ module _ (buffer : Bytes) (long : length buffer ≡ stateBytes) where
         rw (end-after os out) (end-fits (f .state) (f .kept) (bytesOf (session (f .state) (f .kept))) out room);
     handed = handed-there;
   }
+
+pub all-bursts : AllBursts
+all-bursts buffer long = of-buffer buffer long

@@ -13,7 +13,7 @@ use Rattle.pool_bursts.specs.declared.Fields.{Fields}
 use Rattle.pool_bursts.specs.Inside.{Suits, Fronts, isPlaced}
 use Rattle.pool_bursts.proofs.LayoutLaws.{few-kept}
 use Rattle.pool_bursts.proofs.LoadLaws.{line-back, loaded}
-use Rattle.pool_bursts.proofs.CallLaws.{laid-sized, not-laid, laid-is, placed-in, lent-of}
+use Rattle.pool_bursts.proofs.CallLaws.{formed-sized, not-formed, formed-is, placed-in, lent-of}
 use borrow.Author.Needs.{needs}
 use Rattle.pool_bursts.proofs.load_state.Statement.{statement}
 use Rattle.pool_bursts.proofs.load_state.Tie as tie
@@ -21,15 +21,15 @@ use Rattle.pool_bursts.proofs.load_state.Tie as tie
 read-fields-requires : tie.Need-read-fields-requires
 read-fields-requires c κs = search needs
 
-is-laid-requires : tie.Need-is-laid-requires
-is-laid-requires c κs = search needs
+is-well-formed-requires : tie.Need-is-well-formed-requires
+is-well-formed-requires c κs = search needs
 
 returns : tie.Need-returns
 returns c =
     let s = c .before .before .before .before .before .before .before in
     let b = s .args .state .now in
-    let l = c .before .is-laid in
-    let no-state = not-laid b (c .before .before .read-fields .ensures .1) (s .pre .0 .0)
+    let l = c .before .is-well-formed in
+    let no-state = not-formed b (c .before .before .read-fields .ensures .1) (s .pre .0 .0)
     (sym (l .ensures) ∙ not-true (l .result) (c .if1 .taken)) in
     (sym no-state, (λ h. absurd (false≢true h)))
 
@@ -49,18 +49,18 @@ part-put-bytes-end : tie.Need-part-put-bytes-end
 part-put-bytes-end c =
     let s = c .before .before .before .before .before .before .before .before .before in
     let f = c .before .before .before .before .read-fields in
-    let l = c .before .before .before .is-laid in
+    let l = c .before .before .before .is-well-formed in
     let is = sym (l .ensures) ∙ not-false (l .result) (c .before .before .if1 .left) in
-    let sized = laid-sized (s .args .state .now) (f .result) (f .ensures .0) is in
+    let sized = formed-sized (s .args .state .now) (f .result) (f .ensures .0) is in
     omega (arith, few-kept (f .result) sized, s .pre .0 .0)
 
 put-bytes-requires : tie.Need-put-bytes-requires
 put-bytes-requires c κs =
     let s = c .before .before .before .before .before .before .before .before .before .before in
     let f = c .before .before .before .before .before .read-fields in
-    let l = c .before .before .before .before .is-laid in
+    let l = c .before .before .before .before .is-well-formed in
     let is = sym (l .ensures) ∙ not-false (l .result) (c .before .before .before .if1 .left) in
-    let sized = laid-sized (s .args .state .now) (f .result) (f .ensures .0) is in
+    let sized = formed-sized (s .args .state .now) (f .result) (f .ensures .0) is in
     let few = few-kept (f .result) sized in
     let n = 24 + f .result .kept - 24 in
     let b = s .args .state .now in
@@ -78,9 +78,9 @@ is-fit-requires : tie.Need-is-fit-requires
 is-fit-requires c κs =
     let s = c .before .before .before .before .before .before .before .before .before .before .before .before .before .before in
     let f = c .before .before .before .before .before .before .before .before .before .read-fields in
-    let l = c .before .before .before .before .before .before .before .before .is-laid in
+    let l = c .before .before .before .before .before .before .before .before .is-well-formed in
     let is = sym (l .ensures) ∙ not-false (l .result) (c .before .before .before .before .before .before .before .if1 .left) in
-    let sized = laid-sized (s .args .state .now) (f .result) (f .ensures .0) is in
+    let sized = formed-sized (s .args .state .now) (f .result) (f .ensures .0) is in
     let a = length (s .args .arena .now) in
     let t = length (s .args .table .now) in
     let suits = subst (λ (g : Fields). Suits g a t) (sym (f .ensures .0)) (s .pre .0 .2) in
@@ -96,9 +96,9 @@ returns-2 : tie.Need-returns-2
 returns-2 c =
     let s = c .before .before .before .before .before .before .before .before .before .before .before .before .before .before .before .before in
     let f = c .before .before .before .before .before .before .before .before .before .before .before .read-fields in
-    let l = c .before .before .before .before .before .before .before .before .before .before .is-laid in
+    let l = c .before .before .before .before .before .before .before .before .before .before .is-well-formed in
     let is = sym (l .ensures) ∙ not-false (l .result) (c .before .before .before .before .before .before .before .before .before .if1 .left) in
-    let sized = laid-sized (s .args .state .now) (f .result) (f .ensures .0) is in
+    let sized = formed-sized (s .args .state .now) (f .result) (f .ensures .0) is in
     let b = s .args .state .now in
     let a = s .args .arena .now in
     let t = s .args .table .now in
@@ -116,7 +116,7 @@ returns-2 c =
     ∙ loaded (f .result) b (p .last .0) (f .ensures .0) same a t (fronts sized) in
     let placed = ap (λ (y : Stage). isPlaced y (length a) (length t)) (g .ensures)
     ∙ placed-in (f .result) (length a) (length t) sized suits in (
-      x .ensures ∙ laid-is b (f .ensures .1) (s .pre .0 .0) is (standingOf (g .result) a t) k session-is,
+      x .ensures ∙ formed-is b (f .ensures .1) (s .pre .0 .0) is (standingOf (g .result) a t) k session-is,
       (λ h. (
         lent-of (g .result) a t (suits .0) (suits .1) placed (sym (x .ensures) ∙ h),
         few,
@@ -130,7 +130,7 @@ load-state-spec =
     tie.close
     (tie.spec
     read-fields-requires
-    is-laid-requires
+    is-well-formed-requires
     returns
     cast-to
     add-to

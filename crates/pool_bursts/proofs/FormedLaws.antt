@@ -21,7 +21,7 @@ use Rattle.session.specs.State.{padded, bytesOf, rightPool}
 use Rattle.session.proofs.GoodLaws.{Good, right-words}
 use Rattle.session.proofs.StateLaws.{length-padded, few-slots, all-slots, state-long}
 use Rattle.pool_bursts.specs.declared.Fields.{Fields}
-use Rattle.pool_bursts.specs.Layout.{fieldsIn, isSized, between, isClear, laid}
+use Rattle.pool_bursts.specs.Layout.{fieldsIn, isSized, between, isClear, wellFormed}
 use Rattle.pool_bursts.proofs.LayoutLaws.{part-zeros}
 
 -- the words that a standing's table and arena take
@@ -211,8 +211,8 @@ sized-read (serving p) k g =
     )
 sized-read stopped k g = rw (of-le (length k) 65 (g .short))
 
-pub state-laid : (s : Standing) (k : Bytes) → Good s k → laid (bytesOf (session s k)) ≡ true
-unfolding laid
-state-laid s k g =
+pub state-formed : (s : Standing) (k : Bytes) → Good s k → wellFormed (bytesOf (session s k)) ≡ true
+unfolding wellFormed
+state-formed s k g =
     ap (λ (f : Fields). isSized f && isClear f (bytesOf (session s k))) (fields-read s k g)
     ∙ and-i (isSized (read s k g)) (isClear (read s k g) (bytesOf (session s k))) (sized-read s k g) (clear-read s k g)

@@ -37,7 +37,7 @@ stands-true r q = go (ltb (q .size) (r .size)) refl (eqb (q .size) (r .size)) re
     go false e true f false g h = absurd (false≢true h)
     go false e false f z g h = absurd (false≢true h)
 
-stands-false : (r q : Run) → standsAbove r q ≡ false → (r .size ≤ q .size) × (r .start < q .start → r .size < q .size)
+pub stands-false : (r q : Run) → standsAbove r q ≡ false → (r .size ≤ q .size) × (r .start < q .start → r .size < q .size)
 stands-false r q = go (ltb (q .size) (r .size)) refl (eqb (q .size) (r .size)) refl (ltb (r .start) (q .start)) refl
   where
     go : (x : Bool) → ltb (q .size) (r .size) ≡ x → (y : Bool) → eqb (q .size) (r .size) ≡ y

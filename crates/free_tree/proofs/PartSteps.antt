@@ -1,5 +1,5 @@
--- The split by address in an arena, over the form: one law for each way through it. Assumes of a form that its nodes
--- are readable.
+-- The split by address in an arena, over the form: one law for each way on from a node, and the way down one side.
+-- Assumes of a form that its nodes are readable.
 use Prim.Native.Nat.{ℕ, _+_, _-_, _*_, _≤_, _<_}
 use native.Mathlib.Omega.{arith}
 use mathlib.Core.Path.{_≡_, refl, sym, ap₂, _∙_, subst}
@@ -16,8 +16,32 @@ use Rattle.free_tree.specs.Held.{At, Became, NoNode, Parted, Parts}
 use Rattle.free_tree.proofs.PartLaws.{within-below, within-above}
 use Rattle.free_tree.proofs.LinkLaws.{parts-of-left, parts-of-right, parts-few, below-link, above-link}
 use Rattle.free_tree.proofs.CellLaws.{no-node-below, no-node-above}
-use Rattle.free_tree.proofs.StepLaws.{rooted, at-none, at-small, at-left, at-right, at-nodes, unchanged}
+use Rattle.free_tree.proofs.StepLaws.{rooted, at-none, at-in, at-small, at-left, at-right, at-nodes}
+use Rattle.free_tree.proofs.StepLaws.{count, down-left, down-right, unchanged}
 use Rattle.free_tree.proofs.StepLaws.{still, reads-node, left-replaced, right-replaced, left-kept, right-kept}
+
+-- ---- the way down one side: the nodes passed keep their links
+
+-- The search came from the link l down to cell c, all of it below cell x, and s is the link to the right son there. The
+-- split of the son's tree is that of the whole: as it is where the son's link stays, and with one link more stored
+-- where the son is the root of the upper part.
+pub record DownRight (F : Form) (m : Words) (l x c s : ℕ) : Type 0 where
+  pub inside : c < cells F m
+  pub son : (t : Tree) × At F m s t
+  pub fewer : count F m s < count F m l
+  pub stays : {m₁ : Words} {lo hi n : ℕ} → Parts F m m₁ s x lo hi n → lo ≡ s → Parts F m m₁ l x l hi n
+  pub turns : {m₁ m′ : Words} {lo hi n k : ℕ} → Parts F m m₁ s x lo hi n → s ≢ 0 → x ≤ s - 1
+      → RightSet F m₁ m′ c lo → k ≡ n + 1 → Parts F m m′ l x l hi k
+
+-- the same where nothing passed is below cell x, s is the link to the left son, and that is the root of the lower part
+-- where its link does not stay
+pub record DownLeft (F : Form) (m : Words) (l x c s : ℕ) : Type 0 where
+  pub inside : c < cells F m
+  pub son : (t : Tree) × At F m s t
+  pub fewer : count F m s < count F m l
+  pub stays : {m₁ : Words} {lo hi n : ℕ} → Parts F m m₁ s x lo hi n → hi ≡ s → Parts F m m₁ l x lo l n
+  pub turns : {m₁ m′ : Words} {lo hi n k : ℕ} → Parts F m m₁ s x lo hi n → s ≢ 0 → s - 1 < x
+      → LeftSet F m₁ m′ c hi → k ≡ n + 1 → Parts F m m′ l x lo l k
 
 module _ {F : Form} (readable : Readable F (F .links)) where
   pub parts-none : {m : Words} {l : ℕ} (x : ℕ) → l ≡ 0 → Parts F m m l x 0 0 0
@@ -78,7 +102,7 @@ module _ {F : Form} (readable : Readable F (F .links)) where
           })
 
       -- the son's link stays
-      pub right-stays : lo ≡ s → Parts F m m₁ l x l hi n
+      right-stays : lo ≡ s → Parts F m m₁ l x l hi n
       right-stays f =
           rooted (λ t. Parted F m m₁ x t l hi n) z
           (λ a i b p.
@@ -89,7 +113,7 @@ module _ {F : Form} (readable : Readable F (F .links)) where
           subst (Parted F m m₁ x (node a (run c i) b) l hi) same (put-right kept (node a (run c i) b) p))
 
       -- the son is the root of the upper part
-      pub right-turns : {m′ : Words} {k : ℕ} → s ≢ 0 → x ≤ s - 1 → RightSet F m₁ m′ (l - 1) lo → k ≡ n + 1
+      right-turns : {m′ : Words} {k : ℕ} → s ≢ 0 → x ≤ s - 1 → RightSet F m₁ m′ (l - 1) lo → k ≡ n + 1
           → Parts F m m′ l x l hi k
       right-turns {m′} {k} y g put f =
           rooted (λ t. Parted F m m′ x t l hi k) z
@@ -128,7 +152,7 @@ module _ {F : Form} (readable : Readable F (F .links)) where
                 ∙ ap₂ (λ x y. x + y) (ap₂ differ (son .at) (j .high .tree .at)) (sym (j .count)));
           })
 
-      pub left-stays : hi ≡ s → Parts F m m₁ l x lo l n
+      left-stays : hi ≡ s → Parts F m m₁ l x lo l n
       left-stays f =
           rooted (λ t. Parted F m m₁ x t lo l n) z
           (λ a i b p.
@@ -138,7 +162,7 @@ module _ {F : Form} (readable : Readable F (F .links)) where
           let same : differ s hi + n ≡ n = omega (arith, same-link (sym f)) in
           subst (Parted F m m₁ x (node a (run c i) b) lo l) same (put-left kept (node a (run c i) b) p))
 
-      pub left-turns : {m′ : Words} {k : ℕ} → s ≢ 0 → s - 1 < x → LeftSet F m₁ m′ (l - 1) hi → k ≡ n + 1
+      left-turns : {m′ : Words} {k : ℕ} → s ≢ 0 → s - 1 < x → LeftSet F m₁ m′ (l - 1) hi → k ≡ n + 1
           → Parts F m m′ l x lo l k
       left-turns {m′} {k} y g put f =
           rooted (λ t. Parted F m m′ x t lo l k) z
@@ -149,3 +173,47 @@ module _ {F : Form} (readable : Readable F (F .links)) where
           let more : differ s hi + n ≡ k = omega arith in
           subst (Parted F m m′ x (node a (run (l - 1) i) b) lo l) more
           (put-left put (node a (run (l - 1) i) b) p))
+
+  -- ---- the way down one side: its first node, and one way after another
+
+  module _ {m : Words} {l x s : ℕ} (z : l ≢ 0) (tree : (t : Tree) × At F m l t) where
+    pub right-start : s ≡ rightAt F m (l - 1) → l - 1 < x → DownRight F m l x (l - 1) s
+    right-start e h =
+        let (less, down) = down-right readable z e tree in
+        record {
+          inside = at-in readable z tree;
+          son = down;
+          fewer = less;
+          stays = λ p f. right-stays z p e h f;
+          turns = λ p y g put f. right-turns z p e h y g put f;
+        }
+
+    pub left-start : s ≡ leftAt F m (l - 1) → x ≤ l - 1 → DownLeft F m l x (l - 1) s
+    left-start e h =
+        let (less, down) = down-left readable z e tree in
+        record {
+          inside = at-in readable z tree;
+          son = down;
+          fewer = less;
+          stays = λ p f. left-stays z p e h f;
+          turns = λ p y g put f. left-turns z p e h y g put f;
+        }
+
+  module _ {m : Words} {l x c d s r : ℕ} where
+    pub right-on : DownRight F m l x c s → DownRight F m s x d r → DownRight F m l x d r
+    right-on w v = record {
+      inside = v .inside;
+      son = v .son;
+      fewer = omega (arith, w .fewer, v .fewer);
+      stays = λ p f. w .stays (v .stays p f) refl;
+      turns = λ p y g put f. w .stays (v .turns p y g put f) refl;
+    }
+
+    pub left-on : DownLeft F m l x c s → DownLeft F m s x d r → DownLeft F m l x d r
+    left-on w v = record {
+      inside = v .inside;
+      son = v .son;
+      fewer = omega (arith, w .fewer, v .fewer);
+      stays = λ p f. w .stays (v .stays p f) refl;
+      turns = λ p y g put f. w .stays (v .turns p y g put f) refl;
+    }

@@ -3,26 +3,27 @@
 use Prim.Native.Nat.{ℕ, _+_, _-_, _≤_, _<_}
 use native.Mathlib.Omega.{arith}
 use mathlib.Core.Path.{_≡_, refl, sym, ap, _∙_}
-use mathlib.Core.Bool.{Bool, true, false, cond, not, _&&_}
-use mathlib.Core.List.{List, [], _∷_, _++_}
+use mathlib.Core.Bool.{Bool, true, false, cond, not, _&&_, false≢true, true≢false}
+use mathlib.Core.List.{List, [], _∷_, _++_, append-assoc}
 use mathlib.Core.Option.{Option, some}
 use lib.Dec.{leb, ltb}
 use Rattle.words.specs.Lists.{all, firstThat}
 use Rattle.words.proofs.Tests.{false-of, and-l, and-r, and-i, eqb-same, eqb-ne, le-of, of-le, lt-of, of-lt, not-lt}
-use Rattle.words.proofs.Tests.{of-ge, absurd-some}
+use Rattle.words.proofs.Tests.{not-le, of-ge, absurd-some}
+use Rattle.words.proofs.ListLaws.{all-append}
 use Rattle.ledger.specs.Runs.{Run, run}
 use Rattle.stored_forms.specs.Tree.{Tree, leaf, node, inorder, Heaped, shorterThan, noLongerThan}
 use Rattle.stored_forms.proofs.TreeLaws.{tree-unique}
 use Rattle.stored_forms.specs.Blocks.{Within, NotFirst}
 use Rattle.stored_forms.proofs.NodeLaws.{within-le}
-use Rattle.free_tree.specs.Shapes.{below, above, join, standsAbove, insert, delete, standsOver, heapify, shrink}
-use Rattle.free_tree.specs.Shapes.{putRun, beginsAt}
+use Rattle.free_tree.specs.Shapes.{top, below, above, join, standsAbove, insert, delete, standsOver, heavier}
+use Rattle.free_tree.specs.Shapes.{heapifyOver, heapify, shrink, putRun, beginsAt}
 use Rattle.free_tree.specs.Held.{Apart}
 use Rattle.free_tree.proofs.RunOrder.{wider, within-all, firstThat-past, firstThat-before, beginsElsewhere}
 use Rattle.free_tree.proofs.RunOrder.{startsBelow, startsFrom, putRun-between}
 use Rattle.free_tree.proofs.JoinLaws.{all-top, join-by, inorder-join, heaped-join, within-join}
 use Rattle.free_tree.proofs.PartLaws.{inorder-parts, starts-below, starts-above}
-use Rattle.free_tree.proofs.ChangeLaws.{stands-true, inorder-insert, heaped-insert, within-insert}
+use Rattle.free_tree.proofs.ChangeLaws.{stands-true, stands-false, inorder-insert, heaped-insert, within-insert}
 use Rattle.free_tree.proofs.ChangeSteps.{apart-no-node}
 
 -- ---- a run between two trees
@@ -56,14 +57,6 @@ apart-join r =
     (λ a q b t j h i x y. (x .0, x .1, x .2, i (x .3) y))
     (λ t a q b j h i x y. (i x (y .0), y .1, y .2, y .3))
 
-pub not-first-join : (c : ℕ) (s t : Tree) → NotFirst c s → NotFirst c t → NotFirst c (join s t)
-not-first-join c =
-    join-by (λ s t j. NotFirst c s → NotFirst c t → NotFirst c j)
-    (λ t x y. y)
-    (λ t x y. x)
-    (λ a q b t j h i x y. (x .0, x .1, i (x .2) y))
-    (λ t a q b j h i x y. (i x (y .0), y .1, y .2))
-
 -- a run that stands above a tree's root: of what begins below it all is shorter, of what begins above it none longer
 over-shorter : (r : Run) (t : Tree) (lo : ℕ) → Within lo (r .start) t → Heaped t → standsOver r t ≡ true
     → all (shorterThan r) (inorder t) ≡ true
@@ -79,12 +72,153 @@ over-noLonger r (node a q b) h e =
     let long = stands-true r q e .0 in
     all-top (noLongerThan r) (node a q b) h (λ p u. of-le (p .size) (r .size) (omega arith))
 
+-- ---- the ways that it goes
+
+module _ (r : Run) where
+  pub heapify-over : (s t : Tree) → (standsOver r s && standsOver r t) ≡ true → heapify r s t ≡ node s r t
+  heapify-over leaf leaf e = refl
+  heapify-over leaf (node c p d) e = rw e
+  heapify-over (node a q b) leaf e = rw (and-l (standsAbove r q) true e)
+  heapify-over (node a q b) (node c p d) e = rw e
+
+  no-top : (v : Bool) → (v && true) ≡ false → v ≡ false
+  no-top true e = e
+  no-top false e = refl
+
+  pub heapify-left : (a : Tree) (q : Run) (b t : Tree) → (standsAbove r q && standsOver r t) ≡ false
+      → heavier (node a q b) t ≡ true → heapify r (node a q b) t ≡ node a q (heapify r b t)
+  heapify-left a q b leaf e h = rw (no-top (standsAbove r q) e)
+  heapify-left a q b (node c p d) e h = rw (e, h)
+
+  pub heapify-right : (s a : Tree) (q : Run) (b : Tree) → (standsOver r s && standsAbove r q) ≡ false
+      → heavier s (node a q b) ≡ false → heapify r s (node a q b) ≡ node (heapify r s a) q b
+  heapify-right leaf a q b e h = rw e
+  heapify-right (node c p d) a q b e h = rw (e, h)
+
+  -- what holds of every tree that is made so
+  module _ (P : Tree → Tree → Tree → Type 0)
+      (over : (s t : Tree) → (standsOver r s && standsOver r t) ≡ true → P s t (node s r t))
+      (left : (a : Tree) (q : Run) (b t j : Tree) → (standsAbove r q && standsOver r t) ≡ false
+      → heavier (node a q b) t ≡ true → P b t j → P (node a q b) t (node a q j))
+      (right : (s a : Tree) (q : Run) (b j : Tree) → (standsOver r s && standsAbove r q) ≡ false
+      → heavier s (node a q b) ≡ false → P s a j → P s (node a q b) (node j q b)) where
+    over-by : (s : Tree) (f : Tree → Tree)
+        → ((t : Tree) → (standsOver r s && standsOver r t) ≡ false → heavier s t ≡ true → P s t (f t))
+        → (standsOver r s ≡ false → heavier s leaf ≡ true)
+        → (t : Tree) → P s t (heapifyOver r s f t)
+    over-by s f h k leaf = go (standsOver r s) refl
+      where
+        go : (v : Bool) → standsOver r s ≡ v → P s leaf (cond v (node s r leaf) (f leaf))
+        go true e = over s leaf (rw e)
+        go false e = h leaf (rw e) (k e)
+    over-by s f h k (node c p d) =
+        go (standsOver r s && standsAbove r p) refl (heavier s (node c p d)) refl (over-by s f h k c)
+      where
+        go : (v : Bool) → (standsOver r s && standsAbove r p) ≡ v → (w : Bool) → heavier s (node c p d) ≡ w
+            → P s c (heapifyOver r s f c)
+            → P s (node c p d) (cond v (node s r (node c p d))
+            (cond w (f (node c p d)) (node (heapifyOver r s f c) p d)))
+        go true e w g i = over s (node c p d) e
+        go false e true g i = h (node c p d) e g
+        go false e false g i = right s c p d (heapifyOver r s f c) e g i
+
+    heapify-by : (s t : Tree) → P s t (heapify r s t)
+    heapify-by leaf t = over-by leaf (λ u. u) (λ u e g. absurd (false≢true g)) (λ e. absurd (true≢false e)) t
+    heapify-by (node a q b) t =
+        over-by (node a q b) (λ u. node a q (heapify r b u))
+        (λ u e g. left a q b u (heapify r b u) e g (heapify-by b u)) (λ e. of-le 0 (q .size) (omega arith)) t
+
+-- the run is no longer than the heavier root of the first tree, and shorter than that of the second
+below-left : (r : Run) (a : Tree) (q : Run) (b t : Tree) → (standsAbove r q && standsOver r t) ≡ false
+    → heavier (node a q b) t ≡ true → r .size ≤ q .size
+below-left r a q b t e h = go (standsAbove r q) refl t e h
+  where
+    go : (v : Bool) → standsAbove r q ≡ v → (t : Tree) → (v && standsOver r t) ≡ false → heavier (node a q b) t ≡ true
+        → r .size ≤ q .size
+    go false f t e h = stands-false r q f .0
+    go true f leaf e h = absurd (true≢false e)
+    go true f (node c p d) e h = omega (arith, stands-false r p e .0, le-of (p .size) (q .size) h)
+
+below-right : (r : Run) (s a : Tree) (q : Run) (b : Tree) → (standsOver r s && standsAbove r q) ≡ false
+    → heavier s (node a q b) ≡ false → r .start < q .start → r .size < q .size
+below-right r s a q b e h l = go s (standsOver r s) refl e h
+  where
+    go : (s : Tree) (v : Bool) → standsOver r s ≡ v → (v && standsAbove r q) ≡ false → heavier s (node a q b) ≡ false
+        → r .size < q .size
+    go s true f e h = stands-false r q e .1 l
+    go leaf false f e h = absurd (true≢false f)
+    go (node c p d) false f e h = omega (arith, stands-false r p f .0, not-le (q .size) (p .size) h)
+
+lighter : (s a : Tree) (q : Run) (b : Tree) → heavier s (node a q b) ≡ false → Heaped s
+    → all (shorterThan q) (inorder s) ≡ true
+lighter leaf a q b h k = refl
+lighter (node c p d) a q b h k =
+    all-top (shorterThan q) (node c p d) k
+    (λ x u. of-lt (x .size) (q .size) (omega (arith, not-le (q .size) (p .size) h)))
+
+-- ---- its runs, and their place
+
+record IsBetween (r : Run) (s t j : Tree) : Type 0 where
+  order : inorder j ≡ inorder s ++ r ∷ inorder t
+  place : (lo hi : ℕ) → Within lo (r .start) s → Within (r .start + r .size) hi t → Within lo hi j
+  heap : (lo hi : ℕ) → Within lo (r .start) s → Within (r .start + r .size) hi t → Heaped s → Heaped t → Heaped j
+
+is-between : (r : Run) → 1 ≤ r .size → (s t : Tree) → IsBetween r s t (heapify r s t)
+is-between r filled =
+    heapify-by r (IsBetween r)
+    (λ s t e. record {
+      order = refl;
+      place = λ lo hi v w. (v, filled, w);
+      heap = λ lo hi v w h k. (
+        over-shorter r s lo v h (and-l (standsOver r s) (standsOver r t) e),
+        over-noLonger r t k (and-r (standsOver r s) (standsOver r t) e),
+        h,
+        k,
+      );
+    })
+    (λ a q b t j e g i. record {
+      order =
+          ap (λ (l : List Run). inorder a ++ q ∷ l) (i .order)
+          ∙ sym (append-assoc (inorder a) (q ∷ inorder b) (r ∷ inorder t));
+      place = λ lo hi v w. (v .0, v .1, i .place (q .start + q .size) hi (v .2) w);
+      heap = λ lo hi v w h k.
+          let top = le-of (top t) (q .size) g in (
+            h .0,
+            rw (i .order)
+                (all-append (noLongerThan q) (inorder b) (r ∷ inorder t) (h .1)
+                (and-i (noLongerThan q r) (all (noLongerThan q) (inorder t))
+                (of-le (r .size) (q .size) (below-left r a q b t e g))
+                (all-top (noLongerThan q) t k (λ p u. of-le (p .size) (q .size) (omega arith))))),
+            h .2,
+            i .heap (q .start + q .size) hi (v .2) w (h .3) k,
+          );
+    })
+    (λ s a q b j e g i. record {
+      order =
+          ap (λ (l : List Run). l ++ q ∷ inorder b) (i .order)
+          ∙ append-assoc (inorder s) (r ∷ inorder a) (q ∷ inorder b);
+      place = λ lo hi v w. (i .place lo (q .start) v (w .0), w .1, w .2);
+      heap = λ lo hi v w h k.
+          let end = within-le a (r .start + r .size) (q .start) (w .0) in (
+            rw (i .order)
+                (all-append (shorterThan q) (inorder s) (r ∷ inorder a) (lighter s a q b g h)
+                (and-i (shorterThan q r) (all (shorterThan q) (inorder a))
+                (of-lt (r .size) (q .size) (below-right r s a q b e g (omega arith))) (k .0))),
+            k .1,
+            i .heap lo (q .start) v (w .0) h (k .2),
+            k .3,
+          );
+    })
+
 module _ (r : Run) (a b : Tree) (lo hi : ℕ) (under : Within lo (r .start) a) (filled : 1 ≤ r .size)
     (over : Within (r .start + r .size) hi b) where
+  pub within-heapify : Within lo hi (heapify r a b)
+  within-heapify = is-between r filled a b .place lo hi under over
+
   abbrev both : Tree
   both = join a b
 
-  pub both-apart : Apart r both
+  both-apart : Apart r both
   both-apart =
       apart-join r a b (apart-above r a lo (r .start) under (omega arith))
       (apart-below r b (r .start + r .size) hi over filled (omega arith))
@@ -93,19 +227,6 @@ module _ (r : Run) (a b : Tree) (lo hi : ℕ) (under : Within lo (r .start) a) (
   both-within =
       within-join a b lo (r .start) hi under
       (wider b (r .start + r .size) (r .start) hi hi (omega arith) (omega arith) over)
-
-  pub within-heapify : Within lo hi (heapify r a b)
-  within-heapify = go (standsOver r a && standsOver r b)
-    where
-      low : lo ≤ r .start
-      low = within-le a lo (r .start) under
-
-      high : r .start + r .size ≤ hi
-      high = within-le b (r .start + r .size) hi over
-
-      go : (v : Bool) → Within lo hi (cond v (node a r b) (insert r both))
-      go true = (under, filled, over)
-      go false = within-insert r both lo hi both-apart both-within filled low high
 
   -- the runs of the tree that it is inserted into
   inorder-both : inorder (insert r both) ≡ inorder a ++ r ∷ inorder b
@@ -119,26 +240,17 @@ module _ (r : Run) (a b : Tree) (lo hi : ℕ) (under : Within lo (r .start) a) (
       (within-all (startsBelow x) a lo x under (λ q u v w. of-lt (q .start) x (omega arith)))
       (within-all (startsFrom x) b (x + r .size) hi over (λ q u v w. ap not (of-ge (q .start) x (omega arith))))
 
+  -- the two joined, and the run put in
   heapify-is : Heaped a → Heaped b → heapify r a b ≡ insert r both
-  heapify-is h k = go (standsOver r a) refl (standsOver r b) refl
-    where
-      rs : List Run
-      rs = inorder a ++ r ∷ inorder b
-
-      go : (v : Bool) → standsOver r a ≡ v → (w : Bool) → standsOver r b ≡ w
-          → cond (v && w) (node a r b) (insert r both) ≡ insert r both
-      go true e true f =
-          tree-unique rs (node a r b) (record {
-            order = refl;
-            heap = (over-shorter r a lo under h e, over-noLonger r b k f, h, k);
-          })
-          ∙ sym (tree-unique rs (insert r both) (record {
-            order = inorder-both;
-            heap = heaped-insert r both (apart-no-node r both (r .start) both-apart (omega arith) (omega arith))
-                (heaped-join a b h k);
-          }))
-      go true e false f = refl
-      go false e w f = refl
+  heapify-is h k =
+      let made = is-between r filled a b in
+      let rs = inorder a ++ r ∷ inorder b in
+      tree-unique rs (heapify r a b) (record { order = made .order; heap = made .heap lo hi under over h k })
+      ∙ sym (tree-unique rs (insert r both) (record {
+        order = inorder-both;
+        heap = heaped-insert r both (apart-no-node r both (r .start) both-apart (omega arith) (omega arith))
+            (heaped-join a b h k);
+      }))
 
 -- ---- the run that begins at a cell
 

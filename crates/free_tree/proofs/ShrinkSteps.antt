@@ -3,31 +3,38 @@
 use Prim.Native.Nat.{ℕ, suc, _+_, _-_, _≤_, _<_}
 use native.Mathlib.Nat.{le-trans, lt-of-lt-of-le, mul-le-mul-left}
 use native.Mathlib.Omega.{arith}
-use mathlib.Core.Path.{_≡_, refl, sym, _∙_}
+use mathlib.Core.Path.{_≡_, refl, sym, ap, _∙_}
 use mathlib.Core.Logic.{_≢_}
-use mathlib.Core.Bool.{Bool, true, false, _&&_}
+use mathlib.Core.Bool.{Bool, true, false, _&&_, false≢true, true≢false}
+use lib.Dec.{leb}
 use mathlib.Core.Option.{some}
 use Rattle.words.specs.Lists.{Words, firstThat}
-use Rattle.words.proofs.Tests.{eqb-eq, of-lt, of-ge, absurd-some}
+use Rattle.words.proofs.Tests.{eqb-eq, of-le, of-lt, of-ge, absurd-some}
 use Rattle.ledger.specs.Runs.{Run, run}
-use Rattle.stored_forms.specs.Tree.{Tree, node, inorder, Form, lengthAt, leftAt, rightAt}
+use Rattle.stored_forms.specs.Tree.{Tree, leaf, node, inorder, Form, lengthAt, leftAt, rightAt}
 use Rattle.stored_forms.proofs.NodeLaws.{Readable, within-le}
-use Rattle.tree_nodes.specs.Nodes.{cells, NodePut}
-use Rattle.free_tree.specs.Shapes.{join, standsAbove, standsOver, shrink, Stops, beginsAt}
-use Rattle.free_tree.specs.Links.{linkOf}
-use Rattle.free_tree.specs.Held.{At, Became, NoNodeNor, Beside, BothJoined, Placed, Room, Inserted, OverRoot}
-use Rattle.free_tree.specs.Held.{Between, Heapified, Longer}
+use Rattle.tree_nodes.specs.Nodes.{cells, NodePut, LeftSet, RightSet}
+use Rattle.free_tree.specs.Shapes.{top, standsAbove, standsOver, heavier, heapify, shrink, Stops, beginsAt}
+use Rattle.free_tree.specs.Held.{At, Became, NoNodeNor, Placed, OverRoot, Heavier, Between, NoNodeOfNor}
+use Rattle.free_tree.specs.Held.{Heapified, Longer}
 use Rattle.free_tree.proofs.RunOrder.{wider}
-use Rattle.free_tree.proofs.CellLaws.{no-node-below, no-node-above, same-zeros}
-use Rattle.free_tree.proofs.StepLaws.{rooted-length, at-none, at-left, at-right}
+use Rattle.free_tree.proofs.CellLaws.{no-node-below, no-node-above}
+use Rattle.free_tree.proofs.StepLaws.{count, count-at, rooted, rooted-length, at-none, at-small, at-left}
+use Rattle.free_tree.proofs.StepLaws.{at-right, left-replaced, right-replaced}
+use Rattle.free_tree.proofs.JoinSteps.{at-top}
 use Rattle.free_tree.proofs.PlaceSteps.{Local, place-tree}
 use Rattle.free_tree.proofs.ChangeSteps.{beyond, put-between}
-use Rattle.free_tree.proofs.ShrinkLaws.{not-first-join, both-apart, found-left, found-right}
+use Rattle.free_tree.proofs.ShrinkLaws.{heapify-over, heapify-left, heapify-right, within-heapify}
+use Rattle.free_tree.proofs.ShrinkLaws.{found-left, found-right}
 use Rattle.free_tree.proofs.ShrinkLaws.{found-within, here-size, within-shrink}
 
 -- the tree at the link l has the run at its root
 abbrev pub LongerRoot : Form → Words → ℕ → ℕ → ℕ → Type 0
 LongerRoot F m l x k = (t : Tree) × (n : ℕ) × Stops (beginsAt x) t × Longer F m l (run x n) k t
+
+-- two trees at the links a and b, with the run between them
+abbrev pub Sides : Form → Words → ℕ → ℕ → Run → Type 0
+Sides F m a b r = (ta : Tree) × (tb : Tree) × Between F m a b r ta tb
 
 module _ {F : Form} (readable : Readable F (F .links)) where
   -- ---- above a root
@@ -41,7 +48,7 @@ module _ {F : Form} (readable : Readable F (F .links)) where
 
   -- ---- between two trees
 
-  pub between-in : {m : Words} {a b : ℕ} {r : Run} → ((ta : Tree) × (tb : Tree) × Between F m a b r ta tb)
+  pub between-in : {m : Words} {a b : ℕ} {r : Run} → Sides F m a b r
       → (r .start < cells F m) × (r .start + 1 < F .links)
   between-in {m} {r = r} (ta, tb, p) =
       let some-cells = p .filled in
@@ -49,60 +56,159 @@ module _ {F : Form} (readable : Readable F (F .links)) where
       let small = p .left .small in
       (omega arith, omega arith)
 
-  beside : {m : Words} {a b : ℕ} {r : Run} {ta tb : Tree} → Between F m a b r ta tb → Beside F m a b ta tb
-  beside {m} {r = r} {tb = tb} p = record {
-    left = p .left;
-    right = p .right;
-    middle = r .start;
-    under = p .under;
-    over = wider tb (r .start + r .size) (r .start) (cells F m) (cells F m) (omega arith) (omega arith) (p .over);
-  }
+  -- ---- which of two roots is heavier, from the lengths that are read
 
-  pub between-beside : {m : Words} {a b : ℕ} {r : Run} → ((ta : Tree) × (tb : Tree) × Between F m a b r ta tb)
-      → (ta : Tree) × (tb : Tree) × Beside F m a b ta tb
-  between-beside (ta, tb, p) = (ta, tb, beside p)
+  module _ {m : Words} {a b : ℕ} where
+    pub heavier-none : a ≡ 0 → Heavier F m a b false
+    heavier-none z ta tb p q = at-none (λ t. false ≡ heavier t tb) z refl ta p
 
-  -- the two are joined, and there is room for the run
-  module _ {m m₁ : Words} {a b j : ℕ} {r : Run} (post : BothJoined F m m₁ a b j) where
-    joined-room : {ta tb : Tree} → Between F m a b r ta tb → Room F m₁ j r (join ta tb)
-    joined-room {ta} {tb} p =
-        let made = post ta tb (beside p) in
+    pub heavier-alone : a ≢ 0 → b ≡ 0 → Heavier F m a b true
+    heavier-alone x z ta tb p q =
+        rooted (λ t. true ≡ heavier t tb) x
+        (λ c n d w. at-none (λ t. true ≡ leb (top t) n) z (sym (of-le 0 n (omega arith))) tb q) ta p
+
+    pub heavier-both : {i k : ℕ} → a ≢ 0 → b ≢ 0 → k ≡ lengthAt F m (b - 1) → i ≡ lengthAt F m (a - 1)
+        → Heavier F m a b (leb k i)
+    heavier-both {i} {k} x y g f ta tb p q =
+        rooted-length readable (λ t. leb k i ≡ heavier t tb) x f
+        (λ c d w. ap (λ (n : ℕ). leb n i) (g ∙ at-top readable y q)) ta p
+
+  -- ---- where the heavier root stays on top, the run lies between its inner son's tree and the other tree
+
+  module _ {m : Words} {a b c n : ℕ} {r : Run} {x y tb : Tree} (w : Between F m a b r (node x (run c n) y) tb) where
+    inner-left : {s : ℕ} → s ≡ rightAt F m c → Between F m s b r y tb
+    inner-left e = record {
+      left = at-right readable (w .left) e;
+      right = w .right;
+      under = wider y (c + n) 0 (r .start) (r .start) (omega arith) (omega arith) (w .under .2);
+      over = w .over;
+      filled = w .filled;
+      zeros = w .zeros;
+    }
+
+    none-inside : (d : ℕ) → d < c + n → NoNodeOfNor y tb (r .start) d
+    none-inside d h =
+        let low = within-le y (c + n) (r .start) (w .under .2) in (
+          no-node-below y (c + n) (r .start) d (w .under .2) h,
+          no-node-below tb (r .start + r .size) (cells F m) d (w .over) (omega arith),
+          λ z. omega arith,
+        )
+
+    left-step : {m₁ m′ : Words} {s : ℕ} → (standsAbove r (run c n) && standsOver r tb) ≡ false
+        → heavier (node x (run c n) y) tb ≡ true → Became F m m₁ (NoNodeOfNor y tb (r .start)) s (heapify r y tb)
+        → RightSet F m₁ m′ c s
+        → Became F m m′ (NoNodeOfNor (node x (run c n) y) tb (r .start)) a (heapify r (node x (run c n) y) tb)
+    left-step e h made put =
+        rw (heapify-left r x (run c n) y tb e h)
+        (right-replaced readable (w .left) made (λ d o. ((o .0 .2, o .1, o .2), o .0 .1)) put
+        (within-heapify r y tb (c + n) (cells F m) (w .under .2) (w .filled) (w .over)) none-inside)
+
+  module _ {m : Words} {a b c n : ℕ} {r : Run} {x y ta : Tree} (w : Between F m a b r ta (node x (run c n) y)) where
+    inner-right : {s : ℕ} → s ≡ leftAt F m c → Between F m a s r ta x
+    inner-right e =
+        let high = within-le y (c + n) (cells F m) (w .over .2) in
         let end = r .start + r .size in
         record {
-          tree = made .tree;
-          apart = both-apart r ta tb 0 (cells F m) (p .under) (p .filled) (p .over);
-          filled = p .filled;
-          inside = rw (made .long) (within-le tb end (cells F m) (p .over));
-          zeros = same-zeros readable m m₁ (r .start) end
-              (λ d u v. made .frame d (
-                no-node-above ta 0 (r .start) d (p .under) (omega arith),
-                no-node-below tb end (cells F m) d (p .over) v,
-              )) (p .zeros);
+          left = w .left;
+          right = at-left readable (w .right) e;
+          under = w .under;
+          over = wider x end end c (cells F m) (omega arith) (omega arith) (w .over .0);
+          filled = w .filled;
+          zeros = w .zeros;
         }
 
-    pub both-room : ((ta : Tree) × (tb : Tree) × Between F m a b r ta tb) → (t : Tree) × Room F m₁ j r t
-    both-room (ta, tb, p) = (join ta tb, joined-room p)
+    none-outside : (d : ℕ) → c ≤ d → NoNodeOfNor ta x (r .start) d
+    none-outside d h =
+        let some = w .filled in
+        let high = within-le x (r .start + r .size) c (w .over .0) in (
+          no-node-above ta 0 (r .start) d (w .under) (omega arith),
+          no-node-above x (r .start + r .size) c d (w .over .0) h,
+          λ z. omega arith,
+        )
 
-  module _ {m m′ : Words} {a b x n : ℕ} {v w : Bool} (low : OverRoot F m a (run x n) v)
+    right-step : {m₁ m′ : Words} {s : ℕ} → (standsOver r ta && standsAbove r (run c n)) ≡ false
+        → heavier ta (node x (run c n) y) ≡ false → Became F m m₁ (NoNodeOfNor ta x (r .start)) s (heapify r ta x)
+        → LeftSet F m₁ m′ c s
+        → Became F m m′ (NoNodeOfNor ta (node x (run c n) y) (r .start)) b (heapify r ta (node x (run c n) y))
+    right-step e h made put =
+        rw (heapify-right r ta x (run c n) y e h)
+        (left-replaced readable (w .right) made (λ d o. ((o .0, o .1 .0, o .2), o .1 .1)) put
+        (within-heapify r ta x 0 c (w .under) (w .filled) (w .over .0)) none-outside)
+
+  -- ---- the ways through
+
+  no-root : (r : Run) (t : Tree) → (standsOver r t && true) ≡ false → false ≡ heavier t leaf → ⊥
+  no-root r leaf e h = true≢false e
+  no-root r (node a q b) e h = false≢true (h ∙ of-le 0 (q .size) (omega arith))
+
+  module _ {m : Words} {a b : ℕ} {r : Run} {u : Bool} (which : Heavier F m a b u) (e : u ≡ true) where
+    pub left-root : Sides F m a b r → a ≢ 0
+    left-root (ta, tb, p) z =
+        at-none (λ t. true ≡ heavier t tb → ⊥) z true≢false ta (p .left) (sym e ∙ which ta tb (p .left) (p .right))
+
+    pub left-inner : {s : ℕ} → s ≡ rightAt F m (a - 1) → Sides F m a b r
+        → (count F m s + count F m b < count F m a + count F m b) × Sides F m s b r
+    left-inner {s} son (ta, tb, p) =
+        rooted (λ t. Between F m a b r t tb
+        → (count F m s + count F m b < count F m a + count F m b) × Sides F m s b r) (left-root (ta, tb, p))
+        (λ c i d q p.
+        let inner = inner-left p son in
+        (omega (arith, count-at readable (inner .left), count-at readable q), (d, tb, inner))) ta (p .left) p
+
+  module _ {m : Words} {a b x n : ℕ} {v w : Bool} (low : OverRoot F m a (run x n) v)
       (high : OverRoot F m b (run x n) w) where
-    pub heapify-top : (v && w) ≡ true → NodePut F m m′ x n a b → Heapified F m m′ a b (run x n) (x + 1)
+    both-over : {ta tb : Tree} {e : Bool} → Between F m a b (run x n) ta tb → (v && w) ≡ e
+        → (standsOver (run x n) ta && standsOver (run x n) tb) ≡ e
+    both-over {ta} {tb} p e = rw (sym (low ta (p .left)), sym (high tb (p .right))) e
+
+    pub heapify-top : {m′ : Words} → (v && w) ≡ true → NodePut F m m′ x n a b
+        → Heapified F m m′ a b (run x n) (x + 1)
     heapify-top e put ta tb p =
         let made = put-between readable p put in
-        rw (sym (low ta (p .left)), sym (high tb (p .right)), e)
+        rw (heapify-over (run x n) ta tb (both-over p e))
         (record { tree = made .tree; frame = λ d o. made .frame d (o .2); long = made .long })
 
-    pub heapify-among : {m₁ : Words} {j q : ℕ} (k : ℕ) → (v && w) ≡ false → BothJoined F m m₁ a b j
-        → Inserted F m₁ m′ j (run x n) k → q ≡ linkOf k → Heapified F m m′ a b (run x n) q
-    heapify-among k e post ins f ta tb p =
-        let made = post ta tb (beside p) in
-        let put = ins (join ta tb) (joined-room post p) .0 in
-        rw (sym (low ta (p .left)), sym (high tb (p .right)), e, f)
-        (record {
-          tree = put .tree;
-          frame = λ d o i z.
-              put .frame d (not-first-join d ta tb (o .0) (o .1), o .2) i z ∙ made .frame d (o .0, o .1) i z;
-          long = put .long ∙ made .long;
-        })
+    module _ {u : Bool} (which : Heavier F m a b u) where
+      -- the first root stays on top; s is its right son
+      pub heapify-down-left : {m₁ m′ : Words} {s q : ℕ} → (v && w) ≡ false → u ≡ true → s ≡ rightAt F m (a - 1)
+          → Heapified F m m₁ s b (run x n) q → RightSet F m₁ m′ (a - 1) q → Heapified F m m′ a b (run x n) a
+      heapify-down-left {m′ = m′} o e son post put ta tb p =
+          rooted (λ t. Between F m a b (run x n) t tb
+          → Became F m m′ (NoNodeOfNor t tb x) a (heapify (run x n) t tb)) (left-root which e (ta, tb, p))
+          (λ c i d q p.
+          left-step p (both-over p o) (sym (which (node c (run (a - 1) i) d) tb q (p .right)) ∙ e)
+          (post d tb (inner-left p son)) put) ta (p .left) p
+
+      pub right-root : (v && w) ≡ false → u ≡ false → Sides F m a b (run x n) → b ≢ 0
+      right-root o e (ta, tb, p) z =
+          at-none (λ t. (standsOver (run x n) ta && standsOver (run x n) t) ≡ false → false ≡ heavier ta t → ⊥) z
+          (no-root (run x n) ta) tb (p .right) (both-over p o) (sym e ∙ which ta tb (p .left) (p .right))
+
+      -- the second root stays on top; s is its left son
+      module _ {s : ℕ} (o : (v && w) ≡ false) (e : u ≡ false) (son : s ≡ leftAt F m (b - 1)) where
+        pub right-inner : Sides F m a b (run x n)
+            → (count F m a + count F m s < count F m a + count F m b) × Sides F m a s (run x n)
+        right-inner (ta, tb, p) =
+            rooted (λ t. Between F m a b (run x n) ta t
+            → (count F m a + count F m s < count F m a + count F m b) × Sides F m a s (run x n))
+            (right-root o e (ta, tb, p))
+            (λ c i d q p.
+            let inner = inner-right p son in
+            (omega (arith, count-at readable (inner .right), count-at readable q), (ta, c, inner))) tb (p .right) p
+
+        pub heapify-down-right : {m₁ m′ : Words} {q : ℕ} → Heapified F m m₁ a s (run x n) q
+            → LeftSet F m₁ m′ (b - 1) q → Heapified F m m′ a b (run x n) b
+        heapify-down-right {m′ = m′} post put ta tb p =
+            rooted (λ t. Between F m a b (run x n) ta t
+            → Became F m m′ (NoNodeOfNor ta t x) b (heapify (run x n) ta t)) (right-root o e (ta, tb, p))
+            (λ c i d q p.
+            right-step p (both-over p o) (sym (which ta (node c (run (b - 1) i) d) (p .left) q) ∙ e)
+            (post ta c (inner-right p son)) put) tb (p .right) p
+
+  -- the link to what was made is small
+  pub heapified-small : {m m′ : Words} {a b q : ℕ} {r : Run} → Heapified F m m′ a b r q → Sides F m a b r
+      → q < F .links
+  heapified-small post (ta, tb, p) = at-small readable (post ta tb p .tree)
 
   -- ---- down to the run
 
@@ -206,11 +312,11 @@ module _ {F : Form} (readable : Readable F (F .links)) where
           }
 
     pub shrink-between : LongerRoot F m l x k
-        → (k < i) × (x + k < F .links) × ((ta : Tree) × (tb : Tree) × Between F m a b (run (x + k) (i - k)) ta tb)
+        → (k < i) × (x + k < F .links) × Sides F m a b (run (x + k) (i - k))
     shrink-between (t, n, e, p) =
         by-length
         (λ t.
-        (k < i) × (x + k < F .links) × ((ta : Tree) × (tb : Tree) × Between F m a b (run (x + k) (i - k)) ta tb))
+        (k < i) × (x + k < F .links) × Sides F m a b (run (x + k) (i - k)))
         (λ ta tb same p.
         let w = sons-between same p in
         (longer-here same p, omega (arith, between-in (ta, tb, w) .1), (ta, tb, w))) t e p

@@ -12,8 +12,8 @@ use Rattle.stored_forms.specs.Tree.{Tree, leaf, node, inorder, Form, lengthAt, 
 use Rattle.stored_forms.specs.Blocks.{leftmost}
 use Rattle.stored_forms.specs.Blocks.{Within, NotFirst, Holds, Zeros}
 use Rattle.tree_nodes.specs.Nodes.{cells, Same, LeftSet, RightSet}
-use Rattle.free_tree.specs.Shapes.{top, join, below, above, splitTop, insert, delete, standsOver, heapify}
-use Rattle.free_tree.specs.Shapes.{shrink, Under, Stops, endsAt, beginsAt, linkTo}
+use Rattle.free_tree.specs.Shapes.{top, join, below, above, splitTop, insert, delete, standsOver, heavier}
+use Rattle.free_tree.specs.Shapes.{heapify, shrink, Under, Stops, endsAt, beginsAt, linkTo}
 use Rattle.free_tree.specs.Links.{sonsChanged, linksChanged, partsChanged, linkOf, countOf}
 
 -- ---- a tree
@@ -156,6 +156,10 @@ Deleted F m m′ l x k = (t : Tree) → At F m l t → Became F m m′ (NoNode t
 -- v says whether the run r stands above the root at the link l
 abbrev pub OverRoot : Form → Words → ℕ → Run → Bool → Type 0
 OverRoot F m l r v = (t : Tree) → At F m l t → v ≡ standsOver r t
+
+-- v says whether the root at the link a stays above the one at the link b
+abbrev pub Heavier : Form → Words → ℕ → ℕ → Bool → Type 0
+Heavier F m a b v = (ta tb : Tree) → At F m a ta → At F m b tb → v ≡ heavier ta tb
 
 -- Two trees lie in the arena with the run r between them: its words are zero.
 pub record Between (F : Form) (m : Words) (a b : ℕ) (r : Run) (ta tb : Tree) : Type 0 where

@@ -69,9 +69,23 @@ abbrev pub standsOver : Run → Tree → Bool
 standsOver r leaf = true
 standsOver r (node a q b) = standsAbove r q
 
--- the run between the runs of two trees: it stays on top if it stands above both roots
+-- the first tree's root stays above that of the second: it is no shorter
+abbrev pub heavier : Tree → Tree → Bool
+heavier leaf t = false
+heavier (node a q b) t = leb (top t) (q .size)
+
+-- the run between the runs of the trees s and t; f puts it there where the root of s stays on top
+abbrev pub heapifyOver : Run → Tree → (Tree → Tree) → Tree → Tree
+heapifyOver r s f leaf = cond (standsOver r s) (node s r leaf) (f leaf)
+heapifyOver r s f (node c p d) =
+    cond (standsOver r s && standsAbove r p) (node s r (node c p d))
+    (cond (heavier s (node c p d)) (f (node c p d)) (node (heapifyOver r s f c) p d))
+
+-- The run between the runs of two trees: it stays on top if it stands above both roots. Else the heavier root does, as
+-- in the join, and the run goes on down its inner side.
 abbrev pub heapify : Run → Tree → Tree → Tree
-heapify r a b = cond (standsOver r a && standsOver r b) (node a r b) (insert r (join a b))
+heapify r leaf t = heapifyOver r leaf (λ u. u) t
+heapify r (node a q b) t = heapifyOver r (node a q b) (λ u. node a q (heapify r b u)) t
 
 -- The run at cell x gives up its first k cells. `shrink-is` in proofs/ShrinkLaws: it is taken out, and the rest of it
 -- put in.

@@ -17,8 +17,8 @@ ghost use Rattle.tree_nodes.specs.Nodes.{countBase, cells};
 ghost use Rattle.free_tree.specs.Shapes.{standsAbove, beginsAt};
 ghost use Rattle.free_tree.specs.Links.{linkOf, countOf};
 ghost use Rattle.free_tree.specs.Held.{At, Beside, LeftWins, RightWins, LeftJoined, RightJoined, BothJoined};
-ghost use Rattle.free_tree.specs.Held.{Parts, Room, PutOver, Inserted, Deleted, OverRoot, Between, Heapified};
-ghost use Rattle.free_tree.specs.Held.{Longer, Shrunk, LeftmostFound, Placed, NodeOf, Attached, Clear, TouchFound};
+ghost use Rattle.free_tree.specs.Held.{Parts, Room, PutOver, Inserted, Deleted, OverRoot, Heavier, Between};
+ghost use Rattle.free_tree.specs.Held.{Heapified, Longer, Shrunk, LeftmostFound, Placed, NodeOf, Attached, Clear, TouchFound};
 ghost use Rattle.free_tree.specs.Held.{ifEnds, ifBegins};
 
 // ---- join
@@ -107,18 +107,20 @@ pub fn count_of(k: u64) -> u64
 
 // Splits the tree at the link `l`, whose root is below cell `x`, into its blocks below `x` and those from it on. The
 // root stays that of the lower part. Returns the link to the upper part, and how many links were stored: as long as the
-// right son is below `x` too, its link stays.
+// right son is below `x` too, its link stays, and the loop goes on to it. Neither of the two functions calls itself:
+// compiled, it would keep the slice in memory.
 fn upper_part(form: u32, arena: &mut [u32], l: usize, x: usize) -> u64
     requires { ⌜ (l ≢ 0) × (l - 1 < x) × ((t : Tree) × At (formOf form) (now arena) l t) ⌝ }
     ensures { λ k. ⌜ Parts (formOf form) (now (arena .entry)) (now (arena .exit)) l x l (linkOf k) (countOf k) ⌝ }
 {
-    let c = l - 1;
-    let s = right_of(form, arena, c);
+    let mut c = l - 1;
+    let mut s = right_of(form, arena, c);
+    while (s != 0) & (s <= x) {
+        c = s - 1;
+        s = right_of(form, arena, c);
+    }
     if s == 0 {
         return 0;
-    }
-    if s - 1 < x {
-        return upper_part(form, arena, s, x);
     }
     let p = lower_part(form, arena, s, x);
     let stored = store_right(form, arena, c, link_of(p), count_of(p));
@@ -126,18 +128,19 @@ fn upper_part(form: u32, arena: &mut [u32], l: usize, x: usize) -> u64
 }
 
 // The same where the root is not below `x` and stays that of the upper part. Returns the link to the lower part, and
-// how many links were stored.
+// how many links were stored: as long as the left son is not below `x` either, its link stays.
 fn lower_part(form: u32, arena: &mut [u32], l: usize, x: usize) -> u64
     requires { ⌜ (l ≢ 0) × (x ≤ l - 1) × ((t : Tree) × At (formOf form) (now arena) l t) ⌝ }
     ensures { λ k. ⌜ Parts (formOf form) (now (arena .entry)) (now (arena .exit)) l x (linkOf k) l (countOf k) ⌝ }
 {
-    let c = l - 1;
-    let s = left_of(form, arena, c);
+    let mut c = l - 1;
+    let mut s = left_of(form, arena, c);
+    while x < s {
+        c = s - 1;
+        s = left_of(form, arena, c);
+    }
     if s == 0 {
         return 0;
-    }
-    if x <= s - 1 {
-        return lower_part(form, arena, s, x);
     }
     let p = upper_part(form, arena, s, x);
     let stored = store_left(form, arena, c, link_of(p), count_of(p));
@@ -308,8 +311,23 @@ fn over_root(form: u32, arena: &[u32], l: usize, x: usize, n: u32) -> bool
     stands_above(x, n, c, k)
 }
 
+// Whether the root at the link `a` stays above the one at the link `b`.
+fn is_heavier(form: u32, arena: &[u32], a: usize, b: usize) -> bool
+    requires { ⌜ ((ta : Tree) × At (formOf form) (now arena) a ta) × ((tb : Tree) × At (formOf form) (now arena) b tb) ⌝ }
+    ensures { λ r. ⌜ Heavier (formOf form) (now (arena .entry)) a b r ⌝ }
+{
+    if a == 0 {
+        return false;
+    }
+    if b == 0 {
+        return true;
+    }
+    length_of(form, arena, b - 1) <= length_of(form, arena, a - 1)
+}
+
 // Puts the block of `n` cells at cell `x` between the trees at the links `lo` and `hi`, and returns the link to the
-// whole. Most often it stands above both roots, and the trees are its sons as they are.
+// whole. Most often it stands above both roots, and the trees are its sons as they are. Else the heavier root stays on
+// top, and the block goes down its inner side.
 fn heapify(form: u32, arena: &mut [u32], lo: usize, hi: usize, x: usize, n: u32) -> usize
     requires { ⌜ ((ta : Tree) × (tb : Tree) × Between (formOf form) (now arena) lo hi (run x n) ta tb) ⌝ }
     ensures { λ r. ⌜ Heapified (formOf form) (now (arena .entry)) (now (arena .exit)) lo hi (run x n) r ⌝ }
@@ -318,8 +336,16 @@ fn heapify(form: u32, arena: &mut [u32], lo: usize, hi: usize, x: usize, n: u32)
         put_first(form, arena, x, n, lo, hi);
         return x + 1;
     }
-    let rest = join_trees(form, arena, lo, hi);
-    link_of(insert(form, arena, rest, x, n))
+    if is_heavier(form, arena, lo, hi) {
+        let s = right_of(form, arena, lo - 1);
+        let q = heapify(form, arena, s, hi, x, n);
+        set_right(form, arena, lo - 1, q);
+        return lo;
+    }
+    let s = left_of(form, arena, hi - 1);
+    let q = heapify(form, arena, lo, s, x, n);
+    set_left(form, arena, hi - 1, q);
+    hi
 }
 
 // The block at the link `at`, of more than `k` cells, gives up its first `k` cells in the tree at the link `l`. Its

@@ -92,8 +92,8 @@ fn is_shown_tiny(head: Head, arena: &[u32], table: &[u32]) -> bool
     ensures { λ r. ⌜ Says r (Shown head (now (arena .entry)) (now (table .entry))) ⌝ }
 {
     let mut map: [u8; 64] = [0; 64];
-    let mut seen: [u8; 128] = [0; 128];
-    is_shown_over(head, &*arena, &*table, &mut map, &mut seen, 128)
+    let mut seen: [u8; 64] = [0; 64];
+    is_shown_over(head, &*arena, &*table, &mut map, &mut seen, 64)
 }
 
 // At most 512 cells.

@@ -39,7 +39,10 @@ fn node_ok(form: u32, arena: &[u32], map: &[u8], k: usize, c: usize, z: usize) -
             return false;
         }
     }
-    leads_to(map, k, c) & is_clear(form, arena, c, z)
+    if !leads_to(map, k, c) {
+        return false;
+    }
+    is_clear(form, arena, c, z)
 }
 
 // Left part, node, right part: whether the blocks of the tree at the link, each shorter than the limit, lie apart from

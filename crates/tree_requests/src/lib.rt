@@ -19,9 +19,11 @@ ghost use Rattle.calls.specs.Pool.{sound};
 ghost use Rattle.ledger.specs.Records.{isParty, keepable, shortened};
 ghost use Rattle.calls.specs.Step.{ask, give, cut, answerTo, poolAfter, partied};
 ghost use Rattle.calls.specs.Engines.{treeEngine};
+ghost use Rattle.stored_forms.specs.Tree.{formOf};
 ghost use Rattle.call_parts.specs.Parts.{namedIn, actOf, requestAt, withAnswer};
 ghost use Rattle.call_parts.specs.Results.{acted, ran};
 ghost use Rattle.tree_check.specs.Gate.{treePool};
+ghost use Rattle.tree_requests.specs.Sizes.{cellSpan};
 ghost use Rattle.tree_requests.specs.Granting.{Grantable};
 ghost use Rattle.tree_requests.specs.Outcomes.{handed, refusedWith, grantOutcome, releaseOutcome};
 ghost use Rattle.tree_requests.specs.Outcomes.{effectNumber, effectRoot, effectAddress};
@@ -66,8 +68,8 @@ fn effect(root: usize, address: u32) -> u64
 
 // ---- allocate
 
-// Takes the first cells of the block that was found for the party, under the next ticket. The block's father was found
-// with it.
+// Takes the first cells of the block that was found for the party, as many as the words come to, under the next ticket.
+// The block's father was found with it.
 fn place(
     head: Head,
     arena: &mut [u32],
@@ -77,13 +79,14 @@ fn place(
     slot: usize,
     block: usize,
     father: usize,
+    cells: usize,
 ) -> u64
     requires { ⌜ Grantable head (now arena) (now table) party words slot block father ⌝ }
+    requires { ⌜ cells ≡ cellSpan (formOf (head .form)) words ⌝ }
     ensures { λ r. ⌜ handed (grantOutcome head words r) (now (arena .exit)) (now (table .exit)) []
         ≡ acted treeEngine (ask party words) (treePool head (now (arena .entry)) (now (table .entry))) ⌝ }
 {
     let form = head.form;
-    let cells = cells_of(form, words);
     let root = free_blocks::take_cells(form, arena, head.root as usize, block, father, cells);
     let address = sizes::first_word(form, block - 1) as u32;
     let new = Row {
@@ -120,7 +123,7 @@ pub fn grant(head: Head, arena: &mut [u32], table: &mut [u32], party: u32, words
     if block == 0 {
         return no_effect(5);
     }
-    place(head, arena, table, party, words, slot, block, father)
+    place(head, arena, table, party, words, slot, block, father, cells)
 }
 
 // The outcome of an allocation with this effect.

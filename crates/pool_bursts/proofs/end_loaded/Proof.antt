@@ -36,14 +36,16 @@ same-length-3 c = search needs
 
 returns : tie.Need-returns
 returns c =
-    let s = c .before .before .before .before .before .before .before .before .before .before .before .before .before in
+    let w = c .before .before .before in
+    let d = w .store in
+    let i = w .before .before .before .before in
+    let s = i .before .before .before .before .before .before in
     let st = s .args .state .now in
     let out = s .args .answers .now in
     let line = s .args .line .now in
     let stands = standingOf (s .args .stage) (s .args .arena .now) (s .args .table .now) in
-    let d = c .before .before .before .store in
     ap (λ (x : Counts). replied x (d .last .1 .1 .1 .1 .1 .0) out) (c .unchanged .ensures)
-    ∙ end-none stands line st out (d .last .1 .1 .1 .1 .1 .0) (s .args .kept) (c .before .before .before .before .before .before .before .if1 .taken) (d .ensures)
+    ∙ end-none stands line st out (d .last .1 .1 .1 .1 .1 .0) (s .args .kept) (i .if1 .taken) (d .ensures)
 
 sub-try-line : tie.Need-sub-try-line
 sub-try-line c = search needs
@@ -73,13 +75,15 @@ same-length-6 c = search needs
 
 returns-2 : tie.Need-returns-2
 returns-2 c =
-    let s = c .before .before .before .before .before .before .before .before .before .before .before .before .before .before .before .before .before .before .before .before in
+    let t = c .before .before .before .before .before .before .before .before .before in
+    let h = t .try-line in
+    let i = t .before .before .before .before .before in
+    let s = i .before .before .before .before .before .before in
     let st = s .args .state .now in
     let out = s .args .answers .now in
     let line = s .args .line .now in
     let stands = standingOf (s .args .stage) (s .args .arena .now) (s .args .table .now) in
-    let m = last-line stands line (s .args .kept) (omega (arith, s .pre .1)) (c .before .before .before .before .before .before .before .before .before .before .before .before .before .before .if1 .left) in
-    let h = c .before .before .before .before .before .before .before .before .before .try-line in
+    let m = last-line stands line (s .args .kept) (omega (arith, s .pre .1)) (i .if1 .left) in
     let settled = not-true (h .result .done) (c .before .if2 .taken) in
     let f = finish serve stands (take (s .args .kept) line) in
     let none : leb (length (f .said)) (length out) ≡ false =
@@ -91,9 +95,12 @@ returns-2 c =
 
 store-requires-2 : tie.Need-store-requires-2
 store-requires-2 c κs =
-    let s = c .before .before .before .before .before .before .before .before .before .before .before .before .before .before .before .before .before .before .before .before .before .before in
-    let h = c .before .before .before .before .before .before .before .before .before .before .before .try-line in
-    let done = h .ensures .1 (not-false (h .result .done) (c .before .before .before .if2 .left)) in
+    let j = c .before .before .before in
+    let t = j .before .before .before .before .before .before .before .before in
+    let h = t .try-line in
+    let i = t .before .before .before .before .before in
+    let s = i .before .before .before .before .before .before in
+    let done = h .ensures .1 (not-false (h .result .done) (j .if2 .left)) in
     ((done .0, s .pre .0 .1, s .pre .0 .2), (s .pre .1 .0, omega arith))
 
 same-length-7 : tie.Need-same-length-7
@@ -110,15 +117,19 @@ same-length-10 c = search needs
 
 returns-3 : tie.Need-returns-3
 returns-3 c =
-    let s = c .before .before .before .before .before .before .before .before .before .before .before .before .before .before .before .before .before .before .before .before .before .before .before .before .before in
+    let w = c .before .before in
+    let d = w .store2 in
+    let j = w .before .before .before .before in
+    let t = j .before .before .before .before .before .before .before .before in
+    let h = t .try-line in
+    let i = t .before .before .before .before .before in
+    let s = i .before .before .before .before .before .before in
     let st = s .args .state .now in
     let out = s .args .answers .now in
     let line = s .args .line .now in
     let stands = standingOf (s .args .stage) (s .args .arena .now) (s .args .table .now) in
-    let m = last-line stands line (s .args .kept) (omega (arith, s .pre .1)) (c .before .before .before .before .before .before .before .before .before .before .before .before .before .before .before .before .before .before .before .if1 .left) in
-    let h = c .before .before .before .before .before .before .before .before .before .before .before .before .before .before .try-line in
-    let d = c .before .before .store2 in
-    let settled = not-false (h .result .done) (c .before .before .before .before .before .before .if2 .left) in
+    let m = last-line stands line (s .args .kept) (omega (arith, s .pre .1)) (i .if1 .left) in
+    let settled = not-false (h .result .done) (j .if2 .left) in
     let f = finish serve stands (take (s .args .kept) line) in
     let rightPool : leb (length (f .said)) (length out) ≡ true =
     ap (λ (x : Served Standing). leb (length (x .said)) (length out)) (sym m)

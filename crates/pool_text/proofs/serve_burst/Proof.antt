@@ -26,42 +26,56 @@ loop-holds c =
     ((s .pre .0, s .pre .1 .0, s .pre .1 .1, omega arith, omega arith), refl, refl, refl, refl)
 
 serve-next-requires : tie.Need-serve-next-requires Inv-loop μ-loop
-serve-next-requires c κs = (c .before .before .before .before .before .before .loop .inv .0, c .before .before .before .before .if1 .taken)
+serve-next-requires c κs =
+    let i = c .before .before .before .before in
+    (i .before .before .loop .inv .0, i .if1 .taken)
 
 same-length : tie.Need-same-length Inv-loop μ-loop
-same-length c = c .before .before .before .before .before .before .before .before .before .before .serve-next .ensures .0 .0 .1 ∙ sym (c .before .before .before .before .before .before .before .before .before .before .before .before .before .before .before .before .before .before .before .before .before .before .before .pre .1 .0)
+same-length c =
+    let n = c .before .before .before .before .before .before .before .before .before .before in
+    let l = n .before .before .before .before .before .before .before in
+    let s = l .before .before .before .before .before .before in
+    n .serve-next .ensures .0 .0 .1 ∙ sym (s .pre .1 .0)
 
 same-length-2 : tie.Need-same-length-2 Inv-loop μ-loop
 same-length-2 c =
-    c .before .before .before .before .before .before .before .before .before .before .serve-next .kept .1 .1 .0 ∙ c .before .before .before .before .before .before .before .before .before .before .before .before .before .before .before .before .before .loop .inv .2
+    let n = c .before .before .before .before .before .before .before .before .before .before in
+    let l = n .before .before .before .before .before .before .before .loop in
+    n .serve-next .kept .1 .1 .0 ∙ l .inv .2
 
 same-length-3 : tie.Need-same-length-3 Inv-loop μ-loop
 same-length-3 c =
-    c .before .before .before .before .before .before .before .before .before .before .serve-next .kept .1 .1 .1 .0 ∙ c .before .before .before .before .before .before .before .before .before .before .before .before .before .before .before .before .before .loop .inv .3
+    let n = c .before .before .before .before .before .before .before .before .before .before in
+    let l = n .before .before .before .before .before .before .before .loop in
+    n .serve-next .kept .1 .1 .1 .0 ∙ l .inv .3
 
 same-length-4 : tie.Need-same-length-4 Inv-loop μ-loop
 same-length-4 c = search needs
 
 returns : tie.Need-returns Inv-loop μ-loop
 returns c =
-    let r = c .before .before .before .before .before .before .before .before .before .before .serve-next in
-    let l = c .before .before .before .before .before .before .before .before .before .before .before .before .before .before .before .before .before .loop in
-    let s = c .before .before .before .before .before .before .before .before .before .before .before .before .before .before .before .before .before .before .before .before .before .before .before in (
+    let n = c .before .before .before .before .before .before .before .before .before .before in
+    let r = n .serve-next in
+    let l = n .before .before .before .before .before .before .before in
+    let s = l .before .before .before .before .before .before in
+    let a = s .args in (
       r .ensures .0 .0,
-      r .ensures .1 .1 (c .if2 .taken) ∙ l .inv .4 ∙ from-start (s .args .out .now)
-          (standingOf (s .args .stage) (s .args .arena .now) (s .args .table .now)) (take (s .args .kept) (s .args .line .now))
-          (s .args .chunk .now),
+      r .ensures .1 .1 (c .if2 .taken) ∙ l .loop .inv .4 ∙ from-start (a .out .now)
+          (standingOf (a .stage) (a .arena .now) (a .table .now)) (take (a .kept) (a .line .now)) (a .chunk .now),
     )
 
 loop-less : tie.Need-loop-less Inv-loop μ-loop
 loop-less c =
-    let r = c .before .before .before .before .before .before .before .before .before .before .serve-next in
-    omega (arith, r .ensures .0 .1, r .ensures .0 .0 .3, c .if2 .left, c .before .before .before .before .before .before .before .before .before .before .before .before .before .before .before .if1 .taken)
+    let n = c .before .before .before .before .before .before .before .before .before .before in
+    let r = n .serve-next in
+    let i = n .before .before .before .before .before in
+    omega (arith, r .ensures .0 .1, r .ensures .0 .0 .3, c .if2 .left, i .if1 .taken)
 
 loop-again : tie.Need-loop-again Inv-loop μ-loop
 loop-again c =
-    let r = c .before .before .before .before .before .before .before .before .before .before .serve-next in
-    let l = c .before .before .before .before .before .before .before .before .before .before .before .before .before .before .before .before .before .loop in
+    let n = c .before .before .before .before .before .before .before .before .before .before in
+    let r = n .serve-next in
+    let l = n .before .before .before .before .before .before .before .loop in
     let on : l .turn .from < r .result .from = omega (arith, r .ensures .0 .1, c .if2 .left) in (
       r .ensures .0 .0,
       r .kept .1 .1 .1 .1 .1 .0 ∙ l .inv .1,
@@ -86,13 +100,13 @@ returns-2 : tie.Need-returns-2 Inv-loop μ-loop
 returns-2 c =
     let l = c .before .before .loop in
     let s = c .before .before .before .before .before .before .before .before in
+    let a = s .args in
     let u = l .turn in
-    let over = ahead-end (length (l .out) - u .at) (standingOf (u .stage) (l .arena) (l .table)) (take (u .kept) (l .line))
-    (s .args .chunk .now) (l .out) (u .from) (u .at) (c .if1 .left) in (
+    let over = ahead-end (length (l .out) - u .at) (standingOf (u .stage) (l .arena) (l .table))
+    (take (u .kept) (l .line)) (a .chunk .now) (l .out) (u .from) (u .at) (c .if1 .left) in (
       l .inv .0,
-      sym over ∙ l .inv .4 ∙ from-start (s .args .out .now)
-          (standingOf (s .args .stage) (s .args .arena .now) (s .args .table .now)) (take (s .args .kept) (s .args .line .now))
-          (s .args .chunk .now),
+      sym over ∙ l .inv .4 ∙ from-start (a .out .now) (standingOf (a .stage) (a .arena .now) (a .table .now))
+          (take (a .kept) (a .line .now)) (a .chunk .now),
     )
 
 pub serve-burst-spec : {M : Type 1} → statement M

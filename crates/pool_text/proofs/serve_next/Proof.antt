@@ -1,5 +1,5 @@
--- `pool_text::serve_next` meets its contract: the burst ends inside the line, or there is no room for its answer, or it is
--- served. Assumes nothing.
+-- `pool_text::serve_next` meets its contract: the burst ends inside the line, or there is no room for its answer, or it
+-- is served. Assumes nothing.
 use native.Mathlib.Omega.{arith}
 use Prim.Native.Nat.{ℕ, _-_, _≤_, _<_}
 use mathlib.Core.Path.{_≡_, _∙_, sym, ap, ap₂, refl}
@@ -26,7 +26,7 @@ same-length c = search needs
 returns : tie.Need-returns
 returns c =
     let k = c .before .before .before in
-    let s = c .before .before .before .before .before .before .before .before .before .before in
+    let s = k .before .before .before .before .before .before .before in
     let u = s .args .turn in
     let r = k .keep-run in
     let ends = r .ensures .0 in
@@ -59,7 +59,10 @@ part-try-line-end : tie.Need-part-try-line-end
 part-try-line-end c = search needs
 
 try-line-requires : tie.Need-try-line-requires
-try-line-requires c κs = let s = c .before .before .before .before .before .before .before .before .before .before .before .before .before .before .before in (s .pre .0 .0, s .pre .0 .4)
+try-line-requires c κs =
+    let k = c .before .before .before .before .before .before .before .before in
+    let s = k .before .before .before .before .before .before .before in
+    (s .pre .0 .0, s .pre .0 .4)
 
 same-length-2 : tie.Need-same-length-2
 same-length-2 c = search needs
@@ -75,11 +78,13 @@ same-length-5 c = search needs
 
 returns-2 : tie.Need-returns-2
 returns-2 c =
-    let h = c .before .before .before .before .before .before .before .before .try-line in
-    let i = c .before .before .before .before .before .before .before .before .before .before .before .before .before .before in
-    let s = c .before .before .before .before .before .before .before .before .before .before .before .before .before .before .before .before .before .before .before .before .before .before .before .before in
+    let t = c .before .before .before .before .before .before .before .before in
+    let h = t .try-line in
+    let i = t .before .before .before .before .before .before in
+    let k = i .before .before .before in
+    let r = k .keep-run in
+    let s = k .before .before .before .before .before .before .before in
     let u = s .args .turn in
-    let r = c .before .before .before .before .before .before .before .before .before .before .before .before .before .before .before .before .before .keep-run in
     let ends = r .ensures .0 in
     let g = s .pre .0 in
     let chunk = s .args .chunk .now in
@@ -99,8 +104,8 @@ returns-2 c =
         (λ e. ap₂ (λ (x : Standing) (y : Bytes). (x, take (u .kept) (r .last .0), y, u .at, drop (u .from) chunk))
             (stays .1) (stays .2)
             ∙ ap (λ (x : Bytes). (stands, x, out, u .at, drop (u .from) chunk)) (ends .3)
-            ∙ no-room room stands (take (u .kept) (s .args .line .now)) kept chunk (u .from) (r .result .at) (r .ensures .1)
-            out (u .at) less none),
+            ∙ no-room room stands (take (u .kept) (s .args .line .now)) kept chunk (u .from) (r .result .at)
+            (r .ensures .1) out (u .at) less none),
       ),
     )
 
@@ -118,11 +123,13 @@ same-length-9 c = search needs
 
 returns-3 : tie.Need-returns-3
 returns-3 c =
-    let l = c .before .before .before .before .before .before .before .before .try-line in
-    let i = c .before .before .before .before .before .before .before .before .before .before .before .before .before .before in
-    let s = c .before .before .before .before .before .before .before .before .before .before .before .before .before .before .before .before .before .before .before .before .before .before .before .before in
+    let t = c .before .before .before .before .before .before .before .before in
+    let l = t .try-line in
+    let i = t .before .before .before .before .before .before in
+    let k = i .before .before .before in
+    let r = k .keep-run in
+    let s = k .before .before .before .before .before .before .before in
     let u = s .args .turn in
-    let r = c .before .before .before .before .before .before .before .before .before .before .before .before .before .before .before .before .before .keep-run in
     let ends = r .ensures .0 in
     let g = s .pre .0 in
     let chunk = s .args .chunk .now in

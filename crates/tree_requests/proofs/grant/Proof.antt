@@ -167,16 +167,18 @@ place-requires c κs =
     let v = k .before .before .before in
     let m = v .before .before in
     let i = m .before .before in
-    let s = i .before .before .before .before in
-    record {
-      ok = s .pre .0;
-      party = s .pre .1;
-      size = size i;
-      empty = sym (m .empty-slot .ensures) ∙ v .slot .given .1;
-      ticket = k .before .if2 .left;
-      fit = fit l;
-      node-of = l .leftmost-fit .ensures .1 (c .before .before .if3 .left);
-    }
+    let s = i .before .before .before .before in (
+      record {
+        ok = s .pre .0;
+        party = s .pre .1;
+        size = size i;
+        empty = sym (m .empty-slot .ensures) ∙ v .slot .given .1;
+        ticket = k .before .if2 .left;
+        fit = fit l;
+        node-of = l .leftmost-fit .ensures .1 (c .before .before .if3 .left);
+      },
+      k .cells-of .ensures,
+    )
 
 same-length-5 : tie.Need-same-length-5
 same-length-5 c = search needs

@@ -29,11 +29,11 @@ use Rattle.tree_requests.proofs.place.Tie as tie
 
 range : (s : tie.Start) → InRange (formOf (s .args .head .form)) (now (s .args .arena)) (now (s .args .table))
 range s = place-range (s .args .head) (now (s .args .arena)) (now (s .args .table)) (s .args .party) (s .args .words) (s .args .slot)
-    (s .args .block) (s .args .father) (s .pre)
+    (s .args .block) (s .args .father) (s .pre .0)
 
 inside : (s : tie.Start) → s .args .block - 1 < cells (formOf (s .args .head .form)) (now (s .args .arena))
 inside s = place-inside (s .args .head) (now (s .args .arena)) (now (s .args .table)) (s .args .party) (s .args .words) (s .args .slot)
-    (s .args .block) (s .args .father) (s .pre)
+    (s .args .block) (s .args .father) (s .pre .0)
 
 -- the arena has no more words than any form's
 few : (s : tie.Start) → length (now (s .args .arena)) ≤ 1048576
@@ -48,50 +48,48 @@ first-low s =
 
 -- what the cells taken leave
 taken : (c : tie.After-take-cells)
-    → let s = c .before .before .before .before .before .before in
+    → let s = c .before .before .before .before .before in
     Taken (formOf (s .args .head .form)) (now (s .args .arena)) (c .take-cells .last .1 .0) (s .args .head .root)
     (s .args .block) (s .args .father) (cellSpan (formOf (s .args .head .form)) (s .args .words)) (c .take-cells .result)
 taken c =
-    let s = c .before .before .before .before .before .before in
+    let s = c .before .before .before .before .before in
     subst
     (λ (x : ℕ). Taken (formOf (s .args .head .form)) (now (s .args .arena)) (c .take-cells .last .1 .0) (s .args .head .root)
     (s .args .block) (s .args .father) x (c .take-cells .result))
-    (c .before .before .before .cells-of .ensures) (c .take-cells .ensures)
-
-cells-of-requires : tie.Need-cells-of-requires
-cells-of-requires c κs = search needs
+    (s .pre .1) (c .take-cells .ensures)
 
 cast-take-cells : tie.Need-cast-take-cells
 cast-take-cells c = search needs
 
 take-cells-requires : tie.Need-take-cells-requires
 take-cells-requires c κs =
-    let k = c .before .before in
-    let s = k .before .before .before in
+    let s = c .before .before .before .before in
     subst
     (λ (x : ℕ). Takeable (formOf (s .args .head .form)) (now (s .args .arena)) (s .args .head .root) (s .args .block)
     (s .args .father) x)
-    (sym (k .cells-of .ensures))
+    (sym (s .pre .1))
     (place-takes (s .args .head) (now (s .args .arena)) (now (s .args .table)) (s .args .party) (s .args .words) (s .args .slot)
-    (s .args .block) (s .args .father) (s .pre))
+    (s .args .block) (s .args .father) (s .pre .0))
 
 sub-first-word : tie.Need-sub-first-word
 sub-first-word c = search needs
 
 first-word-requires : tie.Need-first-word-requires
 first-word-requires c κs =
-    let s = c .before .before .before .before .before .before .before .before in
+    let s = c .before .before .before .before .before .before .before in
     let a = now (s .args .arena) in
     omega (arith, inside s, few s, div-le-self (length a) (formOf (s .args .head .form) .cell))
 
 cast-address : tie.Need-cast-address
-cast-address c = omega (arith, c .first-word .ensures, first-low (c .before .before .before .before .before .before .before .before .before), few (c .before .before .before .before .before .before .before .before .before))
+cast-address c =
+    let s = c .before .before .before .before .before .before .before .before in
+    omega (arith, c .first-word .ensures, first-low s, few s)
 
 write-row-requires : tie.Need-write-row-requires
 write-row-requires c κs =
-    let s = c .before .before .before .before .before .before .before .before .before .before in (
+    let s = c .before .before .before .before .before .before .before .before .before in (
       place-slot (s .args .head) (now (s .args .arena)) (now (s .args .table)) (s .args .party) (s .args .words) (s .args .slot)
-          (s .args .block) (s .args .father) (s .pre),
+          (s .args .block) (s .args .father) (s .pre .0),
       range s .fours,
     )
 
@@ -99,9 +97,9 @@ effect-requires : tie.Need-effect-requires
 effect-requires c κs =
     let d = c .before .before .before .before in
     let t = d .before .before .before in
-    let s = t .before .before .before .before .before .before in (
+    let s = t .before .before .before .before .before in (
       place-root (s .args .head) (now (s .args .arena)) (now (s .args .table)) (s .args .party) (s .args .words) (s .args .slot)
-          (s .args .block) (s .args .father) (s .pre) (t .take-cells .last .1 .0) (now (s .args .table))
+          (s .args .block) (s .args .father) (s .pre .0) (t .take-cells .last .1 .0) (now (s .args .table))
           (t .take-cells .result) (taken t),
       omega (arith, d .first-word .ensures, first-low s, few s),
     )
@@ -117,7 +115,7 @@ returns c =
     let w = c .before .before .before in
     let d = w .before .before in
     let t = d .before .before .before in
-    let s = t .before .before .before .before .before .before in
+    let s = t .before .before .before .before .before in
     let h = s .args .head in
     let a = now (s .args .arena) in
     let u = now (s .args .table) in
@@ -125,7 +123,7 @@ returns c =
     let n = s .args .words in
     let e = d .first-word .ensures in
     let (number, root, address) = c .effect .ensures in
-    let q = place-pool h a u x n (s .args .slot) (s .args .block) (s .args .father) (s .pre)
+    let q = place-pool h a u x n (s .args .slot) (s .args .block) (s .args .father) (s .pre .0)
     (t .take-cells .last .1 .0) (w .write-row .last .0) (t .take-cells .result) (taken t)
     (w .write-row .ensures
     ∙ ap (λ (y : ℕ). tableOf (set (recordsOf u) (s .args .slot) (row (h .next) y n x))) e) in
@@ -133,13 +131,12 @@ returns c =
     (granted h (c .effect .result) (t .take-cells .result) number root n (d .first-word .result) address)
     ∙ acted-by treeEngine (ask x n) (treePool h a u) _ _
     (ap (λ (y : ℕ). success (row (h .next) y n x)) e
-    ∙ place-answer h a u x n (s .args .slot) (s .args .block) (s .args .father) (s .pre)) q
+    ∙ place-answer h a u x n (s .args .slot) (s .args .block) (s .args .father) (s .pre .0)) q
 
 pub place-spec : {M : Type 1} → statement M
 place-spec =
     tie.close
     (tie.spec
-    cells-of-requires
     cast-take-cells
     take-cells-requires
     sub-first-word

@@ -101,13 +101,22 @@ may-enter-requires c κs =
     )
 
 add-result : tie.Need-add-result Inv-loop μ-loop
-add-result c = omega (arith, c .before .before .before .before .before .before .before .before .before .before .before .before .before .before .before .before .pre .0)
+add-result c =
+    let t = c .before .before .before .before .before .before .before .before in
+    let s = t .before .before .before .before .before .before .before .before in
+    omega (arith, s .pre .0)
 
 same-length : tie.Need-same-length Inv-loop μ-loop
-same-length c = c .before .before .before .before .before .before .before .before .before .loop .inv .0
+same-length c =
+    let e = c .before .before .before in
+    let l = e .before .before .before .before .before .before .loop in
+    l .inv .0
 
 same-length-2 : tie.Need-same-length-2 Inv-loop μ-loop
-same-length-2 c = c .before .before .before .may-enter .kept .1 .1 .1 .1 .1 .1 .0 ∙ c .before .before .before .before .before .before .before .before .before .loop .inv .1
+same-length-2 c =
+    let e = c .before .before .before in
+    let l = e .before .before .before .before .before .before .loop in
+    e .may-enter .kept .1 .1 .1 .1 .1 .1 .0 ∙ l .inv .1
 
 returns : tie.Need-returns Inv-loop μ-loop
 returns c =
@@ -122,8 +131,10 @@ returns c =
     let a = s .args in (
       λ few. absurd (omega arith),
       λ right.
-          let good = subst (λ (ρ : Rule). valid ρ (a .words) (a .next) (recordsOf (now (a .table))) ≡ true) (sym is) right in
-          let in-table : l .i < slots (now (a .table)) = omega (arith, t .loop-test .taken, rule .before .slot-count .ensures) in
+          let good = subst (λ (ρ : Rule). valid ρ (a .words) (a .next) (recordsOf (now (a .table))) ≡ true)
+          (sym is) right in
+          let in-table : l .i < slots (now (a .table)) =
+          omega (arith, t .loop-test .taken, rule .before .slot-count .ensures) in
           absurd (false≢true (sym (not-true (e .may-enter .result) (c .if2 .taken)) ∙ e .may-enter .ensures .1
           (valid-row ρ unit (a .words) (a .next) (now (a .table)) good (l .i) in-table)
           (valid-new ρ unit (a .words) (a .next) (now (a .table)) good (l .i) in-table))),
@@ -131,20 +142,33 @@ returns c =
 
 span-of-requires : tie.Need-span-of-requires Inv-loop μ-loop
 span-of-requires c κs =
-    let rule = c .before .before .before .before .before .before .before .before .before .before .before in
+    let t = c .before .before .before .before .before .before .before .before in
+    let rule = t .before .before .before in
     some-unit (rule .before .before .before .before .before .args .form) _ (rule .rule-of .ensures)
 
 sub-if3 : tie.Need-sub-if3 Inv-loop μ-loop
-sub-if3 c = omega (arith, c .before .before .before .before .before .before .before .before .before .before .loop .inv .2 .few)
+sub-if3 c =
+    let e = c .before .before .before .before in
+    let l = e .before .before .before .before .before .before .loop in
+    omega (arith, l .inv .2 .few)
 
 add-result-2 : tie.Need-add-result-2 Inv-loop μ-loop
-add-result-2 c = omega (arith, c .before .before .before .before .before .before .before .before .before .before .before .before .before .before .before .before .before .before .pre .0)
+add-result-2 c =
+    let t = c .before .before .before .before .before .before .before .before .before .before in
+    let s = t .before .before .before .before .before .before .before .before in
+    omega (arith, s .pre .0)
 
 same-length-3 : tie.Need-same-length-3 Inv-loop μ-loop
-same-length-3 c = c .before .before .before .before .before .before .before .before .before .before .before .loop .inv .0
+same-length-3 c =
+    let e = c .before .before .before .before .before in
+    let l = e .before .before .before .before .before .before .loop in
+    l .inv .0
 
 same-length-4 : tie.Need-same-length-4 Inv-loop μ-loop
-same-length-4 c = c .before .before .before .before .before .may-enter .kept .1 .1 .1 .1 .1 .1 .0 ∙ c .before .before .before .before .before .before .before .before .before .before .before .loop .inv .1
+same-length-4 c =
+    let e = c .before .before .before .before .before in
+    let l = e .before .before .before .before .before .before .loop in
+    e .may-enter .kept .1 .1 .1 .1 .1 .1 .0 ∙ l .inv .1
 
 returns-2 : tie.Need-returns-2 Inv-loop μ-loop
 returns-2 c =
@@ -160,8 +184,10 @@ returns-2 c =
     let a = s .args in (
       λ few. absurd (omega arith),
       λ right.
-          let good = subst (λ (ρ : Rule). valid ρ (a .words) (a .next) (recordsOf (now (a .table))) ≡ true) (sym is) right in
-          let in-table : l .i < slots (now (a .table)) = omega (arith, t .loop-test .taken, rule .before .slot-count .ensures) in
+          let good = subst (λ (ρ : Rule). valid ρ (a .words) (a .next) (recordsOf (now (a .table))) ≡ true)
+          (sym is) right in
+          let in-table : l .i < slots (now (a .table)) =
+          omega (arith, t .loop-test .taken, rule .before .slot-count .ensures) in
           let few = l .inv .2 .few in
           let units = n .span-of .ensures in
           let joins = e .may-enter .ensures .0 (not-false (e .may-enter .result) (n .before .if2 .left)) .0 in
@@ -183,21 +209,25 @@ note-row-requires c κs =
     let ρ = rule .rule-of .result in
     let is = rule .rule-of .ensures in
     let s = rule .before .before .before .before .before in
-    let F = formOf (s .args .form) in
-    let unit = some-unit (s .args .form) _ is in
+    let form = s .args .form in
+    let words = s .args .words in
+    let next = s .args .next in
+    let table = now (s .args .table) in
+    let units = n .span-of .result in
+    let unit = some-unit form _ is in
     let size = l .inv .0 in
-    let r = recordAt (now (s .args .table)) (l .i) in
-    let live = ap isEmpty (sym (read .read-row .ensures)) ∙ sym (empty .is-empty .ensures) ∙ e .before .before .if1 .left in
-    let joins = subst (Joins ρ (s .args .words) (s .args .next) (now (s .args .table)) (l .i)) (sym (n .span-of .ensures))
+    let r = recordAt table (l .i) in
+    let same-row = ap isEmpty (sym (read .read-row .ensures)) in
+    let live = same-row ∙ sym (empty .is-empty .ensures) ∙ e .before .before .if1 .left in
+    let joins = subst (Joins ρ words next table (l .i)) (sym (n .span-of .ensures))
     (e .may-enter .ensures .0 (not-false (e .may-enter .result) (n .before .if2 .left)) .0) in
-    let some = some-units ρ unit (s .args .words) (s .args .next) (now (s .args .table)) (l .i) (n .span-of .result) live joins in
-    let same = ap (λ (σ : Rule). s .args .words / σ .unit) is in
-    let inside = units-inside ρ unit (s .args .words) (s .args .next) r (n .span-of .result) (λ z. omega arith) (joins .0) (joins .2) in
+    let some = some-units ρ unit words next table (l .i) units live joins in
+    let same = ap (λ (σ : Rule). words / σ .unit) is in
+    let inside = units-inside ρ unit words next r units (λ z. omega arith) (joins .0) (joins .2) in
     let most = s .pre .0 in
-    let low = div-le-self (s .args .words) (F .cell) in
-    let room = units-cells (s .args .form) (s .args .words) (first ρ r) (n .span-of .result)
-    (cells .cells-per-unit .result) each (omega arith) in (
-      (unit, some-cells (s .args .form) _ each, some),
+    let low = div-le-self words (formOf form .cell) in
+    let room = units-cells form words (first ρ r) units (cells .cells-per-unit .result) each (omega arith) in (
+      (unit, some-cells form _ each, some),
       rw (read .read-row .ensures) (omega arith, λ bytes. omega (arith, most .2 (rw size at bytes))),
     )
 
@@ -211,10 +241,16 @@ add-held c =
     omega arith
 
 add-i-2 : tie.Need-add-i-2 Inv-loop μ-loop
-add-i-2 c = omega (arith, c .before .before .before .before .before .before .before .before .before .before .before .before .before .before .loop-test .taken)
+add-i-2 c =
+    let e = c .before .before .before .before .before .before .before .before .before in
+    let t = e .before .before .before .before .before in
+    omega (arith, t .loop-test .taken)
 
 loop-less-2 : tie.Need-loop-less-2 Inv-loop μ-loop
-loop-less-2 c = omega (arith, c .before .before .before .before .before .before .before .before .before .before .before .before .before .before .loop-test .taken)
+loop-less-2 c =
+    let e = c .before .before .before .before .before .before .before .before .before in
+    let t = e .before .before .before .before .before in
+    omega (arith, t .loop-test .taken)
 
 loop-again-2 : tie.Need-loop-again-2 Inv-loop μ-loop
 loop-again-2 c =
@@ -233,14 +269,19 @@ loop-again-2 c =
     let unit = some-unit (s .args .form) _ (rule .rule-of .ensures) in
     let per = some-cells (s .args .form) _ (cells .cells-per-unit .ensures) in
     let low = l .inv .2 .few in
+    let units = n .span-of .result in
+    let each = cells .cells-per-unit .result in
+    let map = note .note-row .last .0 in
     let (owns, residues) = e .may-enter .ensures .0 (not-false (e .may-enter .result) (n .before .if2 .left)) in
-    let joins = subst (Joins ρ (s .args .words) (s .args .next) (now (s .args .table)) (l .i)) (sym (n .span-of .ensures)) owns in (
+    let joins = subst (Joins ρ (s .args .words) (s .args .next) (now (s .args .table)) (l .i))
+    (sym (n .span-of .ensures)) owns in
+    let grown = subst (λ (x : Row). Grows (l .map) map (first ρ x * each) (units * each)) (r .read-row .ensures)
+    (note .note-row .ensures) in (
       note .note-row .kept .0 ∙ l .inv .0,
       e .may-enter .kept .1 .1 .1 .1 .1 .1 .0 ∙ l .inv .1,
-      map-next unit per (n .span-of .result) (note .note-row .last .0) (e .may-enter .last .1 .1 .1 .1 .1 .1 .0) (l .inv .2)
-          (omega (arith, t .loop-test .taken, rule .before .slot-count .ensures)) (omega arith) joins residues (note .note-row .kept .0)
-          (subst (λ (x : Row). Grows (l .map) (note .note-row .last .0) (first ρ x * cells .cells-per-unit .result)
-          (n .span-of .result * cells .cells-per-unit .result)) (r .read-row .ensures) (note .note-row .ensures)),
+      map-next unit per units map (e .may-enter .last .1 .1 .1 .1 .1 .1 .0) (l .inv .2)
+          (omega (arith, t .loop-test .taken, rule .before .slot-count .ensures)) (omega arith) joins residues
+          (note .note-row .kept .0) grown,
     )
 
 same-length-5 : tie.Need-same-length-5 Inv-loop μ-loop
@@ -252,9 +293,9 @@ same-length-6 c = c .before .loop .inv .1
 returns-3 : tie.Need-returns-3 Inv-loop μ-loop
 returns-3 c =
     let l = c .before .loop in
-    let mapped = map-end (l .inv .2) (omega (arith, c .loop-test .left, c .before .before .before .before .slot-count .ensures)) in
     let cells = c .before .before in
     let rule = cells .before in
+    let mapped = map-end (l .inv .2) (omega (arith, c .loop-test .left, rule .before .slot-count .ensures)) in
     let ρ = rule .rule-of .result in
     let is = rule .rule-of .ensures in
     let s = rule .before .before .before .before .before in
@@ -264,7 +305,8 @@ returns-3 c =
           (l .held) (l .map)) is (subst (λ k. Mapped ρ k (a .words) (a .next) (now (a .table)) (l .held) (l .map))
           (cells .cells-per-unit .ensures) mapped)),
       λ right.
-          let good = subst (λ (ρ : Rule). valid ρ (a .words) (a .next) (recordsOf (now (a .table))) ≡ true) (sym is) right in
+          let good = subst (λ (ρ : Rule). valid ρ (a .words) (a .next) (recordsOf (now (a .table))) ≡ true)
+          (sym is) right in
           rows-few ρ unit (a .words) (a .next) (now (a .table)) good (omega arith) (mapped .entered),
     )
 

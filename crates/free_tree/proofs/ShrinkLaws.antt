@@ -311,18 +311,18 @@ module _ (x k n : ℕ) (more : k < n) where
   abbrev rest : Run
   rest = run (x + k) (n - k)
 
-  abbrev Found : Tree → Type 0
-  Found t = firstThat (beginsAt x) (inorder t) ≡ some (run x n)
+  abbrev HasRun : Tree → Type 0
+  HasRun t = firstThat (beginsAt x) (inorder t) ≡ some (run x n)
 
-  pub within-shrink : (t : Tree) (lo hi : ℕ) → Within lo hi t → Found t → Within lo hi (shrink x k t)
+  pub within-shrink : (t : Tree) (lo hi : ℕ) → Within lo hi t → HasRun t → Within lo hi (shrink x k t)
   within-shrink leaf lo hi w f = w
   within-shrink (node a q b) lo hi w f =
       go (ltb x (q .start)) refl (ltb (q .start) x) refl (within-shrink a lo (q .start) (w .0))
       (within-shrink b (q .start + q .size) hi (w .2))
     where
       go : (c : Bool) → ltb x (q .start) ≡ c → (d : Bool) → ltb (q .start) x ≡ d
-          → (Found a → Within lo (q .start) (shrink x k a))
-          → (Found b → Within (q .start + q .size) hi (shrink x k b))
+          → (HasRun a → Within lo (q .start) (shrink x k a))
+          → (HasRun b → Within (q .start + q .size) hi (shrink x k b))
           → Within lo hi (cond c (node (shrink x k a) q b)
           (cond d (node a q (shrink x k b)) (heapify (run (x + k) (q .size - k)) a b)))
       go true e d g i j = (i (sym (found-left x a q b lo hi w (lt-of x (q .start) e)) ∙ f), w .1, w .2)
@@ -336,14 +336,14 @@ module _ (x k n : ℕ) (more : k < n) where
           (wider b (q .start + q .size) (x + k + (q .size - k)) hi hi (omega arith) (omega arith) (w .2))
 
   -- The fathers of the run stand above what is left of it, and below its place there are only its sons.
-  pub shrink-is : (t : Tree) (lo hi : ℕ) → Within lo hi t → Heaped t → Found t → shrink x k t ≡ insert rest (delete x t)
+  pub shrink-is : (t : Tree) (lo hi : ℕ) → Within lo hi t → Heaped t → HasRun t → shrink x k t ≡ insert rest (delete x t)
   shrink-is leaf lo hi w h f = absurd (absurd-some f)
   shrink-is (node a q b) lo hi w h f =
       go (ltb x (q .start)) refl (ltb (q .start) x) refl (shrink-is a lo (q .start) (w .0) (h .2))
       (shrink-is b (q .start + q .size) hi (w .2) (h .3))
     where
       go : (c : Bool) → ltb x (q .start) ≡ c → (d : Bool) → ltb (q .start) x ≡ d
-          → (Found a → shrink x k a ≡ insert rest (delete x a)) → (Found b → shrink x k b ≡ insert rest (delete x b))
+          → (HasRun a → shrink x k a ≡ insert rest (delete x a)) → (HasRun b → shrink x k b ≡ insert rest (delete x b))
           → cond c (node (shrink x k a) q b)
           (cond d (node a q (shrink x k b)) (heapify (run (x + k) (q .size - k)) a b))
           ≡ insert rest (cond c (node (delete x a) q b) (cond d (node a q (delete x b)) (join a b)))

@@ -25,8 +25,8 @@ abbrev pub answerOf : Answer → calls.Answer
 answerOf r = record {
   number = r .told .number;
   ticket = r .told .ticket;
-  address = r .place .address;
-  words = r .place .words;
+  address = r .block .address;
+  words = r .block .words;
 }
 
 abbrev pub treeOutcome : TreeOutcome → tree.Outcome

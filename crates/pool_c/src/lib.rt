@@ -36,7 +36,7 @@ pub struct First {
 #[repr(C)]
 pub struct Answer {
     pub told: Told,
-    pub place: Place,
+    pub block: Block,
 }
 
 #[repr(C)]
@@ -46,7 +46,7 @@ pub struct Told {
 }
 
 #[repr(C)]
-pub struct Place {
+pub struct Block {
     pub address: u32,
     pub words: u32,
 }
@@ -84,10 +84,10 @@ pub struct Burst {
 // ---- from the pools' structs to those of C
 
 // Both halves are passed, which is what makes the compiler write each at once.
-fn both(told: Told, place: Place) -> Answer
-    ensures { λ r. ⌜ (r .told ≡ told) × (r .place ≡ place) ⌝ }
+fn both(told: Told, block: Block) -> Answer
+    ensures { λ r. ⌜ (r .told ≡ told) × (r .block ≡ block) ⌝ }
 {
-    Answer { told, place }
+    Answer { told, block }
 }
 
 fn c_answer(answer: calls::Answer) -> Answer
@@ -97,11 +97,11 @@ fn c_answer(answer: calls::Answer) -> Answer
         number: answer.number,
         ticket: answer.ticket,
     };
-    let place = Place {
+    let block = Block {
         address: answer.address,
         words: answer.words,
     };
-    both(told, place)
+    both(told, block)
 }
 
 // So for the head.

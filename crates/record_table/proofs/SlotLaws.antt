@@ -88,6 +88,19 @@ module _ (f : Row → Bool) (t : Words) (i : ℕ) where
     pub scan-end : slots t ≤ k → Reached f t i k
     scan-end h = record { above = s .above; below = s .below; passed = s .passed; here = λ l. absurd (omega arith) }
 
+    -- a scan that goes on from slot k
+    pub scan-on : (r : ℕ) → Reached f t k r → Reached f t i r
+    scan-on r q = record {
+      above = omega (arith, s .above, q .above);
+      below = q .below;
+      passed = λ j a b. go j a b (decLt j k);
+      here = q .here;
+    }
+      where
+        go : (j : ℕ) → i ≤ j → j < r → Dec (j < k) → f (recordAt t j) ≡ false
+        go j a b (yes h) = s .passed j a h
+        go j a b (no h) = q .passed j (omega arith) b
+
 -- a search whose first i slots don't pass, by what a scan from there reached
 module _ (f : Row → Bool) (t : Words) (i k : ℕ) (off : (j : ℕ) → 0 ≤ j → j < i → f (recordAt t j) ≡ false)
     (r : Reached f t i k) where

@@ -9,7 +9,8 @@ ghost use Prim.Native.Nat.{_+_, _/_, _-_, _%_, _≤_, _<_};
 ghost use lib.ListN.{length, set};
 ghost use Rattle.words.specs.Lists.{isZero};
 ghost use Rattle.words.specs.Counted.{every};
-ghost use Rattle.ledger.specs.Records.{recordWords, recordAt, slots, recordsOf, tableOf, isParty, isEmpty, hasTicket};
+ghost use Rattle.ledger.specs.Records.{recordWords, recordAt, slots, recordsOf, tableOf, isParty, isEmpty, isLive};
+ghost use Rattle.ledger.specs.Records.{hasTicket};
 ghost use Rattle.ledger.specs.Units.{span, first, past, fits};
 ghost use Rattle.record_table.specs.Slots.{ticketSlot, emptySlot, Without, Reached};
 ghost use Rattle.record_table.specs.Checks.{rowOk, residueOf};
@@ -141,6 +142,35 @@ fn empty_from(table: &[u32], i: usize) -> usize
         k += 1;
     }
     k
+}
+
+// The lowest live slot from slot i on, or the number of slots.
+fn live_from(table: &[u32], i: usize) -> usize
+    requires { ⌜ i ≤ slots (now table) ⌝ }
+    ensures { λ r. ⌜ Reached isLive (now (table .entry)) i r ⌝ }
+{
+    let n = slot_count(table);
+    let mut k = i;
+    while k < n {
+        if !is_empty(read_row(table, k)) {
+            return k;
+        }
+        k += 1;
+    }
+    k
+}
+
+// The lowest live slot, or the number of slots. Slot 0 is looked at apart: in a pool that is used it is most often live.
+pub fn first_live(table: &[u32]) -> usize
+    ensures { λ r. ⌜ Reached isLive (now (table .entry)) 0 r ⌝ }
+{
+    if slot_count(table) == 0 {
+        return 0;
+    }
+    if !is_empty(read_row(table, 0)) {
+        return 0;
+    }
+    live_from(table, 1)
 }
 
 // The lowest empty slot.

@@ -19,11 +19,11 @@ use Rattle.segment_index.proofs.SignLaws.{abs-neg}
 use Rattle.segment_index.specs.Index.{indexOf}
 use Rattle.segment_blocks.specs.Blocks.{Blocks}
 use Rattle.segment_blocks.specs.Upkeep.{Touched}
-use Rattle.segment_cores.specs.Stores.{arenaOf, Sound, Granting, Releasing, Trimming, Becomes, granted}
+use Rattle.segment_cores.specs.Stores.{arenaOf, Sound, Granting, Releasing, Trimming, Becomes, grantStores}
 use Rattle.segment_cores.specs.Stores.{merged, trimmed}
 use Rattle.segment_cores.specs.Views.{word, ownedBy, Whole, RunOf, Rest}
 use Rattle.segment_cores.proofs.CutLaws.{parted, cut-placed, same-control, trims}
-use Rattle.segment_cores.proofs.PlaceLaws.{Placed, placed}
+use Rattle.segment_cores.proofs.PlaceLaws.{ControlsChange, placed}
 use Rattle.segment_cores.proofs.StoreLaws.{released, grants}
 use Rattle.segment_cores.proofs.ViewLaws.{ledger-whole, ledger-owned, control-word}
 use Rattle.segment_cores.proofs.WholeLaws.{Kind, held, free as free-kind, none, kind, whole-blocks}
@@ -146,7 +146,7 @@ module _ (L L′ : Ledger) (v : List ℤ) (t : Words) (s g p n : ℕ) (G : Grant
     pub grant-fits : p + n + y ≤ length v
     grant-fits = omega (arith, run-left .fits, G .adds .inside)
 
-    D : Placed (controls L W) (controls L′ W) p 0 p n y
+    D : ControlsChange (controls L W) (controls L′ W) p 0 p n y
     D = placed f (startsAt L) (free segmentRule L′) (startsAt L′) W A B p n (G .adds) p 0 y rest run-left
 
     cleaned : List ℤ
@@ -156,14 +156,14 @@ module _ (L L′ : Ledger) (v : List ℤ) (t : Words) (s g p n : ℕ) (G : Grant
     unfolding cleaned
     clean-long = length-wiped (pos 0) (p + 1) (p + n) v
 
-    grant-arena : granted v p n y ≡ arenaOf L′ (wiped (pos 0) (p + 1) (p + n) v)
+    grant-arena : grantStores v p n y ≡ arenaOf L′ (wiped (pos 0) (p + 1) (p + n) v)
     unfolding cleaned
     grant-arena =
         grants f (startsAt L) (free segmentRule L′) (startsAt L′) v A B p n (G .adds) y rest run-left
         (sound-word L v t s g (G .sound))
         ∙ sym (arena-view (G .next) L′ v (G .good) cleaned clean-long)
 
-    module _ (v′ : List ℤ) (stores : v′ ≡ granted v p n y) where
+    module _ (v′ : List ℤ) (stores : v′ ≡ grantStores v p n y) where
       arena-is : v′ ≡ arenaOf L′ cleaned
       unfolding cleaned
       arena-is = stores ∙ grant-arena
@@ -221,7 +221,7 @@ module _ (L L′ : Ledger) (v : List ℤ) (t : Words) (s d g p n : ℕ) (F : Rel
   M : Whole (free segmentRule L) (startsAt L) U
   M = sound-whole L v t s g (F .sound)
 
-  R : Placed (controls L′ U) (controls L U) a x p n y
+  R : ControlsChange (controls L′ U) (controls L U) a x p n y
   R = placed (free segmentRule L′) (startsAt L′) (free segmentRule L) (startsAt L) U N M p n (F .adds) a x y low right
 
   release-fits : p + n + y ≤ length v
@@ -287,7 +287,7 @@ module _ (L L′ : Ledger) (v : List ℤ) (t : Words) (s g p m k : ℕ) (T : Tri
   abbrev parts : ℕ → ℤ
   parts = word (free segmentRule L) (parted (startsAt L) p m k) Z
 
-  K : Placed (controls L′ Z) parts (p + m) 0 (p + m) k y
+  K : ControlsChange (controls L′ Z) parts (p + m) 0 (p + m) k y
   K = cut-placed (free segmentRule L) (startsAt L) (free segmentRule L′) (startsAt L′) Z old new p m k (T .cuts) y right
 
   same-weight : (u : ℕ) → u ≢ p + m → (u ≡ p + m + k → y ≡ 0) → weight (controls L′ Z u) ≡ weight (controls L Z u)

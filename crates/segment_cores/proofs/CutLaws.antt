@@ -16,8 +16,8 @@ use Rattle.words.specs.Places.{stamp}
 use Rattle.words.proofs.PlaceLaws.{length-stamp, stamp-is, stamp-keeps, stamp-sets}
 use Rattle.words.proofs.Tests.{eqb-ne, eqb-same}
 use Rattle.segment_cores.specs.Stores.{merged}
-use Rattle.segment_cores.specs.Views.{word, ownedBy, Whole, RunOf, Rest, Place, Cut}
-use Rattle.segment_cores.proofs.PlaceLaws.{Placed, placed}
+use Rattle.segment_cores.specs.Views.{word, ownedBy, Whole, RunOf, Rest, AddsBlock, Cut}
+use Rattle.segment_cores.proofs.PlaceLaws.{ControlsChange, placed}
 use Rattle.segment_cores.proofs.StoreLaws.{released}
 use Rattle.segment_cores.proofs.WordLaws.{clash, opens-before, word-held}
 
@@ -112,7 +112,7 @@ module _ (f : ℕ → Bool) (st : ℕ → ℕ) (f′ : ℕ → Bool) (st′ : �
   A₂ : Whole f (parted st p m k) W
   A₂ = parted-whole f st W A p m k (C .block) (C .some) (C .more)
 
-  behind : Place f′ st′ f (parted st p m k) W (p + m) k
+  behind : AddsBlock f′ st′ f (parted st p m k) W (p + m) k
   behind = record {
     some = C .more;
     inside = C .inside;
@@ -141,7 +141,7 @@ module _ (f : ℕ → Bool) (st : ℕ → ℕ) (f′ : ℕ → Bool) (st′ : �
   }
 
   module _ (y : ℕ) (right : RunOf f′ (p + m + k) (W - (p + m + k)) y) where
-    pub cut-placed : Placed (word f′ st′ W) (word f (parted st p m k) W) (p + m) 0 (p + m) k y
+    pub cut-placed : ControlsChange (word f′ st′ W) (word f (parted st p m k) W) (p + m) 0 (p + m) k y
     cut-placed = placed f′ st′ f (parted st p m k) W B A₂ (p + m) k behind (p + m) 0 y none-below right
 
     pub kept-word : word f′ st′ W p ≡ negℤ (pos m)

@@ -8,12 +8,12 @@ use mathlib.Core.Path.{_≡_, refl, sym, ap, _∙_}
 use lib.IntN.{ℤ, pos, negℤ}
 use Rattle.words.proofs.Tests.{not-true}
 use Rattle.stored_forms.specs.Segments.{opens}
-use Rattle.segment_cores.specs.Views.{word, Whole, RunOf, Rest, Place}
+use Rattle.segment_cores.specs.Views.{word, Whole, RunOf, Rest, AddsBlock}
 use Rattle.segment_cores.proofs.WordLaws.{clash, run-of, run-moves, opens-before, word-held, word-body}
 use Rattle.segment_cores.proofs.WordLaws.{word-open, word-shut, word-past, unstarted, past-unstarted}
 
 -- the control words before and after, with x free units from a on below the block at p and y above it
-pub record Placed (b c : ℕ → ℤ) (a x p n y : ℕ) : Type 0 where
+pub record ControlsChange (b c : ℕ → ℤ) (a x p n y : ℕ) : Type 0 where
   pub same : (u : ℕ) → u ≢ a → u ≢ p → (u ≡ p + n → y ≡ 0) → c u ≡ b u
   pub run : b a ≡ pos (x + n + y)
   pub quiet : (u : ℕ) → a < u → u < p + n + y → b u ≡ pos 0
@@ -23,7 +23,7 @@ pub record Placed (b c : ℕ → ℤ) (a x p n y : ℕ) : Type 0 where
   pub right : 0 < y → c (p + n) ≡ pos y
 
 module _ (f : ℕ → Bool) (st : ℕ → ℕ) (f′ : ℕ → Bool) (st′ : ℕ → ℕ) (W : ℕ) (A : Whole f st W) (B : Whole f′ st′ W)
-    (p n : ℕ) (P : Place f st f′ st′ W p n) (a x y : ℕ) (L : Rest f a x p) (R : RunOf f (p + n) (W - (p + n)) y) where
+    (p n : ℕ) (P : AddsBlock f st f′ st′ W p n) (a x y : ℕ) (L : Rest f a x p) (R : RunOf f (p + n) (W - (p + n)) y) where
   y-fits : p + n + y ≤ W
   y-fits = omega (arith, R .fits, P .inside)
 
@@ -131,7 +131,7 @@ module _ (f : ℕ → Bool) (st : ℕ → ℕ) (f′ : ℕ → Bool) (st′ : �
           word-past f′ st′ W (p + n) (omega arith) (past-unstarted f′ st′ W B (p + n) (omega arith))
           ∙ sym (word-past f st W (p + n) (omega arith) (past-unstarted f st W A (p + n) (omega arith)))
 
-  pub placed : Placed (word f st W) (word f′ st′ W) a x p n y
+  pub placed : ControlsChange (word f st W) (word f′ st′ W) a x p n y
   placed = record {
     same = λ u i j k. go u i j k (decLt u a) (decLt u p) (decLt u (p + n)) (ℕ-discrete u (p + n));
     run =

@@ -13,9 +13,9 @@ use lib.Seq.{getD-set-same, getD-set-other}
 use Rattle.words.specs.Places.{stamp, wiped}
 use Rattle.words.proofs.PlaceLaws.{stamp-is, length-wiped, wiped-in, wiped-out}
 use Rattle.words.proofs.Tests.{of-lt, of-ge, eqb-ne, within-low, within-high}
-use Rattle.segment_cores.specs.Stores.{putRest, granted, pastOld}
-use Rattle.segment_cores.specs.Views.{word, ownedBy, Whole, RunOf, Rest, Place}
-use Rattle.segment_cores.proofs.PlaceLaws.{Placed, placed, all-free}
+use Rattle.segment_cores.specs.Stores.{putRest, grantStores, pastOld}
+use Rattle.segment_cores.specs.Views.{word, ownedBy, Whole, RunOf, Rest, AddsBlock}
+use Rattle.segment_cores.proofs.PlaceLaws.{ControlsChange, placed, all-free}
 use Rattle.segment_cores.proofs.WordLaws.{clash}
 
 put-length : (v : List ℤ) (e y : ℕ) → length (putRest v e y) ≡ length v
@@ -53,7 +53,7 @@ past-some : (e y : ℕ) → 0 < y → e < pastOld e y
 past-some e y h = rw (of-lt 0 y h) (omega arith)
 
 module _ (f : ℕ → Bool) (st : ℕ → ℕ) (f′ : ℕ → Bool) (st′ : ℕ → ℕ) (v : List ℤ) (A : Whole f st (length v))
-    (B : Whole f′ st′ (length v)) (p n : ℕ) (P : Place f st f′ st′ (length v) p n) where
+    (B : Whole f′ st′ (length v)) (p n : ℕ) (P : AddsBlock f st f′ st′ (length v) p n) where
   abbrev W : ℕ
   W = length v
 
@@ -77,7 +77,7 @@ module _ (f : ℕ → Bool) (st : ℕ → ℕ) (f′ : ℕ → Bool) (st′ : �
     abbrev end : ℕ
     end = pastOld (p + n) y
 
-    D : Placed (word f st W) (word f′ st′ W) a x p n y
+    D : ControlsChange (word f st W) (word f′ st′ W) a x p n y
     D = placed f st f′ st′ W A B p n P a x y L R
 
     run-free : (u : ℕ) → a ≤ u → u < p + n + y → f u ≡ true
@@ -142,17 +142,17 @@ module _ (f : ℕ → Bool) (st : ℕ → ℕ) (f′ : ℕ → Bool) (st′ : �
 
   module _ (y : ℕ) (L : Rest f p 0 p) (R : RunOf f (p + n) (W - (p + n)) y)
       (stored : (u : ℕ) → u < W → ownedBy f st u ≡ false → getD v u (pos 0) ≡ word f st W u) where
-    E : Placed (word f st W) (word f′ st′ W) p 0 p n y
+    E : ControlsChange (word f st W) (word f′ st′ W) p 0 p n y
     E = placed f st f′ st′ W A B p n P p 0 y L R
 
     abbrev clean : List ℤ
     clean = wiped (pos 0) (p + 1) (p + n) v
 
-    same-there : (u : ℕ) → u ≢ p → (u ≡ p + n → y ≡ 0) → getD (granted v p n y) u (pos 0) ≡ getD v u (pos 0)
+    same-there : (u : ℕ) → u ≢ p → (u ≡ p + n → y ≡ 0) → getD (grantStores v p n y) u (pos 0) ≡ getD v u (pos 0)
     same-there u i j =
         getD-set-other (putRest v (p + n) y) p u (negℤ (pos n)) (pos 0) i ∙ put-other v (p + n) y u j
 
-    keep-there : (u : ℕ) → u < W → ownedBy f′ st′ u ≡ true → getD (granted v p n y) u (pos 0) ≡ getD clean u (pos 0)
+    keep-there : (u : ℕ) → u < W → ownedBy f′ st′ u ≡ true → getD (grantStores v p n y) u (pos 0) ≡ getD clean u (pos 0)
     keep-there u l o = same-there u head rest ∙ go (decLt u (p + 1)) (decLt u (p + n))
       where
         head : u ≢ p
@@ -176,18 +176,18 @@ module _ (f : ℕ → Bool) (st : ℕ → ℕ) (f′ : ℕ → Bool) (st′ : �
             stored u l (not-owned u (P .gap u (omega arith) b)) ∙ E .quiet u (omega arith) (omega arith)
             ∙ sym (wiped-in (pos 0) (p + 1) (p + n) v u (pos 0) (omega arith) b l)
 
-    set-there : (u : ℕ) → u < W → ownedBy f′ st′ u ≡ false → getD (granted v p n y) u (pos 0) ≡ word f′ st′ W u
+    set-there : (u : ℕ) → u < W → ownedBy f′ st′ u ≡ false → getD (grantStores v p n y) u (pos 0) ≡ word f′ st′ W u
     set-there u l o = go (ℕ-discrete u p) (ℕ-discrete u (p + n)) (decLt 0 y) (decLt u p) (decLt u (p + n))
       where
         e-in : p + n + y ≤ W
         e-in = omega (arith, R .fits, P .inside)
 
         old : u ≢ p → (u ≡ p + n → y ≡ 0) → (p ≤ u → u < p + n → ⊥)
-            → getD (granted v p n y) u (pos 0) ≡ word f′ st′ W u
+            → getD (grantStores v p n y) u (pos 0) ≡ word f′ st′ W u
         old i j h = same-there u i j ∙ stored u l (sym (owned-same u h) ∙ o) ∙ sym (E .same u i i j)
 
         go : Dec (u ≡ p) → Dec (u ≡ p + n) → Dec (0 < y) → Dec (u < p) → Dec (u < p + n)
-            → getD (granted v p n y) u (pos 0) ≡ word f′ st′ W u
+            → getD (grantStores v p n y) u (pos 0) ≡ word f′ st′ W u
         go (yes i) j q a b =
             let inside : p < length (putRest v (p + n) y) = rw (put-length v (p + n) y) (omega arith) in
             rw i (getD-set-same (putRest v (p + n) y) p (negℤ (pos n)) (pos 0) inside ∙ sym (E .block))
@@ -201,9 +201,9 @@ module _ (f : ℕ → Bool) (st : ℕ → ℕ) (f′ : ℕ → Bool) (st′ : �
             let quiet = B .alone p u (omega arith) (rw (P .head) b) in
             clash (rw (P .held u (omega arith) b, quiet)) o
 
-    pub grants : granted v p n y ≡ stamp (ownedBy f′ st′) (word f′ st′ W) (wiped (pos 0) (p + 1) (p + n) v)
+    pub grants : grantStores v p n y ≡ stamp (ownedBy f′ st′) (word f′ st′ W) (wiped (pos 0) (p + 1) (p + n) v)
     grants =
-        stamp-is (ownedBy f′ st′) (word f′ st′ W) clean (granted v p n y) (pos 0)
+        stamp-is (ownedBy f′ st′) (word f′ st′ W) clean (grantStores v p n y) (pos 0)
         (length-set (putRest v (p + n) y) p (negℤ (pos n)) ∙ put-length v (p + n) y
         ∙ sym (length-wiped (pos 0) (p + 1) (p + n) v))
         (λ u l o. keep-there u (rw (length-wiped (pos 0) (p + 1) (p + n) v) at l) o)

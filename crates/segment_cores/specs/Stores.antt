@@ -68,8 +68,8 @@ abbrev pub putRest : List ℤ → ℕ → ℕ → List ℤ
 putRest v e y = cond (ltb 0 y) (set v e (pos y)) v
 
 -- a grant: the control word of what is left of the run, and the block's own
-abbrev pub granted : List ℤ → ℕ → ℕ → ℕ → List ℤ
-granted v p n y = set (putRest v (p + n) y) p (negℤ (pos n))
+abbrev pub grantStores : List ℤ → ℕ → ℕ → ℕ → List ℤ
+grantStores v p n y = set (putRest v (p + n) y) p (negℤ (pos n))
 
 -- the end of what a release wipes: the block, and the control word of the free block above it
 abbrev pub pastOld : ℕ → ℕ → ℕ

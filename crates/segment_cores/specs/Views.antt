@@ -40,7 +40,7 @@ pub record Rest (f : ℕ → Bool) (a x p : ℕ) : Type 0 where
   pub opened : opens f a ≡ true
 
 -- f′ and st′ have a block of n units more than f and st, at p
-pub record Place (f : ℕ → Bool) (st : ℕ → ℕ) (f′ : ℕ → Bool) (st′ : ℕ → ℕ) (W p n : ℕ) : Type 0 where
+pub record AddsBlock (f : ℕ → Bool) (st : ℕ → ℕ) (f′ : ℕ → Bool) (st′ : ℕ → ℕ) (W p n : ℕ) : Type 0 where
   pub some : 0 < n
   pub inside : p + n ≤ W
   pub gap : (u : ℕ) → p ≤ u → u < p + n → f u ≡ true
@@ -52,7 +52,7 @@ pub record Place (f : ℕ → Bool) (st : ℕ → ℕ) (f′ : ℕ → Bool) (st
 
 -- L′ is L with a block of n units more, at p
 abbrev pub Adds : Ledger → Ledger → ℕ → ℕ → ℕ → Type 0
-Adds L L′ W p n = Place (free segmentRule L) (startsAt L) (free segmentRule L′) (startsAt L′) W p n
+Adds L L′ W p n = AddsBlock (free segmentRule L) (startsAt L) (free segmentRule L′) (startsAt L′) W p n
 
 -- f′ and st′ have, of the block of m + k units at p, the first m alone: the k behind them are free (02, ticket 13)
 pub record Cut (f : ℕ → Bool) (st : ℕ → ℕ) (f′ : ℕ → Bool) (st′ : ℕ → ℕ) (W p m k : ℕ) : Type 0 where

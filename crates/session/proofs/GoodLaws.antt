@@ -108,17 +108,17 @@ ours-settle ms = all-map (λ r. carryIf (planFor (r .ticket) ms) r) isOurs (λ r
     go none r h = h
     go (some q) r h = ours-carried r q h
 
--- the party that is granted words, if any
-abbrev granted : Act → ℕ
-granted (ask c n) = c
-granted (give r) = textParty
-granted (query r) = textParty
-granted (cut r n) = textParty
-granted bad = textParty
+-- the party that asks for words, the text program's where none does
+abbrev askedBy : Act → ℕ
+askedBy (ask c n) = c
+askedBy (give r) = textParty
+askedBy (query r) = textParty
+askedBy (cut r n) = textParty
+askedBy bad = textParty
 
-act-ours : (E : Engine) (p : Pool) (a : Act) → granted a ≡ textParty → ours p ≡ true → ours (poolAfter E p a) ≡ true
+act-ours : (E : Engine) (p : Pool) (a : Act) → askedBy a ≡ textParty → ours p ≡ true → ours (poolAfter E p a) ≡ true
 act-ours E =
-    act-by E (λ p a q. granted a ≡ textParty → ours p ≡ true → ours q ≡ true)
+    act-by E (λ p a q. askedBy a ≡ textParty → ours p ≡ true → ours q ≡ true)
     (λ p a g h. h)
     (λ p c n k asked g h. ap ours (grant-store E p c n k)
     ∙ ap (all isOurs) (ledger-store E (entered E p c n k) (nextAfter (p .head .next)) (onArena p (zeroed E p c n k)))
@@ -126,7 +126,7 @@ act-ours E =
     (λ p q r e f g h. ap (all isOurs) (ledger-store E (settle (member (r .ticket) q ∷ []) (ledger p)) (p .head .next) p)
     ∙ ours-settle (member (r .ticket) q ∷ []) (ledger p) h)
 
-right-act : (p : Pool) (a : Act) → granted a ≡ textParty → rightPool (serving p) ≡ true
+right-act : (p : Pool) (a : Act) → askedBy a ≡ textParty → rightPool (serving p) ≡ true
     → rightPool (serving (poolAfter treeEngine p a)) ≡ true
 right-act p a g h =
     right-of (poolAfter treeEngine p a) (act-sound treeEngine tree-laws p a (right-sound p h))
@@ -135,7 +135,7 @@ right-act p a g h =
     (act-ours treeEngine p a g (right-ours p h))
 
 -- a line asks for party 1
-line-asks : (q : LineRequest) → granted (actOf q) ≡ textParty
+line-asks : (q : LineRequest) → askedBy (actOf q) ≡ textParty
 line-asks (request.Ask n) = refl
 line-asks (request.Give r) = refl
 line-asks (request.Cut r n) = refl

@@ -1,8 +1,9 @@
 -- The map of a table's records, slot after slot. Assumes nothing.
-use Prim.Native.Nat.{ℕ, _+_, _*_, _/_, _≤_, _<_}
+use Prim.Native.Nat.{ℕ, zero, suc, _+_, _*_, _/_, _≤_, _<_}
 use native.Mathlib.Decide.{decLe, decLt, ℕ-discrete}
 use native.Mathlib.Nat.{add-zero, add-mul, zero-mul, mul-comm, mul-left-comm, mul-le-mul-right, mul-lt-mul-of-pos-right}
 use native.Mathlib.Nat.{div-le-self, div-mul-le-self, le-div-iff-mul-le, div-lt-iff-lt-mul}
+use native.Mathlib.Numerals.{add-one}
 use native.Mathlib.Omega.{arith}
 use mathlib.Core.Path.{_≡_, refl, sym, ap, _∙_, subst}
 use mathlib.Core.Logic.{_≢_}
@@ -10,7 +11,7 @@ use mathlib.Core.Bool.{Bool, true, false, false≢true}
 use lib.Dec.{eqb}
 use lib.ListN.{length}
 use Rattle.words.specs.Lists.{Words, all, isZero}
-use Rattle.words.proofs.Tests.{not-true}
+use Rattle.words.proofs.Tests.{not-true, not-false}
 use Rattle.ledger.specs.declared.Row.{Row}
 use Rattle.ledger.specs.declared.Rule.{Rule}
 use Rattle.ledger.specs.Records.{recordAt, recordsOf, slots, isEmpty, isLive}
@@ -245,6 +246,16 @@ module _ {ρ : Rule} {p W next : ℕ} {t : Words} {m : ℕ} where
       subst (λ h. Mapping ρ p W next t m map seen h (i + 1)) (add-zero held)
       (map-next unit per 0 map seen c l (omega (arith, c .few)) (empty-joins ρ W next t i none)
       (note-none m seen t i (c .residues) none) refl (grows-none map (first ρ (recordAt t i) * p) (0 * p) (zero-mul p)))
+
+  -- so do all before the first live one
+  pub map-pass : (unit : 0 < ρ .unit) (per : 0 < p) {map seen : Words} {held : ℕ}
+      → Mapping ρ p W next t m map seen held 0 → (k : ℕ) → k ≤ slots t
+      → ((j : ℕ) → 0 ≤ j → j < k → isLive (recordAt t j) ≡ false) → Mapping ρ p W next t m map seen held k
+  map-pass unit per c zero h off = c
+  map-pass unit per {map} {seen} {held} c (suc k) h off =
+      subst (Mapping ρ p W next t m map seen held) (add-one k)
+      (map-skip unit per (map-pass unit per c k (omega arith) (λ j a b. off j a (omega arith))) (omega arith)
+      (not-false (isEmpty (recordAt t k)) (off k (omega arith) (omega arith))))
 
   pub map-end : {map seen : Words} {held i : ℕ} → Mapping ρ p W next t m map seen held i → slots t ≤ i
       → Mapped ρ p W next t held map

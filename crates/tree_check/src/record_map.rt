@@ -180,10 +180,11 @@ pub fn map_rows(
     ensures { λ r. ⌜ (valid (formRule (formOf form)) words next (recordsOf (now (table .entry))) ≡ true → r ≤ words) ⌝ }
 {
     let count = record_table::slot_count(table);
+    let first = record_table::first_live(table);
     let rule = rule_of(form);
     let per = cells_per_unit(form);
     let mut held: usize = 0;
-    let mut i = 0;
+    let mut i = first;
     while i < count {
         let r = record_table::read_row(table, i);
         if record_table::is_empty(r) {

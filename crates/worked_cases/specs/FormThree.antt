@@ -29,8 +29,8 @@ memory form words = poolIn form 0 0 (replicate words 7) (replicate 16 9)
 abbrev pub requests : List (Call Words)
 requests = format 1 ∷ allocate 1 5 ∷ allocate 1 4 ∷ allocate 1 6 ∷ allocate 1 1 ∷ []
 
-abbrev pub granted : List State
-granted =
+abbrev pub expected : List State
+expected =
     (state (zeroAnswer) (1 ∷ 3 ∷ []) 1
     (12 ∷ 0 ∷ 0 ∷ 0 ∷ 0 ∷ 0 ∷ 0 ∷ 0 ∷ 0 ∷ 0 ∷ 0 ∷ 0 ∷ 0 ∷ 0 ∷ 0 ∷ 0 ∷ 0 ∷ 0 ∷ 0 ∷ 0 ∷ 0 ∷ 0 ∷ 0 ∷ 0 ∷ [])
     (0 ∷ 0 ∷ 0 ∷ 0 ∷ 0 ∷ 0 ∷ 0 ∷ 0 ∷ 0 ∷ 0 ∷ 0 ∷ 0 ∷ 0 ∷ 0 ∷ 0 ∷ 0 ∷ []) ([])) ∷

@@ -3,7 +3,7 @@ use mathlib.Core.Path.{ap₂}
 use borrow.Author.Needs.{needs}
 use Rattle.calls.specs.declared.Answer.{Answer}
 use Rattle.pool_c.specs.declared.Told.{Told}
-use Rattle.pool_c.specs.declared.Place.{Place}
+use Rattle.pool_c.specs.declared.Block.{Block}
 use Rattle.pool_c.proofs.c_answer.Statement.{statement}
 use Rattle.pool_c.proofs.c_answer.Tie as tie
 
@@ -11,7 +11,7 @@ both-requires : tie.Need-both-requires
 both-requires c κs = search needs
 
 -- the answer with these halves
-abbrev whole : Told → Place → Answer
+abbrev whole : Told → Block → Answer
 whole t p = record { number = t .number; ticket = t .ticket; address = p .address; words = p .words }
 
 returns : tie.Need-returns

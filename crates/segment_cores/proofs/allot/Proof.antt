@@ -6,7 +6,7 @@ use mathlib.Core.Path.{_≡_, _∙_, ap}
 use borrow.Author.Needs.{needs}
 use lib.IntN.{ℤ, pos, negℤ, natAbs}
 use lib.ListN.{getD, set}
-use Rattle.segment_cores.specs.Stores.{granted}
+use Rattle.segment_cores.specs.Stores.{grantStores}
 use Rattle.segment_cores.proofs.ChangeLaws.{controls, grant-inside, grant-large, grant-fits, grant-touches}
 use Rattle.segment_cores.proofs.ChangeLaws.{grant-becomes}
 use Rattle.segment_cores.proofs.allot.Statement.{statement}
@@ -34,7 +34,7 @@ left c = ap (λ (z : ℕ). z - c .before .before .before .args .n) (c .size-at .
 stored : (c : tie.After-put-held)
     → let s = c .before .before .before .before .before in
     let a = s .before .before .before .args in
-    c .put-held .last .0 ≡ granted (a .v .now) (a .p) (a .n) (s .size-at .result - a .n)
+    c .put-held .last .0 ≡ grantStores (a .v .now) (a .p) (a .n) (s .size-at .result - a .n)
 stored c =
     let a = c .before .before .before .before .before .before .before .before .args in
     c .put-held .ensures

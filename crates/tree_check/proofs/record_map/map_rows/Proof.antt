@@ -19,20 +19,23 @@ use Rattle.record_table.specs.Partition.{Joins}
 use Rattle.record_table.proofs.PartitionLaws.{valid-row, valid-new}
 use Rattle.record_table.proofs.EnterLaws.{enter-next}
 use Rattle.tree_check.specs.Maps.{Grows, Mapped}
-use Rattle.tree_check.proofs.MapLaws.{Mapping, map-start, map-next, map-skip, map-end, units-inside, rows-few}
+use Rattle.tree_check.proofs.MapLaws.{Mapping, map-start, map-next, map-skip, map-pass, map-end, units-inside, rows-few}
 use Rattle.tree_check.proofs.MapLaws.{some-units, some-cells, units-cells}
 use Rattle.tree_check.proofs.record_map.map_rows.Statement.{statement}
 use Rattle.tree_check.proofs.record_map.map_rows.Tie as tie
 
 abbrev Inv-loop : tie.InvT-loop
-Inv-loop form next table words map₀ seen₀ m count rule per held₀ i₀ map seen held i =
+Inv-loop form next table words map₀ seen₀ m count first rule per held₀ i₀ map seen held i =
     (length map ≡ length map₀) × (length seen ≡ length seen₀) × Mapping rule per words next table m map seen held i
 
 abbrev μ-loop : tie.MeasureT-loop
-μ-loop form next table words map₀ seen₀ m count rule per held₀ i₀ map seen held i = count - i
+μ-loop form next table words map₀ seen₀ m count first rule per held₀ i₀ map seen held i = count - i
 
 slot-count-requires : tie.Need-slot-count-requires Inv-loop μ-loop
 slot-count-requires c κs = search needs
+
+first-live-requires : tie.Need-first-live-requires Inv-loop μ-loop
+first-live-requires c κs = search needs
 
 rule-of-requires : tie.Need-rule-of-requires Inv-loop μ-loop
 rule-of-requires c κs = search needs
@@ -46,11 +49,21 @@ some-unit f ρ is = subst (λ (ρ : Rule). 0 < ρ .unit) (sym is) (form-unit f)
 
 loop-holds : tie.Need-loop-holds Inv-loop μ-loop
 loop-holds c =
-    let s = c .before .before .before .before .before .before in
-    (refl, refl, map-start (now (s .args .map)) (now (s .args .seen)) (s .pre .1 .0 .0) (s .pre .1 .1 .0))
+    let rule = c .before in
+    let live = rule .before in
+    let s = live .before .before .before .before .before in
+    let unit = some-unit (s .args .form) _ (rule .rule-of .ensures) in
+    let per = some-cells (s .args .form) _ (c .cells-per-unit .ensures) in
+    let reached = live .first-live .ensures in (
+      refl,
+      refl,
+      map-pass unit per (map-start (now (s .args .map)) (now (s .args .seen)) (s .pre .1 .0 .0) (s .pre .1 .1 .0))
+          (live .first-live .result) (reached .below) (reached .passed),
+    )
 
 read-row-requires : tie.Need-read-row-requires Inv-loop μ-loop
-read-row-requires c κs = omega (arith, c .loop-test .taken, c .before .before .before .before .slot-count .ensures)
+read-row-requires c κs =
+    omega (arith, c .loop-test .taken, c .before .before .before .before .before .slot-count .ensures)
 
 is-empty-requires : tie.Need-is-empty-requires Inv-loop μ-loop
 is-empty-requires c κs = search needs
@@ -69,13 +82,13 @@ loop-again c =
     let l = t .before .loop in
     let cells = t .before .before in
     let rule = cells .before in
-    let s = rule .before .before .before .before .before in
+    let s = rule .before .before .before .before .before .before in
     let unit = some-unit (s .args .form) _ (rule .rule-of .ensures) in
     let per = some-cells (s .args .form) _ (cells .cells-per-unit .ensures) in
     let none = ap isEmpty (sym (r .read-row .ensures)) ∙ sym (empty .is-empty .ensures) ∙ c .if1 .taken in (
       l .inv .0,
       l .inv .1,
-      map-skip unit per (l .inv .2) (omega (arith, t .loop-test .taken, rule .before .slot-count .ensures)) none,
+      map-skip unit per (l .inv .2) (omega (arith, t .loop-test .taken, rule .before .before .slot-count .ensures)) none,
     )
 
 may-enter-requires : tie.Need-may-enter-requires Inv-loop μ-loop
@@ -85,13 +98,13 @@ may-enter-requires c κs =
     let t = r .before in
     let l = t .before .loop in
     let rule = t .before .before .before in
-    let s = rule .before .before .before .before .before in
+    let s = rule .before .before .before .before .before .before in
     let is = rule .rule-of .ensures in
     let whole = subst (λ (ρ : Rule). s .args .words % ρ .unit ≡ 0) (sym is) (s .pre .1 .1 .1) in (
       (
         some-unit (s .args .form) _ is,
         whole,
-        omega (arith, t .loop-test .taken, rule .before .slot-count .ensures),
+        omega (arith, t .loop-test .taken, rule .before .before .slot-count .ensures),
         r .read-row .ensures,
       ),
       (
@@ -103,7 +116,7 @@ may-enter-requires c κs =
 add-result : tie.Need-add-result Inv-loop μ-loop
 add-result c =
     let t = c .before .before .before .before .before .before .before .before in
-    let s = t .before .before .before .before .before .before .before .before in
+    let s = t .before .before .before .before .before .before .before .before .before in
     omega (arith, s .pre .0)
 
 same-length : tie.Need-same-length Inv-loop μ-loop
@@ -126,7 +139,7 @@ returns c =
     let rule = t .before .before .before in
     let ρ = rule .rule-of .result in
     let is = rule .rule-of .ensures in
-    let s = rule .before .before .before .before .before in
+    let s = rule .before .before .before .before .before .before in
     let unit = some-unit (s .args .form) _ is in
     let a = s .args in (
       λ few. absurd (omega arith),
@@ -134,7 +147,7 @@ returns c =
           let good = subst (λ (ρ : Rule). valid ρ (a .words) (a .next) (recordsOf (now (a .table))) ≡ true)
           (sym is) right in
           let in-table : l .i < slots (now (a .table)) =
-          omega (arith, t .loop-test .taken, rule .before .slot-count .ensures) in
+          omega (arith, t .loop-test .taken, rule .before .before .slot-count .ensures) in
           absurd (false≢true (sym (not-true (e .may-enter .result) (c .if2 .taken)) ∙ e .may-enter .ensures .1
           (valid-row ρ unit (a .words) (a .next) (now (a .table)) good (l .i) in-table)
           (valid-new ρ unit (a .words) (a .next) (now (a .table)) good (l .i) in-table))),
@@ -144,7 +157,7 @@ span-of-requires : tie.Need-span-of-requires Inv-loop μ-loop
 span-of-requires c κs =
     let t = c .before .before .before .before .before .before .before .before in
     let rule = t .before .before .before in
-    some-unit (rule .before .before .before .before .before .args .form) _ (rule .rule-of .ensures)
+    some-unit (rule .before .before .before .before .before .before .args .form) _ (rule .rule-of .ensures)
 
 sub-if3 : tie.Need-sub-if3 Inv-loop μ-loop
 sub-if3 c =
@@ -155,7 +168,7 @@ sub-if3 c =
 add-result-2 : tie.Need-add-result-2 Inv-loop μ-loop
 add-result-2 c =
     let t = c .before .before .before .before .before .before .before .before .before .before in
-    let s = t .before .before .before .before .before .before .before .before in
+    let s = t .before .before .before .before .before .before .before .before .before in
     omega (arith, s .pre .0)
 
 same-length-3 : tie.Need-same-length-3 Inv-loop μ-loop
@@ -179,7 +192,7 @@ returns-2 c =
     let rule = t .before .before .before in
     let ρ = rule .rule-of .result in
     let is = rule .rule-of .ensures in
-    let s = rule .before .before .before .before .before in
+    let s = rule .before .before .before .before .before .before in
     let unit = some-unit (s .args .form) _ is in
     let a = s .args in (
       λ few. absurd (omega arith),
@@ -187,7 +200,7 @@ returns-2 c =
           let good = subst (λ (ρ : Rule). valid ρ (a .words) (a .next) (recordsOf (now (a .table))) ≡ true)
           (sym is) right in
           let in-table : l .i < slots (now (a .table)) =
-          omega (arith, t .loop-test .taken, rule .before .slot-count .ensures) in
+          omega (arith, t .loop-test .taken, rule .before .before .slot-count .ensures) in
           let few = l .inv .2 .few in
           let units = n .span-of .ensures in
           let joins = e .may-enter .ensures .0 (not-false (e .may-enter .result) (n .before .if2 .left)) .0 in
@@ -208,7 +221,7 @@ note-row-requires c κs =
     let rule = cells .before in
     let ρ = rule .rule-of .result in
     let is = rule .rule-of .ensures in
-    let s = rule .before .before .before .before .before in
+    let s = rule .before .before .before .before .before .before in
     let form = s .args .form in
     let words = s .args .words in
     let next = s .args .next in
@@ -237,7 +250,7 @@ add-held c =
     let l = i .before .before .before .before .before .before .before .before .before .before .before in
     let few = i .if3 .left in
     let low = l .loop .inv .2 .few in
-    let most = l .before .before .before .before .before .before .before .pre .0 in
+    let most = l .before .before .before .before .before .before .before .before .pre .0 in
     omega arith
 
 add-i-2 : tie.Need-add-i-2 Inv-loop μ-loop
@@ -264,7 +277,7 @@ loop-again-2 c =
     let l = t .before .loop in
     let cells = t .before .before in
     let rule = cells .before in
-    let s = rule .before .before .before .before .before in
+    let s = rule .before .before .before .before .before .before in
     let ρ = rule .rule-of .result in
     let unit = some-unit (s .args .form) _ (rule .rule-of .ensures) in
     let per = some-cells (s .args .form) _ (cells .cells-per-unit .ensures) in
@@ -280,7 +293,7 @@ loop-again-2 c =
       note .note-row .kept .0 ∙ l .inv .0,
       e .may-enter .kept .1 .1 .1 .1 .1 .1 .0 ∙ l .inv .1,
       map-next unit per units map (e .may-enter .last .1 .1 .1 .1 .1 .1 .0) (l .inv .2)
-          (omega (arith, t .loop-test .taken, rule .before .slot-count .ensures)) (omega arith) joins residues
+          (omega (arith, t .loop-test .taken, rule .before .before .slot-count .ensures)) (omega arith) joins residues
           (note .note-row .kept .0) grown,
     )
 
@@ -295,10 +308,10 @@ returns-3 c =
     let l = c .before .loop in
     let cells = c .before .before in
     let rule = cells .before in
-    let mapped = map-end (l .inv .2) (omega (arith, c .loop-test .left, rule .before .slot-count .ensures)) in
+    let mapped = map-end (l .inv .2) (omega (arith, c .loop-test .left, rule .before .before .slot-count .ensures)) in
     let ρ = rule .rule-of .result in
     let is = rule .rule-of .ensures in
-    let s = rule .before .before .before .before .before in
+    let s = rule .before .before .before .before .before .before in
     let unit = some-unit (s .args .form) _ is in
     let a = s .args in (
       (λ e. subst (λ (ρ : Rule). Mapped ρ (cellsPerUnit (formOf (a .form))) (a .words) (a .next) (now (a .table))
@@ -317,6 +330,7 @@ map-rows-spec =
     Inv-loop
     μ-loop
     slot-count-requires
+    first-live-requires
     rule-of-requires
     cells-per-unit-requires
     loop-holds

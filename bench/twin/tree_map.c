@@ -77,7 +77,16 @@ static bool map_table(tree_map *m, uint32_t form, size_t words, const uint32_t *
 #endif
     m->cells = words / cell_words(form);
     no_blocks(m, slots);
-    for (size_t i = 0; i < slots; i++) {
+    size_t i = 0;
+#if !TWIN_EXIT
+    // Up to the first live slot nothing is to be noted. That helps empty and large pools; small ones in use are quicker
+    // without, so the other twins have it not.
+    if (is_empty(read_row(table, 0)))
+        do
+            i++;
+        while (i < slots && is_empty(read_row(table, i)));
+#endif
+    for (; i < slots; i++) {
         row r = read_row(table, i);
         if (is_empty(r))
             continue;

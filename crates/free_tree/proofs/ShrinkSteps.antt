@@ -20,7 +20,7 @@ use Rattle.free_tree.specs.Held.{Heapified, Longer}
 use Rattle.free_tree.proofs.RunOrder.{wider}
 use Rattle.free_tree.proofs.CellLaws.{no-node-below, no-node-above}
 use Rattle.free_tree.proofs.StepLaws.{count, count-at, rooted, rooted-length, at-none, at-small, at-left}
-use Rattle.free_tree.proofs.StepLaws.{at-right, left-replaced, right-replaced}
+use Rattle.free_tree.proofs.StepLaws.{at-right, left-kept, right-kept, left-replaced, right-replaced}
 use Rattle.free_tree.proofs.JoinSteps.{at-top}
 use Rattle.free_tree.proofs.PlaceSteps.{Local, place-tree}
 use Rattle.free_tree.proofs.ChangeSteps.{beyond, put-between}
@@ -179,6 +179,17 @@ module _ {F : Form} (readable : Readable F (F .links)) where
           left-step p (both-over p o) (sym (which (node c (run (a - 1) i) d) tb q (p .right)) ∙ e)
           (post d tb (inner-left p son)) put) ta (p .left) p
 
+      -- its link to the son stays
+      pub heapify-keep-left : {m₁ : Words} {s q : ℕ} → (v && w) ≡ false → u ≡ true → s ≡ rightAt F m (a - 1)
+          → Heapified F m m₁ s b (run x n) q → q ≡ s → Heapified F m m₁ a b (run x n) a
+      heapify-keep-left {m₁} o e son post same ta tb p =
+          rooted (λ t. Between F m a b (run x n) t tb
+          → Became F m m₁ (NoNodeOfNor t tb x) a (heapify (run x n) t tb)) (left-root which e (ta, tb, p))
+          (λ c i d q p.
+          let made = post d tb (inner-left p son) in
+          left-step p (both-over p o) (sym (which (node c (run (a - 1) i) d) tb q (p .right)) ∙ e) made
+          (right-kept readable q made (none-inside p (a - 1) (omega (arith, p .under .1))) (same ∙ son))) ta (p .left) p
+
       pub right-root : (v && w) ≡ false → u ≡ false → Sides F m a b (run x n) → b ≢ 0
       right-root o e (ta, tb, p) z =
           at-none (λ t. (standsOver (run x n) ta && standsOver (run x n) t) ≡ false → false ≡ heavier ta t → ⊥) z
@@ -204,6 +215,16 @@ module _ {F : Form} (readable : Readable F (F .links)) where
             (λ c i d q p.
             right-step p (both-over p o) (sym (which ta (node c (run (b - 1) i) d) (p .left) q) ∙ e)
             (post ta c (inner-right p son)) put) tb (p .right) p
+
+        pub heapify-keep-right : {m₁ : Words} {q : ℕ} → Heapified F m m₁ a s (run x n) q → q ≡ s
+            → Heapified F m m₁ a b (run x n) b
+        heapify-keep-right {m₁} post same ta tb p =
+            rooted (λ t. Between F m a b (run x n) ta t
+            → Became F m m₁ (NoNodeOfNor ta t x) b (heapify (run x n) ta t)) (right-root o e (ta, tb, p))
+            (λ c i d q p.
+            let made = post ta c (inner-right p son) in
+            right-step p (both-over p o) (sym (which ta (node c (run (b - 1) i) d) (p .left) q) ∙ e) made
+            (left-kept readable q made (none-outside p (b - 1) (omega arith)) (same ∙ son))) tb (p .right) p
 
   -- the link to what was made is small
   pub heapified-small : {m m′ : Words} {a b q : ℕ} {r : Run} → Heapified F m m′ a b r q → Sides F m a b r

@@ -327,7 +327,7 @@ fn is_heavier(form: u32, arena: &[u32], a: usize, b: usize) -> bool
 
 // Puts the block of `n` cells at cell `x` between the trees at the links `lo` and `hi`, and returns the link to the
 // whole. Most often it stands above both roots, and the trees are its sons as they are. Else the heavier root stays on
-// top, and the block goes down its inner side.
+// top, and the block goes down its inner side; a link that stays is not written.
 fn heapify(form: u32, arena: &mut [u32], lo: usize, hi: usize, x: usize, n: u32) -> usize
     requires { ⌜ ((ta : Tree) × (tb : Tree) × Between (formOf form) (now arena) lo hi (run x n) ta tb) ⌝ }
     ensures { λ r. ⌜ Heapified (formOf form) (now (arena .entry)) (now (arena .exit)) lo hi (run x n) r ⌝ }
@@ -339,11 +339,17 @@ fn heapify(form: u32, arena: &mut [u32], lo: usize, hi: usize, x: usize, n: u32)
     if is_heavier(form, arena, lo, hi) {
         let s = right_of(form, arena, lo - 1);
         let q = heapify(form, arena, s, hi, x, n);
+        if q == s {
+            return lo;
+        }
         set_right(form, arena, lo - 1, q);
         return lo;
     }
     let s = left_of(form, arena, hi - 1);
     let q = heapify(form, arena, lo, s, x, n);
+    if q == s {
+        return hi;
+    }
     set_left(form, arena, hi - 1, q);
     hi
 }

@@ -31,7 +31,7 @@ unfolding treeMachine
 list-of-two = (refl, refl)
 
 pub no-parties : (map (λ c. numbers treeEngine sharedTree (everyCall c)) (0 ∷ 256 ∷ 4294967295 ∷ [])
-    ≡ replicate 3 (replicate 5 12))
+    ≡ replicate 3 (replicate 6 12))
     × (soundBy (0 ∷ 1 ∷ 255 ∷ 256 ∷ 4294967295 ∷ []) ≡ false ∷ true ∷ true ∷ false ∷ false ∷ [])
 unfolding treeMachine
 no-parties = (refl, refl)

@@ -7,7 +7,7 @@ use lib.ListN.{replicate}
 use Rattle.words.specs.Lists.{Words}
 use Rattle.ledger.specs.Records.{row, Member, vacate, member}
 use Rattle.calls.specs.Pool.{Pool, withTable, Engine, sound}
-use Rattle.calls.specs.Step.{Call, copy, allocate, release, find, look, list, step}
+use Rattle.calls.specs.Step.{Call, copy, allocate, release, trim, find, look, list, step}
 use Rattle.calls.specs.Engines.{treeEngine}
 use Rattle.calls.specs.Lent.{Event, onWhole}
 use Rattle.worked_cases.specs.Sequences.{treeStart, segmentStart, otherWords}
@@ -48,7 +48,8 @@ listedTable = 1 ∷ 0 ∷ 5 ∷ 1 ∷ 4 ∷ 6 ∷ 3 ∷ 2 ∷ 3 ∷ 10 ∷ 6 ∷
 
 abbrev pub everyCall : ℕ → List (Call Words)
 everyCall c =
-    allocate c 1 ∷ release (row 1 0 5 c) ∷ find (row 1 0 5 c) ∷ look (row 1 0 5 c) [] ∷ list c [] [] ∷ []
+    allocate c 1 ∷ release (row 1 0 5 c) ∷ trim (row 1 0 5 c) 3 ∷ find (row 1 0 5 c) ∷ look (row 1 0 5 c) []
+    ∷ list c [] [] ∷ []
 
 abbrev pub heldBy : ℕ → Pool
 heldBy c = withTable (1 ∷ 0 ∷ 5 ∷ c ∷ 2 ∷ 6 ∷ 4 ∷ 2 ∷ 3 ∷ 10 ∷ 6 ∷ 255 ∷ 0 ∷ 0 ∷ 0 ∷ 0 ∷ []) treeStart

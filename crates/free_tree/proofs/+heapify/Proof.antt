@@ -1,6 +1,6 @@
 -- `free_tree::heapify` meets its contract: the block stays on top, or goes on down the inner side of the heavier root.
 -- The measure is the number of nodes of both trees. Assumes nothing.
--- In a need, `b3` is the place three before its own, and `s` the start.
+-- In a need, `h` is the place behind the call, `d` behind the choice of a side and `s` the start; `b4` is four before.
 use Prim.Native.Nat.{ℕ, _+_, _<_}
 use native.Mathlib.Omega.{arith}
 use mathlib.Core.Path.{_∙_}
@@ -15,7 +15,8 @@ use Rattle.free_tree.proofs.Numbers.{falls-below, in-kept}
 use Rattle.free_tree.proofs.StepLaws.{count, at-in}
 use Rattle.free_tree.proofs.ChangeSteps.{between-ready}
 use Rattle.free_tree.proofs.ShrinkSteps.{between-in, left-root, right-root, left-inner, right-inner}
-use Rattle.free_tree.proofs.ShrinkSteps.{heapify-top, heapify-down-left, heapify-down-right, heapified-small}
+use Rattle.free_tree.proofs.ShrinkSteps.{heapify-top, heapify-down-left, heapify-down-right, heapify-keep-left}
+use Rattle.free_tree.proofs.ShrinkSteps.{heapify-keep-right, heapified-small}
 use Rattle.free_tree.proofs.heapify.Reads as heapify
 use Rattle.free_tree.proofs.heapify.Kinds as heapify-kinds
 use Rattle.free_tree.proofs.+heapify.Lts-heapify as heapify-lts
@@ -119,9 +120,24 @@ heapify-heapify-requires t c κs =
     left-inner (readable _) (b1 .is-heavier .ensures) (d .if2 .taken) (c .before .right-of .ensures) (s .pre .1) in
     (falls-below (s .pre .0) less, inner)
 
+heapify-same-length-2 : (t : ℕ) → heapify-lts.Need-same-length-2 (heapify-claims t) (heapify-at t) heapify.Post
+heapify-same-length-2 t c =
+    c .before .before .before .heapify .kept .1 .0
+
+heapify-returns-2 : (t : ℕ) → heapify-lts.Need-returns-2 (heapify-claims t) (heapify-at t) heapify.Post
+heapify-returns-2 t c =
+    let h = c .before .before .before in
+    let d = h .before .before .before .before in
+    let b1 = d .before in
+    let b4 = b1 .before .before .before in
+    let s = b4 .before .before .before .before .before in
+    heapify-keep-left (readable _) (b4 .before .before .over-root .ensures) (b4 .over-root2 .ensures) (b1 .is-heavier .ensures)
+    (b1 .before .before .if1 .left) (d .if2 .taken) (h .before .before .right-of .ensures) (h .heapify .ensures) (c .if3 .taken)
+
 heapify-sub-set-right : (t : ℕ) → heapify-lts.Need-sub-set-right (heapify-claims t) (heapify-at t) heapify.Post
 heapify-sub-set-right t c =
-    let d = c .before .before .before .before .before .before .before in
+    let h = c .before .before .before .before in
+    let d = h .before .before .before .before in
     let b1 = d .before in
     let b4 = b1 .before .before .before in
     let s = b4 .before .before .before .before .before in
@@ -130,34 +146,35 @@ heapify-sub-set-right t c =
 
 heapify-set-right-requires : (t : ℕ) → heapify-lts.Need-set-right-requires (heapify-claims t) (heapify-at t) heapify.Post
 heapify-set-right-requires t c κs =
-    let b3 = c .before .before .before in
-    let d = b3 .before .before .before .before in
+    let h = c .before .before .before .before in
+    let d = h .before .before .before .before in
     let b1 = d .before in
     let b4 = b1 .before .before .before in
     let s = b4 .before .before .before .before .before in
     let which = b1 .is-heavier .ensures in
     let root = left-root (readable _) which (d .if2 .taken) (s .pre .1) in
     let (less, inner) =
-    left-inner (readable _) which (d .if2 .taken) (b3 .before .before .right-of .ensures) (s .pre .1) in
+    left-inner (readable _) which (d .if2 .taken) (h .before .before .right-of .ensures) (s .pre .1) in
     let (ta, tb, p) = s .pre .1 in (
-      in-kept (formOf (s .args .form) .cell) (b3 .heapify .kept .1 .0) (at-in (readable _) root (ta, p .left)),
-      heapified-small (readable _) (b3 .heapify .ensures) inner,
+      in-kept (formOf (s .args .form) .cell) (h .heapify .kept .1 .0) (at-in (readable _) root (ta, p .left)),
+      heapified-small (readable _) (h .heapify .ensures) inner,
     )
 
-heapify-same-length-2 : (t : ℕ) → heapify-lts.Need-same-length-2 (heapify-claims t) (heapify-at t) heapify.Post
-heapify-same-length-2 t c =
-    let b2 = c .before .before in b2 .set-right .kept .1 .0 ∙ b2 .before .before .before .before .heapify .kept .1 .0
+heapify-same-length-3 : (t : ℕ) → heapify-lts.Need-same-length-3 (heapify-claims t) (heapify-at t) heapify.Post
+heapify-same-length-3 t c =
+    let b2 = c .before .before in b2 .set-right .kept .1 .0 ∙ b2 .before .before .before .before .before .heapify .kept .1 .0
 
-heapify-returns-2 : (t : ℕ) → heapify-lts.Need-returns-2 (heapify-claims t) (heapify-at t) heapify.Post
-heapify-returns-2 t c =
+heapify-returns-3 : (t : ℕ) → heapify-lts.Need-returns-3 (heapify-claims t) (heapify-at t) heapify.Post
+heapify-returns-3 t c =
     let b2 = c .before .before in
-    let b6 = b2 .before .before .before .before in
-    let d = b6 .before .before .before .before in
+    let h = b2 .before .before .before .before .before in
+    let d = h .before .before .before .before in
     let b1 = d .before in
     let b4 = b1 .before .before .before in
     let s = b4 .before .before .before .before .before in
-    heapify-down-left (readable _) (b4 .before .before .over-root .ensures) (b4 .over-root2 .ensures) (b1 .is-heavier .ensures) (b1 .before .before .if1 .left) (d .if2 .taken)
-    (b6 .before .before .right-of .ensures) (b6 .heapify .ensures) (b2 .set-right .ensures)
+    heapify-down-left (readable _) (b4 .before .before .over-root .ensures) (b4 .over-root2 .ensures) (b1 .is-heavier .ensures)
+    (b1 .before .before .if1 .left) (d .if2 .taken) (h .before .before .right-of .ensures) (h .heapify .ensures)
+    (b2 .set-right .ensures)
 
 -- the second root is heavier
 
@@ -167,7 +184,8 @@ heapify-sub-left-of t c =
     let b1 = d .before in
     let b4 = b1 .before .before .before in
     let s = b4 .before .before .before .before .before in
-    let root = right-root (readable _) (b4 .before .before .over-root .ensures) (b4 .over-root2 .ensures) (b1 .is-heavier .ensures) (b1 .before .before .if1 .left) (d .if2 .left) (s .pre .1) in
+    let root = right-root (readable _) (b4 .before .before .over-root .ensures) (b4 .over-root2 .ensures) (b1 .is-heavier .ensures)
+    (b1 .before .before .if1 .left) (d .if2 .left) (s .pre .1) in
     omega arith
 
 heapify-left-of-requires : (t : ℕ) → heapify-lts.Need-left-of-requires (heapify-claims t) (heapify-at t) heapify.Post
@@ -176,7 +194,8 @@ heapify-left-of-requires t c κs =
     let b1 = d .before in
     let b4 = b1 .before .before .before in
     let s = b4 .before .before .before .before .before in
-    let root = right-root (readable _) (b4 .before .before .over-root .ensures) (b4 .over-root2 .ensures) (b1 .is-heavier .ensures) (b1 .before .before .if1 .left) (d .if2 .left) (s .pre .1) in
+    let root = right-root (readable _) (b4 .before .before .over-root .ensures) (b4 .over-root2 .ensures) (b1 .is-heavier .ensures)
+    (b1 .before .before .if1 .left) (d .if2 .left) (s .pre .1) in
     let (ta, tb, p) = s .pre .1 in at-in (readable _) root (tb, p .right)
 
 heapify-heapify-requires-2 : (t : ℕ) → heapify-lts.Need-heapify-requires-2 (heapify-claims t) (heapify-at t) heapify.Post
@@ -186,48 +205,67 @@ heapify-heapify-requires-2 t c κs =
     let b4 = b1 .before .before .before in
     let s = b4 .before .before .before .before .before in
     let (less, inner) =
-    right-inner (readable _) (b4 .before .before .over-root .ensures) (b4 .over-root2 .ensures) (b1 .is-heavier .ensures) (b1 .before .before .if1 .left) (d .if2 .left) (c .before .left-of .ensures) (s .pre .1) in
+    right-inner (readable _) (b4 .before .before .over-root .ensures) (b4 .over-root2 .ensures) (b1 .is-heavier .ensures)
+    (b1 .before .before .if1 .left) (d .if2 .left) (c .before .left-of .ensures) (s .pre .1) in
     (falls-below (s .pre .0) less, inner)
 
-heapify-sub-set-left : (t : ℕ) → heapify-lts.Need-sub-set-left (heapify-claims t) (heapify-at t) heapify.Post
-heapify-sub-set-left t c =
-    let d = c .before .before .before .before .before .before .before in
+heapify-same-length-4 : (t : ℕ) → heapify-lts.Need-same-length-4 (heapify-claims t) (heapify-at t) heapify.Post
+heapify-same-length-4 t c =
+    c .before .before .before .heapify2 .kept .1 .0
+
+heapify-returns-4 : (t : ℕ) → heapify-lts.Need-returns-4 (heapify-claims t) (heapify-at t) heapify.Post
+heapify-returns-4 t c =
+    let h = c .before .before .before in
+    let d = h .before .before .before .before in
     let b1 = d .before in
     let b4 = b1 .before .before .before in
     let s = b4 .before .before .before .before .before in
-    let root = right-root (readable _) (b4 .before .before .over-root .ensures) (b4 .over-root2 .ensures) (b1 .is-heavier .ensures) (b1 .before .before .if1 .left) (d .if2 .left) (s .pre .1) in
+    heapify-keep-right (readable _) (b4 .before .before .over-root .ensures) (b4 .over-root2 .ensures) (b1 .is-heavier .ensures)
+    (b1 .before .before .if1 .left) (d .if2 .left) (h .before .before .left-of .ensures) (h .heapify2 .ensures) (c .if4 .taken)
+
+heapify-sub-set-left : (t : ℕ) → heapify-lts.Need-sub-set-left (heapify-claims t) (heapify-at t) heapify.Post
+heapify-sub-set-left t c =
+    let h = c .before .before .before .before in
+    let d = h .before .before .before .before in
+    let b1 = d .before in
+    let b4 = b1 .before .before .before in
+    let s = b4 .before .before .before .before .before in
+    let root = right-root (readable _) (b4 .before .before .over-root .ensures) (b4 .over-root2 .ensures) (b1 .is-heavier .ensures)
+    (b1 .before .before .if1 .left) (d .if2 .left) (s .pre .1) in
     omega arith
 
 heapify-set-left-requires : (t : ℕ) → heapify-lts.Need-set-left-requires (heapify-claims t) (heapify-at t) heapify.Post
 heapify-set-left-requires t c κs =
-    let b3 = c .before .before .before in
-    let d = b3 .before .before .before .before in
+    let h = c .before .before .before .before in
+    let d = h .before .before .before .before in
     let b1 = d .before in
     let b4 = b1 .before .before .before in
     let s = b4 .before .before .before .before .before in
     let which = b1 .is-heavier .ensures in
-    let root = right-root (readable _) (b4 .before .before .over-root .ensures) (b4 .over-root2 .ensures) which (b1 .before .before .if1 .left) (d .if2 .left) (s .pre .1) in
+    let root = right-root (readable _) (b4 .before .before .over-root .ensures) (b4 .over-root2 .ensures) which
+    (b1 .before .before .if1 .left) (d .if2 .left) (s .pre .1) in
     let (less, inner) =
-    right-inner (readable _) (b4 .before .before .over-root .ensures) (b4 .over-root2 .ensures) which (b1 .before .before .if1 .left) (d .if2 .left) (b3 .before .before .left-of .ensures) (s .pre .1) in
+    right-inner (readable _) (b4 .before .before .over-root .ensures) (b4 .over-root2 .ensures) which
+    (b1 .before .before .if1 .left) (d .if2 .left) (h .before .before .left-of .ensures) (s .pre .1) in
     let (ta, tb, p) = s .pre .1 in (
-      in-kept (formOf (s .args .form) .cell) (b3 .heapify2 .kept .1 .0) (at-in (readable _) root (tb, p .right)),
-      heapified-small (readable _) (b3 .heapify2 .ensures) inner,
+      in-kept (formOf (s .args .form) .cell) (h .heapify2 .kept .1 .0) (at-in (readable _) root (tb, p .right)),
+      heapified-small (readable _) (h .heapify2 .ensures) inner,
     )
 
-heapify-same-length-3 : (t : ℕ) → heapify-lts.Need-same-length-3 (heapify-claims t) (heapify-at t) heapify.Post
-heapify-same-length-3 t c =
-    let b2 = c .before .before in b2 .set-left .kept .1 .0 ∙ b2 .before .before .before .before .heapify2 .kept .1 .0
+heapify-same-length-5 : (t : ℕ) → heapify-lts.Need-same-length-5 (heapify-claims t) (heapify-at t) heapify.Post
+heapify-same-length-5 t c =
+    let b2 = c .before .before in b2 .set-left .kept .1 .0 ∙ b2 .before .before .before .before .before .heapify2 .kept .1 .0
 
-heapify-returns-3 : (t : ℕ) → heapify-lts.Need-returns-3 (heapify-claims t) (heapify-at t) heapify.Post
-heapify-returns-3 t c =
+heapify-returns-5 : (t : ℕ) → heapify-lts.Need-returns-5 (heapify-claims t) (heapify-at t) heapify.Post
+heapify-returns-5 t c =
     let b2 = c .before .before in
-    let b6 = b2 .before .before .before .before in
-    let d = b6 .before .before .before .before in
+    let h = b2 .before .before .before .before .before in
+    let d = h .before .before .before .before in
     let b1 = d .before in
     let b4 = b1 .before .before .before in
     let s = b4 .before .before .before .before .before in
-    heapify-down-right (readable _) (b4 .before .before .over-root .ensures) (b4 .over-root2 .ensures) (b1 .is-heavier .ensures) (b1 .before .before .if1 .left) (d .if2 .left) (b6 .before .before .left-of .ensures)
-    (b6 .heapify2 .ensures) (b2 .set-left .ensures)
+    heapify-down-right (readable _) (b4 .before .before .over-root .ensures) (b4 .over-root2 .ensures) (b1 .is-heavier .ensures)
+    (b1 .before .before .if1 .left) (d .if2 .left) (h .before .before .left-of .ensures) (h .heapify2 .ensures) (b2 .set-left .ensures)
 
 pub +heapify-spec : {M : Type 1} → statement M
 +heapify-spec = close μ-heapify λ t. heapify-lts.spec (heapify-claims t) (heapify-at t) heapify.Post
@@ -241,14 +279,18 @@ pub +heapify-spec : {M : Type 1} → statement M
     (heapify-sub-right-of t)
     (heapify-right-of-requires t)
     (heapify-heapify-requires t)
-    (heapify-sub-set-right t)
-    (heapify-set-right-requires t)
     (heapify-same-length-2 t)
     (heapify-returns-2 t)
+    (heapify-sub-set-right t)
+    (heapify-set-right-requires t)
+    (heapify-same-length-3 t)
+    (heapify-returns-3 t)
     (heapify-sub-left-of t)
     (heapify-left-of-requires t)
     (heapify-heapify-requires-2 t)
+    (heapify-same-length-4 t)
+    (heapify-returns-4 t)
     (heapify-sub-set-left t)
     (heapify-set-left-requires t)
-    (heapify-same-length-3 t)
-    (heapify-returns-3 t)
+    (heapify-same-length-5 t)
+    (heapify-returns-5 t)

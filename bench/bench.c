@@ -248,7 +248,7 @@ static int report(effort e, const char *path)
 
 int main(int argc, char **argv)
 {
-    effort e = {(int)number_after(argc, argv, "--passes", 14), (int)number_after(argc, argv, "--rounds", 9),
+    effort e = {(int)number_after(argc, argv, "--passes", 6), (int)number_after(argc, argv, "--rounds", 9),
                 1000 * number_after(argc, argv, "--sample", 100)};
     if (argc < 2 || e.passes < 1 || e.rounds < 1 || e.passes * e.rounds > SAMPLES_MOST || e.sample <= 0 ||
         contestant_count >= ENTRANTS_MOST) {

@@ -8,9 +8,8 @@ use lib.Dec.{eqb, leb}
 use lib.ListN.{length}
 use Rattle.words.specs.Lists.{Words}
 use Rattle.words.proofs.Tests.{and-l, and-r, eqb-eq, le-of, false-of}
-use Rattle.calls.specs.Pool.{Pool, Engine, store, lengths}
-use Rattle.calls.specs.Step.{Act, bad, list, grant, numberOf, poolAfter, listSuits, refusedBy, step}
-use Rattle.calls.proofs.ActLaws.{act-by}
+use Rattle.calls.specs.Pool.{Pool, Engine, lengths}
+use Rattle.calls.specs.Step.{bad, list, numberOf, listSuits, refusedBy, step}
 use Rattle.calls.proofs.GateLaws.{gate-number, step-stops}
 use Rattle.call_parts.proofs.AskLaws.{RefusedBy, refused-by}
 
@@ -27,12 +26,6 @@ module _ (E : Engine) where
   pub bad-refused : (p : Pool) → RefusedBy E p bad 9
   unfolding numberOf
   bad-refused p = refused-by E p bad 9 refl refl
-
-  pub same-shape : (p : Pool) (a : Act) → poolAfter E p a .shape ≡ p .shape
-  unfolding store grant
-  same-shape =
-      act-by E (λ (p : Pool) (a : Act) (q : Pool). q .shape ≡ p .shape) (λ p a. refl) (λ p c n k h. refl)
-      (λ p x r e h. refl)
 
   pub unsuited-list : (p : Pool) (c : ℕ) (rs bs : Words) → E .known (p .shape) ≡ true → listSuits rs bs ≡ false
       → step E (list c rs bs) p ≡ refusedBy E (list c rs bs) p 8

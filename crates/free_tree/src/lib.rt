@@ -62,7 +62,7 @@ fn over_right(form: u32, arena: &mut [u32], a: usize, b: usize)
 }
 
 // Joins the trees at the links `a` and `b`, of which either may be 0, and returns the link to the whole.
-pub fn join_trees(form: u32, arena: &mut [u32], a: usize, b: usize) -> usize
+fn join_trees(form: u32, arena: &mut [u32], a: usize, b: usize) -> usize
     requires { ⌜ ((ta : Tree) × (tb : Tree) × Beside (formOf form) (now arena) a b ta tb) ⌝ }
     ensures { λ r. ⌜ BothJoined (formOf form) (now (arena .entry)) (now (arena .exit)) a b r ⌝ }
 {

@@ -288,7 +288,7 @@ fn live_fits(rule: Rule, words: usize, next: u32, r: Row) -> bool
 
 // A ticket's place among m residues. Tickets follow one another, so those alive together rarely share one. Without a
 // division, for this is asked of every record; any m is safe, and a power of two spreads them.
-pub fn residue(ticket: u32, m: usize) -> usize
+fn residue(ticket: u32, m: usize) -> usize
     requires { ⌜ 0 < m ⌝ }
     ensures { λ r. ⌜ (r ≡ residueOf m ticket) × (r < m) ⌝ }
 {

@@ -62,7 +62,7 @@ pub struct Swept {
 
 // The blocks that begin from `from`, where one does, up to hi. The next one begins at or past hi; it is the arena's
 // end where there is none.
-pub fn sweep(v: &[i32], from: usize, hi: usize) -> Swept
+fn sweep(v: &[i32], from: usize, hi: usize) -> Swept
     requires { ⌜ ((c : ℕ → ℤ) × Scan (now v) c from × (hi ≤ length (now v))) ⌝ }
     ensures { λ r. ⌜
         ((c : ℕ → ℤ) → Scan (now (v .entry)) c from
@@ -79,7 +79,7 @@ pub fn sweep(v: &[i32], from: usize, hi: usize) -> Swept
 }
 
 // The leaf of a segment: the largest weight of the blocks that begin from `from` up to hi.
-pub fn leaf_from(v: &[i32], from: usize, hi: usize) -> u32
+fn leaf_from(v: &[i32], from: usize, hi: usize) -> u32
     requires { ⌜ ((c : ℕ → ℤ) × Scan (now v) c from × (hi ≤ length (now v))) ⌝ }
     ensures { λ r. ⌜ ((c : ℕ → ℤ) → Scan (now (v .entry)) c from → r ≡ largest c from (hi - from)) ⌝ }
 {
@@ -88,7 +88,7 @@ pub fn leaf_from(v: &[i32], from: usize, hi: usize) -> u32
 }
 
 // The first-block word of a segment that ends at hi: w where no block begins before that.
-pub fn first_from(from: usize, hi: usize, w: usize) -> u32
+fn first_from(from: usize, hi: usize, w: usize) -> u32
     requires { ⌜ (from < 2 ^ 32) × (w < 2 ^ 32) ⌝ }
     ensures { λ r. ⌜ r ≡ firstFrom from hi w ⌝ }
 {
@@ -96,7 +96,7 @@ pub fn first_from(from: usize, hi: usize, w: usize) -> u32
 }
 
 // Segment k is brought up to date, with the words above its leaf.
-pub fn refresh_segment(v: &[i32], t: &mut [u32], segments: Segments, k: usize, from: usize)
+fn refresh_segment(v: &[i32], t: &mut [u32], segments: Segments, k: usize, from: usize)
     requires { ⌜ ((c : ℕ → ℤ) × Ready (now v) c (now t) (segments .count) (segments .size) k from) ⌝ }
     ensures { λ _. ⌜
         ((c : ℕ → ℤ) → Ready (now (v .entry)) c (now (t .entry)) (segments .count) (segments .size) k from

@@ -189,10 +189,10 @@ blocks-right v next t map seen m held free′ after H L exact =
     (good, arena-partitioned v next t good (L .runs) (all-slots (heldRight v) t ∙ H .right) runs (L .words))
 
 -- and the index is theirs, if the words above the segments' are right too
-pub tiles-stored : (v : List ℤ) (next : ℕ) (t x map seen : Words) (m held free′ s g : ℕ) → Measured v t x s g
+pub blocks-stored : (v : List ℤ) (next : ℕ) (t x map seen : Words) (m held free′ s g : ℕ) → Measured v t x s g
     → Headed v next t map seen m (slots t) held → Matched v map x s g free′ → free′ + held ≡ length v → (b : Bool)
     → b ≡ treeRight x s → b ≡ true → Shown next v t x s
-tiles-stored v next t x map seen m held free′ s g Z H M exact b is ok =
+blocks-stored v next t x map seen m held free′ s g Z H M exact b is ok =
     let (good, arena) = blocks-right v next t map seen m held free′ (M .after) H (M .adjoining) exact in
     let L = recordsOf t in
     let c = controls L (length v) in

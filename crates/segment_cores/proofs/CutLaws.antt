@@ -144,9 +144,6 @@ module _ (f : ℕ → Bool) (st : ℕ → ℕ) (f′ : ℕ → Bool) (st′ : �
     pub cut-placed : ControlsChange (word f′ st′ W) (word f (parted st p m k) W) (p + m) 0 (p + m) k y
     cut-placed = placed f′ st′ f (parted st p m k) W B A₂ (p + m) k behind (p + m) 0 y none-below right
 
-    pub kept-word : word f′ st′ W p ≡ negℤ (pos m)
-    kept-word = word-held f′ st′ W p m (C .head) (C .some)
-
     -- no word but those of the two control words and behind them has changed
     pub same-control : (u : ℕ) → u ≢ p → u ≢ p + m → (u ≡ p + m + k → y ≡ 0) → word f′ st′ W u ≡ word f st W u
     same-control u a b c =

@@ -142,8 +142,8 @@ module _ (L : Ledger) (v : List ℤ) (t : Words) (s d g p : ℕ) (K : HeldAt L v
   size-here : natAbs (c p) ≡ startsAt L p
   size-here = ap natAbs (word-held f (startsAt L) U p (startsAt L p) refl (K .here)) ∙ abs-neg (pos (startsAt L p))
 
-  sitting-inside : p < length v
-  sitting-inside = omega (arith, Q .fits p (K .here), K .here)
+  held-inside : p < length v
+  held-inside = omega (arith, Q .fits p (K .here), K .here)
 
   pub later-block : 0 < p → LaterBlock c U t s d g p
   later-block h = record {
@@ -151,17 +151,17 @@ module _ (L : Ledger) (v : List ℤ) (t : Words) (s d g p : ℕ) (K : HeldAt L v
     power = K .power;
     few = K .few;
     was = sound-index L v t s g (K .sound);
-    start = blocks .start (omega (arith, sitting-inside));
+    start = blocks .start (omega (arith, held-inside));
     later = h;
-    inside = sitting-inside;
+    inside = held-inside;
     here = omega (arith, size-here, K .here);
   }
 
   pub chain : (q : ℕ) → Begun c p q → Chain v c q p
   chain q B = record {
-    scan = record { blocks = blocks; inside = omega (arith, B .below, sitting-inside); begins = λ h. B .begins };
+    scan = record { blocks = blocks; inside = omega (arith, B .below, held-inside); begins = λ h. B .begins };
     order = B .below;
-    inside = sitting-inside;
+    inside = held-inside;
     last = omega (arith, size-here, K .here);
   }
 
@@ -176,7 +176,7 @@ module _ (L : Ledger) (v : List ℤ) (t : Words) (s d g p : ℕ) (K : HeldAt L v
   }
 
   pub before-inside : (q : ℕ) → EndsAt c p q → q < length v
-  before-inside q E = omega (arith, E .begins, E .ends, sitting-inside)
+  before-inside q E = omega (arith, E .begins, E .ends, held-inside)
 
   pub beneath : (q : ℕ) → EndsAt c p q → Beneath (free segmentRule L) p (freeSize (getD v q (pos 0)))
   beneath q E =

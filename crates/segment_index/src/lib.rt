@@ -25,14 +25,14 @@ pub fn size_of(v: i32) -> u32
 }
 
 // What a control word counts for in a leaf of the index: a held block counts 1.
-pub fn weight_of(v: i32) -> u32
+fn weight_of(v: i32) -> u32
     ensures { λ r. ⌜ r ≡ weight v ⌝ }
 {
     if v < 0 { 1 } else { size_of(v) }
 }
 
 // The size of a free block; 0 for a held one, and where no block begins.
-pub fn free_size(v: i32) -> u32
+fn free_size(v: i32) -> u32
     ensures { λ r. ⌜ r ≡ freeSize v ⌝ }
 {
     if 0 < v { size_of(v) } else { 0 }

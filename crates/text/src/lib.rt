@@ -72,7 +72,7 @@ fn put_two(out: &mut [u8], at: usize, n: u32) -> usize
 }
 
 // Writes the digits of n at `at`, two by two, and answers the place after them.
-pub fn put_number(out: &mut [u8], at: usize, n: u32) -> usize
+fn put_number(out: &mut [u8], at: usize, n: u32) -> usize
     requires { ⌜ at + length (decimalOf n) ≤ length (now out) ⌝ }
     ensures { λ r. ⌜ Wrote (now (out .entry)) (now (out .exit)) at r (decimalOf n) ⌝ }
 {

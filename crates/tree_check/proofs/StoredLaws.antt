@@ -81,8 +81,8 @@ module _ (h : Head) (m : Words) where
           go (yes b) = mapped .spans c (behind c b l)
           go (no b) = mapped .spans c (x .known c (omega arith) (omega arith) e)
 
-      tiles-stored : sum + held * p ≡ N → Shown h m t
-      tiles-stored exact =
+      blocks-stored : sum + held * p ≡ N → Shown h m t
+      blocks-stored exact =
           let size = x .size in
           let all = cells-whole in
           let runs = inorder (x .tree) in
@@ -156,7 +156,7 @@ module _ (h : Head) (m : Words) where
         → Says (b && eqb (sum + held * q) n) (Shown h m t)
     both-say {limit} {spans} {held} {end} {sum} {n} {q} b is pers mapped x pass says =
         rw (is, pers) (
-          (λ e. tiles-stored mapped x (leads-cover (behind .0 (and-l b (eqb known N) e)))
+          (λ e. blocks-stored mapped x (leads-cover (behind .0 (and-l b (eqb known N) e)))
               (eqb-eq known N (and-r b (eqb known N) e))),
           λ shown. and-i b (eqb known N) (behind .1 (end-leads spans held mapped shown pass))
               (ap (λ k. eqb k N) (end-exact spans held mapped shown pass) ∙ eqb-same N),

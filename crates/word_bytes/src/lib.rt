@@ -43,7 +43,7 @@ pub fn get_words(bytes: &[u8], from: usize, out: &mut [u32])
 }
 
 // The four bytes of a word, at word i.
-pub fn put_word(out: &mut [u8], i: usize, x: u32)
+fn put_word(out: &mut [u8], i: usize, x: u32)
     requires { ⌜ 4 * i + 4 ≤ length (now out) ⌝ }
     ensures { λ _. ⌜ now (out .exit) ≡ sets (now (out .entry)) (4 * i) (wordBytes x) ⌝ }
 {

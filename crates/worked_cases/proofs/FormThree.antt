@@ -1,4 +1,5 @@
--- The cases of form 3, by computation. They are run and compared too (tree_cases). Assumes nothing.
+-- The case that 02 gives of form 3, with all orders of its releases, as 01 has T1 to T14 proved; and pools that are sound
+-- in form 1 and not in form 3, or in both: the rule of the soundness check goes by the form. Assumes nothing.
 use mathlib.Core.Path.{_≡_, refl}
 use mathlib.Core.Bool.{true, false}
 use mathlib.Core.List.{[], _∷_, map}

@@ -1,14 +1,12 @@
--- A pool of several parties for each engine (02, ticket 6): what each of them is answered, parties that are none, tables
--- from before there were parties, and a sequence of demand 3. Assumes nothing.
+-- A pool of several parties for each engine (02, ticket 6): what each of them is answered, and a sequence of demand 3.
+-- Assumes nothing.
 use Prim.Native.Nat.{ℕ}
-use mathlib.Core.Bool.{Bool}
 use mathlib.Core.List.{List, [], _∷_, map}
 use lib.ListN.{replicate}
 use Rattle.words.specs.Lists.{Words}
 use Rattle.ledger.specs.Records.{row, Member, vacate, member}
-use Rattle.calls.specs.Pool.{Pool, withTable, Engine, sound}
-use Rattle.calls.specs.Step.{Call, copy, allocate, release, trim, find, look, list, step}
-use Rattle.calls.specs.Engines.{treeEngine}
+use Rattle.calls.specs.Pool.{Pool, withTable, Engine}
+use Rattle.calls.specs.Step.{Call, allocate, release, find, look, list, step}
 use Rattle.calls.specs.Lent.{Event, onWhole}
 use Rattle.worked_cases.specs.Sequences.{treeStart, segmentStart, otherWords}
 
@@ -33,57 +31,6 @@ treeViews c =
 abbrev pub segmentViews : ℕ → List (Call Words)
 segmentViews c =
     find (row 1 1 3 c) ∷ find (row 2 5 11 c) ∷ release (row 1 1 4 c) ∷ look (row 1 2 3 c) [] ∷ release (row 9 1 3 c) ∷ []
-
--- a list of party 2 that names a ticket of party 1, then its own, and asks for words; room for one answer more
-abbrev pub listed : Call Words
-listed = list 2 (2 ∷ 1 ∷ 0 ∷ 5 ∷ 2 ∷ 2 ∷ 6 ∷ 4 ∷ 1 ∷ 3 ∷ 0 ∷ 0 ∷ []) (replicate 16 8)
-
-abbrev pub listedAnswers : Words
-listedAnswers = 6 ∷ 0 ∷ 0 ∷ 0 ∷ 0 ∷ 2 ∷ 6 ∷ 4 ∷ 0 ∷ 4 ∷ 6 ∷ 3 ∷ 8 ∷ 8 ∷ 8 ∷ 8 ∷ []
-
-abbrev pub listedTable : Words
-listedTable = 1 ∷ 0 ∷ 5 ∷ 1 ∷ 4 ∷ 6 ∷ 3 ∷ 2 ∷ 3 ∷ 10 ∷ 6 ∷ 255 ∷ 0 ∷ 0 ∷ 0 ∷ 0 ∷ []
-
--- ---- parties that are none, in every call that gives one, and in the table
-
-abbrev pub everyCall : ℕ → List (Call Words)
-everyCall c =
-    allocate c 1 ∷ release (row 1 0 5 c) ∷ trim (row 1 0 5 c) 3 ∷ find (row 1 0 5 c) ∷ look (row 1 0 5 c) []
-    ∷ list c [] [] ∷ []
-
-abbrev pub heldBy : ℕ → Pool
-heldBy c = withTable (1 ∷ 0 ∷ 5 ∷ c ∷ 2 ∷ 6 ∷ 4 ∷ 2 ∷ 3 ∷ 10 ∷ 6 ∷ 255 ∷ 0 ∷ 0 ∷ 0 ∷ 0 ∷ []) treeStart
-
-abbrev pub soundBy : List ℕ → List Bool
-soundBy cs = map (λ (c : ℕ). sound treeEngine (heldBy c)) cs
-
--- ---- tables of three words to a record
-
--- T4's as it was, and without its empty record; a pool that holds nothing, and has no table yet
-abbrev pub oldTable : Words
-oldTable = 1 ∷ 0 ∷ 5 ∷ 2 ∷ 6 ∷ 4 ∷ 3 ∷ 10 ∷ 6 ∷ 0 ∷ 0 ∷ 0 ∷ []
-
-abbrev pub oldShort : Words
-oldShort = 1 ∷ 0 ∷ 5 ∷ 2 ∷ 6 ∷ 4 ∷ 3 ∷ 10 ∷ 6 ∷ []
-
-abbrev pub freeTree : Pool
-freeTree = record {
-  head = record { own = 1 ∷ 1 ∷ []; next = 4 };
-  shape = 1;
-  arena = 12 ∷ replicate 23 0;
-  table = [];
-  index = [];
-}
-
--- the number of an allocation by party 1 with some other table
-abbrev pub asked : Pool → Words → ℕ
-asked p t = step treeEngine (allocate 1 1) (withTable t p) .answer .number
-
--- what a copy leaves of a table of as many sevens: its number, and the words
-abbrev pub copies : Words → ℕ → ℕ × Words
-copies old n =
-    let o = step treeEngine (copy old) (withTable (replicate n 7) treeStart) in
-    (o .answer .number, o .pool .table)
 
 -- ---- demand 3 with several parties
 

@@ -9,7 +9,7 @@ use mathlib.Core.Bool.{false≢true}
 use borrow.Author.Needs.{needs}
 use denote.Ref.{now}
 use Rattle.segment_blocks.proofs.UpkeepLaws.{sizes-some}
-use Rattle.segment_check.proofs.HeadLaws.{tiles-stored, stored-good, stored-held, stored-exact, stored-tree}
+use Rattle.segment_check.proofs.HeadLaws.{blocks-stored, stored-good, stored-held, stored-exact, stored-tree}
 use Rattle.segment_check.proofs.is_shown_over.Statement.{statement}
 use Rattle.segment_check.proofs.is_shown_over.Tie as tie
 
@@ -109,7 +109,7 @@ returns-4 c =
     let s = start f in
     let a = s .args in
     let free = f .walk-segments .result in (
-      λ e. tiles-stored (now (a .arena)) (a .next) (now (a .table)) (now (a .index)) (d .map-rows .last .1 .1 .1 .0)
+      λ e. blocks-stored (now (a .arena)) (a .next) (now (a .table)) (now (a .index)) (d .map-rows .last .1 .1 .1 .0)
           (d .map-rows .last .1 .1 .1 .1 .0) (a .m) (d .map-rows .result) free _ _ (s .pre .0)
           (d .map-rows .ensures .0 (f .before .before .if1 .left))
           (f .walk-segments .ensures .0 (c .before .before .if2 .left)) (c .before .if3 .left) (c .tree-right .result)

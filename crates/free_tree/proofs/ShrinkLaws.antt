@@ -14,7 +14,7 @@ use Rattle.words.proofs.ListLaws.{all-append}
 use Rattle.ledger.specs.Runs.{Run, run}
 use Rattle.stored_forms.specs.Tree.{Tree, leaf, node, inorder, Heaped, shorterThan, noLongerThan}
 use Rattle.stored_forms.proofs.TreeLaws.{tree-unique}
-use Rattle.stored_forms.specs.Blocks.{Within, NotFirst}
+use Rattle.stored_forms.specs.Blocks.{Within}
 use Rattle.stored_forms.proofs.NodeLaws.{within-le}
 use Rattle.free_tree.specs.Shapes.{top, below, above, join, standsAbove, insert, delete, standsOver, heavier}
 use Rattle.free_tree.specs.Shapes.{heapifyOver, heapify, shrink, putRun, beginsAt}
@@ -23,7 +23,7 @@ use Rattle.free_tree.proofs.RunOrder.{wider, within-all, firstThat-past
 use Rattle.free_tree.proofs.RunOrder.{startsBelow, startsFrom, putRun-between}
 use Rattle.free_tree.proofs.JoinLaws.{all-top, join-by, inorder-join, heaped-join, within-join}
 use Rattle.free_tree.proofs.PartLaws.{inorder-parts, starts-below, starts-above}
-use Rattle.free_tree.proofs.ChangeLaws.{stands-true, stands-false, inorder-insert, heaped-insert, within-insert}
+use Rattle.free_tree.proofs.ChangeLaws.{stands-true, stands-false, inorder-insert, heaped-insert}
 use Rattle.free_tree.proofs.ChangeSteps.{apart-no-node}
 
 -- ---- a run between two trees

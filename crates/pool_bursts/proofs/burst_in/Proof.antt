@@ -70,13 +70,15 @@ same-length-7 c = search needs
 returns-2 : tie.Need-returns-2
 unfolding burstCall
 returns-2 c =
-    let s = c .before .before .before .before .before .before .before .before .before .before .before .before .before .before .before .before .before .before .before .before .before .before .before .before .before .before .before .before in
+    let b15 = c .before .before .before .before .before .before .before .before .before .before .before .before .before .before .before in
+    let b18 = b15 .before .before .before in
+    let s = b18 .before .before .before .before .before .before .before .before .before .before in
     let st = s .args .state .now in
     let bytes = s .args .bytes .now in
     let out = s .args .answers .now in
-    let r = c .before .before .before .before .before .before .before .before .before .before .before .before .before .before .before .before .before .before .load-state in
+    let r = b18 .load-state in
     let d = c .before .before .before .before .before .before .before .before .before .burst-loaded in
-    let fine = not-false (r .result .fine) (c .before .before .before .before .before .before .before .before .before .before .before .before .before .before .before .if1 .left) in (
+    let fine = not-false (r .result .fine) (b15 .if1 .left) in (
       d .ensures .0,
       d .ensures .1
           ∙ ap (λ (x : Session). burstDone (burst serve (length out) (x .standing) (x .kept) bytes) bytes out)

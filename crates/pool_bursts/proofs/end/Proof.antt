@@ -98,14 +98,16 @@ same-length-3 c = search needs
 returns-3 : tie.Need-returns-3
 unfolding endCall
 returns-3 c =
-    let s = c .before .before .before .before .before .before .before .before .before .before .before .before .before .before .before .before .before .before .before .before .before .before .before .before .before .before .before .before .before in
+    let b13 = c .before .before .before .before .before .before .before .before .before .before .before .before .before in
+    let b26 = b13 .before .before .before .before .before .before .before .before .before .before .before .before .before in
+    let s = b26 .before .before .before in
     let st = s .args .state .now in
     let out = s .args .answers .now in
     let r = c .before .before .before .before .before .before .before .before .before .before .before .before .before .before .before .load-state in
     let fine = not-false (r .result .fine) (c .before .before .before .before .before .before .before .before .before .before .before .before .if2 .left) in
     c .before .before .before .before .before .before .end-loaded .ensures
     ∙ ap (λ (x : Session). endDone (finish serve (x .standing) (x .kept)) st out) (r .ensures .1 fine .2)
-    ∙ sym (gated-open st out _ (c .before .before .before .before .before .before .before .before .before .before .before .before .before .before .before .before .before .before .before .before .before .before .before .before .before .before .if1 .left) (sym (r .ensures .0) ∙ fine))
+    ∙ sym (gated-open st out _ (b26 .if1 .left) (sym (r .ensures .0) ∙ fine))
 
 pub end-spec : {M : Type 1} → statement M
 end-spec =

@@ -34,7 +34,8 @@ answer j =
     answerTo treeEngine (ownPool (s .args .own) (s .args .arena .now) (s .args .table .now)) (actOf (j .before .request-of .result))
 
 -- past the test it has room
-fits : (j : tie.Joined1) → let s = j .before .before .before .before .before .before in length (answerLine (answer j)) ≤ length (s .args .out .now) - s .args .at
+fits : (j : tie.Joined1) → let s = j .before .before .before .before .before .before in
+    length (answerLine (answer j)) ≤ length (s .args .out .now) - s .args .at
 fits j =
     ⊎-elim (λ w. omega (arith, w .3 .ensures, w .4 .left)) (λ w. omega (arith, answer-long (answer j), w .left))
     (j .if1 .came)
@@ -95,7 +96,8 @@ same-length-5 c = search needs
 
 returns-2 : tie.Need-returns-2
 returns-2 c =
-    let s = c .before .before .before .before .before .before .before .before .before .before .before .before .before .before .before .before .before .before .before .before .before in
+    let b15 = c .before .before .before .before .before .before .before .before .before .before .before .before .before .before .before in
+    let s = b15 .before .before .before .before .before .before in
     let o = s .args .own in
     let a = s .args .arena .now in
     let t = s .args .table .now in
@@ -105,7 +107,7 @@ returns-2 c =
     let r = c .before .before .before .before .before .before .before .before .before .before .serve-front in
     let p = c .before .before .put-fitting in
     let same = said-is o a t line (q .result) (q .ensures) in (
-      sym (of-le _ (length out - s .args .at) (omega (arith, fits (c .before .before .before .before .before .before .before .before .before .before .before .before .before .before .before), same))),
+      sym (of-le _ (length out - s .args .at) (omega (arith, fits b15, same))),
       (λ e. became-served o a t (r .last .1 .0) (r .last .1 .1 .1 .0) line (q .result) (r .result) (q .ensures) (r .ensures)
           out (p .last .0) (s .args .at) (p .result) (s .pre .0) (r .kept .1 .0) (r .kept .1 .1 .1 .0) (p .ensures)),
       (λ e. absurd (true≢false e)),

@@ -1,10 +1,10 @@
 -- `record_table::first_live` meets its contract: the scan begins at slot 0, or goes on from slot 1. Assumes nothing.
 use native.Mathlib.Omega.{arith}
 use mathlib.Core.Path.{_≡_, _∙_, sym, ap}
-use mathlib.Core.Bool.{not, false}
+use mathlib.Core.Bool.{not}
 use borrow.Author.Needs.{needs}
 use denote.Ref.{now}
-use Rattle.ledger.specs.Records.{isLive, recordAt}
+use Rattle.ledger.specs.Records.{isLive}
 use Rattle.record_table.proofs.SlotLaws.{scan-start, scan-next, scan-here, scan-end, scan-on}
 use Rattle.record_table.proofs.first_live.Statement.{statement}
 use Rattle.record_table.proofs.first_live.Tie as tie

@@ -2,9 +2,12 @@
 -- nodes are readable.
 use Prim.Native.Nat.{ℕ, _+_, _-_, _≤_, _<_}
 use native.Mathlib.Omega.{arith}
-use mathlib.Core.Path.{_≡_}
+use mathlib.Core.Path.{_≡_, refl, subst}
 use mathlib.Core.Logic.{_≢_}
+use mathlib.Core.Bool.{Bool, true, false, _||_}
+use lib.Dec.{eqb}
 use Rattle.words.specs.Lists.{Words}
+use Rattle.words.proofs.Tests.{eqb-eq}
 use Rattle.ledger.specs.Runs.{run}
 use Rattle.stored_forms.specs.Tree.{Tree, node, Form, lengthAt, leftAt, rightAt}
 use Rattle.stored_forms.proofs.NodeLaws.{Readable, within-le}
@@ -223,6 +226,20 @@ module _ {F : Form} (readable : Readable F (F .links)) where
   pub both-none-right : {m : Words} {a b : ℕ} → b ≡ 0 → BothJoined F m m a b a
   both-none-right {m} {a} {b} z ta tb w =
       at-none (λ tb. Joined F m m ta tb a) z (rw (join-none ta) (unchanged readable (w .left))) tb (w .right)
+
+  -- where one is, the sum of both links is that of the other
+  pub both-none : {m : Words} {a b : ℕ} → (eqb a 0 || eqb b 0) ≡ true → BothJoined F m m a b (a + b)
+  both-none {m} {a} {b} e = go (eqb a 0) refl
+    where
+      go : (v : Bool) → eqb a 0 ≡ v → BothJoined F m m a b (a + b)
+      go true h =
+          let z = eqb-eq a 0 h in
+          let other : b ≡ a + b = omega arith in
+          subst (BothJoined F m m a b) other (both-none-left z)
+      go false h =
+          let z = eqb-eq b 0 (rw h at e) in
+          let other : a ≡ a + b = omega arith in
+          subst (BothJoined F m m a b) other (both-none-right z)
 
   module _ {m m′ : Words} {a b : ℕ} (x : a ≢ 0) (y : b ≢ 0) where
     pub both-left : lengthAt F m (b - 1) ≤ lengthAt F m (a - 1) → LeftJoined F m m′ a b

@@ -5,7 +5,7 @@ use native.Mathlib.Nat.{le-trans, lt-of-lt-of-le, mul-le-mul-left}
 use native.Mathlib.Omega.{arith}
 use mathlib.Core.Path.{_≡_, refl, sym, ap, _∙_}
 use mathlib.Core.Logic.{_≢_}
-use mathlib.Core.Bool.{Bool, true, false, _&&_, false≢true, true≢false}
+use mathlib.Core.Bool.{Bool, true, false, cond, _&&_, false≢true, true≢false}
 use lib.Dec.{leb}
 use mathlib.Core.Option.{some}
 use Rattle.words.specs.Lists.{Words, firstThat}
@@ -14,12 +14,12 @@ use Rattle.ledger.specs.Runs.{Run, run}
 use Rattle.stored_forms.specs.Tree.{Tree, leaf, node, inorder, Form, lengthAt, leftAt, rightAt}
 use Rattle.stored_forms.proofs.NodeLaws.{Readable, within-le}
 use Rattle.tree_nodes.specs.Nodes.{cells, NodePut, LeftSet, RightSet}
-use Rattle.free_tree.specs.Shapes.{top, standsAbove, standsOver, heavier, heapify, shrink, Stops, beginsAt}
+use Rattle.free_tree.specs.Shapes.{top, standsAbove, standsOver, heavier, onTop, heapify, shrink, Stops, beginsAt}
 use Rattle.free_tree.specs.Held.{At, Became, NoNodeNor, Placed, OverRoot, Heavier, Between, NoNodeOfNor}
-use Rattle.free_tree.specs.Held.{Heapified, Longer}
+use Rattle.free_tree.specs.Held.{OverRoots, OnTop, Heapified, Longer}
 use Rattle.free_tree.proofs.RunOrder.{wider}
 use Rattle.free_tree.proofs.CellLaws.{no-node-below, no-node-above}
-use Rattle.free_tree.proofs.StepLaws.{count, count-at, rooted, rooted-length, at-none, at-small, at-left}
+use Rattle.free_tree.proofs.StepLaws.{count, count-at, rooted, rooted-length, at-none, at-in, at-small, at-left}
 use Rattle.free_tree.proofs.StepLaws.{at-right, left-kept, right-kept, left-replaced, right-replaced}
 use Rattle.free_tree.proofs.JoinSteps.{at-top}
 use Rattle.free_tree.proofs.PlaceSteps.{Local, place-tree}
@@ -35,6 +35,24 @@ LongerRoot F m l x k = (t : Tree) × (n : ℕ) × Stops (beginsAt x) t × Longer
 -- two trees at the links a and b, with the run between them
 abbrev pub Sides : Form → Words → ℕ → ℕ → Run → Type 0
 Sides F m a b r = (ta : Tree) × (tb : Tree) × Between F m a b r ta tb
+
+-- The run goes between the trees at the links a and b, and came down the right side of the first to cell c, all of whose
+-- nodes stay on top; s is the link to the right son there. What is made of the son's tree and the second makes the
+-- whole: as it is where the son's link stays, and with the link to it set at cell c.
+pub record SinkRight (F : Form) (m : Words) (a b : ℕ) (r : Run) (c s : ℕ) : Type 0 where
+  pub inside : c < cells F m
+  pub inner : Sides F m s b r
+  pub fewer : count F m s + count F m b < count F m a + count F m b
+  pub stays : {m₁ : Words} → Heapified F m m₁ s b r s → Heapified F m m₁ a b r a
+  pub turns : {m₁ m′ : Words} {q : ℕ} → Heapified F m m₁ s b r q → RightSet F m₁ m′ c q → Heapified F m m′ a b r a
+
+-- the same down the left side of the second
+pub record SinkLeft (F : Form) (m : Words) (a b : ℕ) (r : Run) (c s : ℕ) : Type 0 where
+  pub inside : c < cells F m
+  pub inner : Sides F m a s r
+  pub fewer : count F m a + count F m s < count F m a + count F m b
+  pub stays : {m₁ : Words} → Heapified F m m₁ a s r s → Heapified F m m₁ a b r b
+  pub turns : {m₁ m′ : Words} {q : ℕ} → Heapified F m m₁ a s r q → LeftSet F m₁ m′ c q → Heapified F m m′ a b r b
 
 module _ {F : Form} (readable : Readable F (F .links)) where
   -- ---- above a root
@@ -135,96 +153,214 @@ module _ {F : Form} (readable : Readable F (F .links)) where
         (left-replaced readable (w .right) made (λ d o. ((o .0, o .1 .0, o .2), o .1 .1)) put
         (within-heapify r ta x 0 c (w .under) (w .filled) (w .over .0)) none-outside)
 
+  -- ---- which stays on top
+
+  pub over-roots-not : {m : Words} {a : ℕ} (b : ℕ) {r : Run} {v : Bool} → OverRoot F m a r v → v ≡ false
+      → OverRoots F m a b r false
+  over-roots-not b {r} low e ta tb p q = ap (λ w. w && standsOver r tb) (sym e ∙ low ta p)
+
+  pub over-roots-both : {m : Words} {a b : ℕ} {r : Run} {v w : Bool} → OverRoot F m a r v → v ≡ true
+      → OverRoot F m b r w → OverRoots F m a b r w
+  over-roots-both {r = r} low e high ta tb p q = high tb q ∙ ap (λ x. x && standsOver r tb) (sym e ∙ low ta p)
+
+  module _ {m : Words} {a b : ℕ} {r : Run} {v : Bool} (both : OverRoots F m a b r v) where
+    pub on-top-run : v ≡ true → OnTop F m a b r 0
+    on-top-run e ta tb p q = sym (rw (sym (both ta tb p q) ∙ e) refl)
+
+    module _ {w : Bool} (e : v ≡ false) (which : Heavier F m a b w) where
+      on-top-root : OnTop F m a b r (cond w 1 2)
+      on-top-root ta tb p q =
+          ap (λ x. cond x 1 2) (which ta tb p q) ∙ sym (rw (sym (both ta tb p q) ∙ e) refl)
+
+      pub on-top-first : w ≡ true → OnTop F m a b r 1
+      on-top-first f = rw f at on-top-root
+
+      pub on-top-second : w ≡ false → OnTop F m a b r 2
+      on-top-second f = rw f at on-top-root
+
+  top-run : (r : Run) (s t : Tree) → 0 ≡ onTop r s t → (standsOver r s && standsOver r t) ≡ true
+  top-run r s t = go (standsOver r s && standsOver r t) (heavier s t)
+    where
+      go : (v w : Bool) → _≡_ {A = ℕ} 0 (cond v 0 (cond w 1 2)) → v ≡ true
+      go true w e = refl
+      go false true e = absurd (omega arith)
+      go false false e = absurd (omega arith)
+
+  top-first : (r : Run) (s t : Tree) → 1 ≡ onTop r s t
+      → ((standsOver r s && standsOver r t) ≡ false) × (heavier s t ≡ true)
+  top-first r s t = go (standsOver r s && standsOver r t) (heavier s t)
+    where
+      go : (v w : Bool) → _≡_ {A = ℕ} 1 (cond v 0 (cond w 1 2)) → (v ≡ false) × (w ≡ true)
+      go true w e = absurd (omega arith)
+      go false true e = (refl, refl)
+      go false false e = absurd (omega arith)
+
+  top-second : (r : Run) (s t : Tree) → 2 ≡ onTop r s t
+      → ((standsOver r s && standsOver r t) ≡ false) × (heavier s t ≡ false)
+  top-second r s t = go (standsOver r s && standsOver r t) (heavier s t)
+    where
+      go : (v w : Bool) → _≡_ {A = ℕ} 2 (cond v 0 (cond w 1 2)) → (v ≡ false) × (w ≡ false)
+      go true w e = absurd (omega arith)
+      go false true e = absurd (omega arith)
+      go false false e = (refl, refl)
+
+  -- one of the three is left
+  module _ {m : Words} {a b k : ℕ} {r : Run} (which : OnTop F m a b r k) (y : k ≢ 0) where
+    pub second-left : k ≢ 1 → OnTop F m a b r 2
+    second-left z ta tb p q =
+        go (standsOver r ta && standsOver r tb) (heavier ta tb) (which ta tb p q)
+      where
+        go : (v w : Bool) → k ≡ cond v 0 (cond w 1 2) → _≡_ {A = ℕ} 2 (cond v 0 (cond w 1 2))
+        go true w e = absurd (y e)
+        go false true e = absurd (z e)
+        go false false e = refl
+
+    pub first-left : k ≢ 2 → OnTop F m a b r 1
+    first-left z ta tb p q =
+        go (standsOver r ta && standsOver r tb) (heavier ta tb) (which ta tb p q)
+      where
+        go : (v w : Bool) → k ≡ cond v 0 (cond w 1 2) → _≡_ {A = ℕ} 1 (cond v 0 (cond w 1 2))
+        go true w e = absurd (y e)
+        go false true e = refl
+        go false false e = absurd (z e)
+
   -- ---- the ways through
 
   no-root : (r : Run) (t : Tree) → (standsOver r t && true) ≡ false → false ≡ heavier t leaf → ⊥
   no-root r leaf e h = true≢false e
   no-root r (node a q b) e h = false≢true (h ∙ of-le 0 (q .size) (omega arith))
 
-  module _ {m : Words} {a b : ℕ} {r : Run} {u : Bool} (which : Heavier F m a b u) (e : u ≡ true) where
-    pub left-root : Sides F m a b r → a ≢ 0
-    left-root (ta, tb, p) z =
-        at-none (λ t. true ≡ heavier t tb → ⊥) z true≢false ta (p .left) (sym e ∙ which ta tb (p .left) (p .right))
+  module _ {m : Words} {a b x n k : ℕ} (which : OnTop F m a b (run x n) k) where
+    at-top-of : {ta tb : Tree} {i : ℕ} → Between F m a b (run x n) ta tb → k ≡ i → i ≡ onTop (run x n) ta tb
+    at-top-of {ta} {tb} p e = sym e ∙ which ta tb (p .left) (p .right)
 
-    pub left-inner : {s : ℕ} → s ≡ rightAt F m (a - 1) → Sides F m a b r
-        → (count F m s + count F m b < count F m a + count F m b) × Sides F m s b r
-    left-inner {s} son (ta, tb, p) =
-        rooted (λ t. Between F m a b r t tb
-        → (count F m s + count F m b < count F m a + count F m b) × Sides F m s b r) (left-root (ta, tb, p))
-        (λ c i d q p.
-        let inner = inner-left p son in
-        (omega (arith, count-at readable (inner .left), count-at readable q), (d, tb, inner))) ta (p .left) p
-
-  module _ {m : Words} {a b x n : ℕ} {v w : Bool} (low : OverRoot F m a (run x n) v)
-      (high : OverRoot F m b (run x n) w) where
-    both-over : {ta tb : Tree} {e : Bool} → Between F m a b (run x n) ta tb → (v && w) ≡ e
-        → (standsOver (run x n) ta && standsOver (run x n) tb) ≡ e
-    both-over {ta} {tb} p e = rw (sym (low ta (p .left)), sym (high tb (p .right))) e
-
-    pub heapify-top : {m′ : Words} → (v && w) ≡ true → NodePut F m m′ x n a b
-        → Heapified F m m′ a b (run x n) (x + 1)
+    pub heapify-top : {m′ : Words} → k ≡ 0 → NodePut F m m′ x n a b → Heapified F m m′ a b (run x n) (x + 1)
     heapify-top e put ta tb p =
         let made = put-between readable p put in
-        rw (heapify-over (run x n) ta tb (both-over p e))
+        rw (heapify-over (run x n) ta tb (top-run (run x n) ta tb (at-top-of p e)))
         (record { tree = made .tree; frame = λ d o. made .frame d (o .2); long = made .long })
 
-    module _ {u : Bool} (which : Heavier F m a b u) where
-      -- the first root stays on top; s is its right son
-      pub heapify-down-left : {m₁ m′ : Words} {s q : ℕ} → (v && w) ≡ false → u ≡ true → s ≡ rightAt F m (a - 1)
-          → Heapified F m m₁ s b (run x n) q → RightSet F m₁ m′ (a - 1) q → Heapified F m m′ a b (run x n) a
-      heapify-down-left {m′ = m′} o e son post put ta tb p =
-          rooted (λ t. Between F m a b (run x n) t tb
-          → Became F m m′ (NoNodeOfNor t tb x) a (heapify (run x n) t tb)) (left-root which e (ta, tb, p))
-          (λ c i d q p.
-          left-step p (both-over p o) (sym (which (node c (run (a - 1) i) d) tb q (p .right)) ∙ e)
-          (post d tb (inner-left p son)) put) ta (p .left) p
+    -- the first root stays on top; s is its right son
+    module _ (e : k ≡ 1) where
+      pub left-root : Sides F m a b (run x n) → a ≢ 0
+      left-root (ta, tb, p) z =
+          at-none (λ t. 1 ≡ onTop (run x n) t tb → ⊥) z (λ h. false≢true (top-first (run x n) leaf tb h .1)) ta
+          (p .left) (at-top-of p e)
 
-      -- its link to the son stays
-      pub heapify-keep-left : {m₁ : Words} {s q : ℕ} → (v && w) ≡ false → u ≡ true → s ≡ rightAt F m (a - 1)
-          → Heapified F m m₁ s b (run x n) q → q ≡ s → Heapified F m m₁ a b (run x n) a
-      heapify-keep-left {m₁} o e son post same ta tb p =
-          rooted (λ t. Between F m a b (run x n) t tb
-          → Became F m m₁ (NoNodeOfNor t tb x) a (heapify (run x n) t tb)) (left-root which e (ta, tb, p))
-          (λ c i d q p.
-          let made = post d tb (inner-left p son) in
-          left-step p (both-over p o) (sym (which (node c (run (a - 1) i) d) tb q (p .right)) ∙ e) made
-          (right-kept readable q made (none-inside p (a - 1) (omega (arith, p .under .1))) (same ∙ son))) ta (p .left) p
+      module _ {s : ℕ} (son : s ≡ rightAt F m (a - 1)) where
+        left-inner : Sides F m a b (run x n)
+            → (count F m s + count F m b < count F m a + count F m b) × Sides F m s b (run x n)
+        left-inner (ta, tb, p) =
+            rooted (λ t. Between F m a b (run x n) t tb
+            → (count F m s + count F m b < count F m a + count F m b) × Sides F m s b (run x n))
+            (left-root (ta, tb, p))
+            (λ c i d q p.
+            let inner = inner-left p son in
+            (omega (arith, count-at readable (inner .left), count-at readable q), (d, tb, inner))) ta (p .left) p
 
-      pub right-root : (v && w) ≡ false → u ≡ false → Sides F m a b (run x n) → b ≢ 0
-      right-root o e (ta, tb, p) z =
-          at-none (λ t. (standsOver (run x n) ta && standsOver (run x n) t) ≡ false → false ≡ heavier ta t → ⊥) z
-          (no-root (run x n) ta) tb (p .right) (both-over p o) (sym e ∙ which ta tb (p .left) (p .right))
+        down-left-side : {m₁ m′ : Words} {q : ℕ} → Heapified F m m₁ s b (run x n) q → RightSet F m₁ m′ (a - 1) q
+            → Heapified F m m′ a b (run x n) a
+        down-left-side {m′ = m′} post put ta tb p =
+            rooted (λ t. Between F m a b (run x n) t tb
+            → Became F m m′ (NoNodeOfNor t tb x) a (heapify (run x n) t tb)) (left-root (ta, tb, p))
+            (λ c i d q p.
+            let (under, first) = top-first (run x n) (node c (run (a - 1) i) d) tb (at-top-of p e) in
+            left-step p under first (post d tb (inner-left p son)) put) ta (p .left) p
 
-      -- the second root stays on top; s is its left son
-      module _ {s : ℕ} (o : (v && w) ≡ false) (e : u ≡ false) (son : s ≡ leftAt F m (b - 1)) where
-        pub right-inner : Sides F m a b (run x n)
+        -- its link to the son stays
+        keep-left-side : {m₁ : Words} → Heapified F m m₁ s b (run x n) s → Heapified F m m₁ a b (run x n) a
+        keep-left-side {m₁} post ta tb p =
+            rooted (λ t. Between F m a b (run x n) t tb
+            → Became F m m₁ (NoNodeOfNor t tb x) a (heapify (run x n) t tb)) (left-root (ta, tb, p))
+            (λ c i d q p.
+            let (under, first) = top-first (run x n) (node c (run (a - 1) i) d) tb (at-top-of p e) in
+            let made = post d tb (inner-left p son) in
+            left-step p under first made
+            (right-kept readable q made (none-inside p (a - 1) (omega (arith, p .under .1))) son)) ta (p .left) p
+
+    -- the second root stays on top; s is its left son
+    module _ (e : k ≡ 2) where
+      pub right-root : Sides F m a b (run x n) → b ≢ 0
+      right-root (ta, tb, p) z =
+          at-none (λ t. 2 ≡ onTop (run x n) ta t → ⊥) z
+          (λ h. let (under, second) = top-second (run x n) ta leaf h in no-root (run x n) ta under (sym second)) tb
+          (p .right) (at-top-of p e)
+
+      module _ {s : ℕ} (son : s ≡ leftAt F m (b - 1)) where
+        right-inner : Sides F m a b (run x n)
             → (count F m a + count F m s < count F m a + count F m b) × Sides F m a s (run x n)
         right-inner (ta, tb, p) =
             rooted (λ t. Between F m a b (run x n) ta t
             → (count F m a + count F m s < count F m a + count F m b) × Sides F m a s (run x n))
-            (right-root o e (ta, tb, p))
+            (right-root (ta, tb, p))
             (λ c i d q p.
             let inner = inner-right p son in
             (omega (arith, count-at readable (inner .right), count-at readable q), (ta, c, inner))) tb (p .right) p
 
-        pub heapify-down-right : {m₁ m′ : Words} {q : ℕ} → Heapified F m m₁ a s (run x n) q
-            → LeftSet F m₁ m′ (b - 1) q → Heapified F m m′ a b (run x n) b
-        heapify-down-right {m′ = m′} post put ta tb p =
+        down-right-side : {m₁ m′ : Words} {q : ℕ} → Heapified F m m₁ a s (run x n) q → LeftSet F m₁ m′ (b - 1) q
+            → Heapified F m m′ a b (run x n) b
+        down-right-side {m′ = m′} post put ta tb p =
             rooted (λ t. Between F m a b (run x n) ta t
-            → Became F m m′ (NoNodeOfNor ta t x) b (heapify (run x n) ta t)) (right-root o e (ta, tb, p))
+            → Became F m m′ (NoNodeOfNor ta t x) b (heapify (run x n) ta t)) (right-root (ta, tb, p))
             (λ c i d q p.
-            right-step p (both-over p o) (sym (which ta (node c (run (b - 1) i) d) (p .left) q) ∙ e)
-            (post ta c (inner-right p son)) put) tb (p .right) p
+            let (under, second) = top-second (run x n) ta (node c (run (b - 1) i) d) (at-top-of p e) in
+            right-step p under second (post ta c (inner-right p son)) put) tb (p .right) p
 
-        pub heapify-keep-right : {m₁ : Words} {q : ℕ} → Heapified F m m₁ a s (run x n) q → q ≡ s
-            → Heapified F m m₁ a b (run x n) b
-        heapify-keep-right {m₁} post same ta tb p =
+        keep-right-side : {m₁ : Words} → Heapified F m m₁ a s (run x n) s → Heapified F m m₁ a b (run x n) b
+        keep-right-side {m₁} post ta tb p =
             rooted (λ t. Between F m a b (run x n) ta t
-            → Became F m m₁ (NoNodeOfNor ta t x) b (heapify (run x n) ta t)) (right-root o e (ta, tb, p))
+            → Became F m m₁ (NoNodeOfNor ta t x) b (heapify (run x n) ta t)) (right-root (ta, tb, p))
             (λ c i d q p.
+            let (under, second) = top-second (run x n) ta (node c (run (b - 1) i) d) (at-top-of p e) in
             let made = post ta c (inner-right p son) in
-            right-step p (both-over p o) (sym (which ta (node c (run (b - 1) i) d) (p .left) q) ∙ e) made
-            (left-kept readable q made (none-outside p (b - 1) (omega arith)) (same ∙ son))) tb (p .right) p
+            right-step p under second made
+            (left-kept readable q made (none-outside p (b - 1) (omega arith)) son)) tb (p .right) p
+
+  -- ---- the way down one side: its first node, and one way after another
+
+  module _ {m : Words} {a b x n k s : ℕ} (which : OnTop F m a b (run x n) k) (sides : Sides F m a b (run x n)) where
+    pub sink-right-start : k ≡ 1 → s ≡ rightAt F m (a - 1) → SinkRight F m a b (run x n) (a - 1) s
+    sink-right-start e son =
+        let (less, inner) = left-inner which e son sides in
+        let (ta, tb, p) = sides in
+        record {
+          inside = at-in readable (left-root which e sides) (ta, p .left);
+          inner = inner;
+          fewer = less;
+          stays = λ post. keep-left-side which e son post;
+          turns = λ post put. down-left-side which e son post put;
+        }
+
+    pub sink-left-start : k ≡ 2 → s ≡ leftAt F m (b - 1) → SinkLeft F m a b (run x n) (b - 1) s
+    sink-left-start e son =
+        let (less, inner) = right-inner which e son sides in
+        let (ta, tb, p) = sides in
+        record {
+          inside = at-in readable (right-root which e sides) (tb, p .right);
+          inner = inner;
+          fewer = less;
+          stays = λ post. keep-right-side which e son post;
+          turns = λ post put. down-right-side which e son post put;
+        }
+
+  module _ {m : Words} {a b c d s u : ℕ} {r : Run} where
+    pub sink-right-on : SinkRight F m a b r c s → SinkRight F m s b r d u → SinkRight F m a b r d u
+    sink-right-on w v = record {
+      inside = v .inside;
+      inner = v .inner;
+      fewer = omega (arith, w .fewer, v .fewer);
+      stays = λ post. w .stays (v .stays post);
+      turns = λ post put. w .stays (v .turns post put);
+    }
+
+    pub sink-left-on : SinkLeft F m a b r c s → SinkLeft F m a s r d u → SinkLeft F m a b r d u
+    sink-left-on w v = record {
+      inside = v .inside;
+      inner = v .inner;
+      fewer = omega (arith, w .fewer, v .fewer);
+      stays = λ post. w .stays (v .stays post);
+      turns = λ post put. w .stays (v .turns post put);
+    }
 
   -- the link to what was made is small
   pub heapified-small : {m m′ : Words} {a b q : ℕ} {r : Run} → Heapified F m m′ a b r q → Sides F m a b r

@@ -2,7 +2,7 @@
 use Prim.Native.Nat.{ℕ, zero, suc, _+_, _-_, _*_, _≤_, _<_}
 use mathlib.Core.Path.{_≡_}
 use mathlib.Core.Logic.{_≢_}
-use mathlib.Core.Bool.{Bool, cond}
+use mathlib.Core.Bool.{Bool, cond, _&&_}
 use mathlib.Core.Option.{some}
 use lib.Dec.{eqb}
 use lib.ListN.{length}
@@ -12,7 +12,7 @@ use Rattle.stored_forms.specs.Tree.{Tree, leaf, node, inorder, Form, lengthAt, 
 use Rattle.stored_forms.specs.Blocks.{leftmost}
 use Rattle.stored_forms.specs.Blocks.{Within, NotFirst, Holds, Zeros}
 use Rattle.tree_nodes.specs.Nodes.{cells, Same, LeftSet, RightSet}
-use Rattle.free_tree.specs.Shapes.{top, join, below, above, splitTop, insert, delete, standsOver, heavier}
+use Rattle.free_tree.specs.Shapes.{top, join, below, above, splitTop, insert, delete, standsOver, heavier, onTop}
 use Rattle.free_tree.specs.Shapes.{heapify, shrink, Under, Stops, endsAt, beginsAt, linkTo}
 use Rattle.free_tree.specs.Links.{sonsChanged, linksChanged, partsChanged, linkOf, countOf}
 
@@ -160,6 +160,14 @@ OverRoot F m l r v = (t : Tree) → At F m l t → v ≡ standsOver r t
 -- v says whether the root at the link a stays above the one at the link b
 abbrev pub Heavier : Form → Words → ℕ → ℕ → Bool → Type 0
 Heavier F m a b v = (ta tb : Tree) → At F m a ta → At F m b tb → v ≡ heavier ta tb
+
+-- v says whether the run r stands above the roots at the links a and b
+abbrev pub OverRoots : Form → Words → ℕ → ℕ → Run → Bool → Type 0
+OverRoots F m a b r v = (ta tb : Tree) → At F m a ta → At F m b tb → v ≡ (standsOver r ta && standsOver r tb)
+
+-- k says which stays on top where the run r goes between the trees at the links a and b
+abbrev pub OnTop : Form → Words → ℕ → ℕ → Run → ℕ → Type 0
+OnTop F m a b r k = (ta tb : Tree) → At F m a ta → At F m b tb → k ≡ onTop r ta tb
 
 -- Two trees lie in the arena with the run r between them: its words are zero.
 pub record Between (F : Form) (m : Words) (a b : ℕ) (r : Run) (ta tb : Tree) : Type 0 where

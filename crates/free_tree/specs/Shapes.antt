@@ -74,6 +74,11 @@ abbrev pub heavier : Tree → Tree → Bool
 heavier leaf t = false
 heavier (node a q b) t = leb (top t) (q .size)
 
+-- which stays on top where the run goes between the runs of two trees: 0 for the run, 1 for the first root, 2 for the
+-- second
+abbrev pub onTop : Run → Tree → Tree → ℕ
+onTop r s t = cond (standsOver r s && standsOver r t) 0 (cond (heavier s t) 1 2)
+
 -- the run between the runs of the trees s and t; f puts it there where the root of s stays on top
 abbrev pub heapifyOver : Run → Tree → (Tree → Tree) → Tree → Tree
 heapifyOver r s f leaf = cond (standsOver r s) (node s r leaf) (f leaf)

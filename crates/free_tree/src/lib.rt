@@ -17,7 +17,8 @@ ghost use Rattle.tree_nodes.specs.Nodes.{countBase, cells};
 ghost use Rattle.free_tree.specs.Shapes.{standsAbove, beginsAt};
 ghost use Rattle.free_tree.specs.Links.{linkOf, countOf};
 ghost use Rattle.free_tree.specs.Held.{At, Beside, LeftWins, RightWins, LeftJoined, RightJoined, BothJoined};
-ghost use Rattle.free_tree.specs.Held.{Parts, Room, PutOver, Inserted, Deleted, OverRoot, Heavier, Between};
+ghost use Rattle.free_tree.specs.Held.{Parts, Room, PutOver, Inserted, Deleted, OverRoot, Heavier, OverRoots};
+ghost use Rattle.free_tree.specs.Held.{OnTop, Between};
 ghost use Rattle.free_tree.specs.Held.{Heapified, Longer, Shrunk, LeftmostFound, Placed, NodeOf, Attached, Clear, TouchFound};
 ghost use Rattle.free_tree.specs.Held.{ifEnds, ifBegins};
 
@@ -282,7 +283,8 @@ pub fn delete_at(form: u32, arena: &mut [u32], l: usize, at: usize, over: usize)
     link_of(attach(form, arena, l, over, c, q, 0))
 }
 
-// The same for the block at cell `x`, whose place is searched.
+// The same for the block at cell `x`, whose place is searched. Most often it has one son at most, which is attached here:
+// nothing is joined, and no call is made.
 pub fn delete(form: u32, arena: &mut [u32], l: usize, x: usize) -> usize
     requires { ⌜ ((t : Tree) × At (formOf form) (now arena) l t) ⌝ }
     ensures { λ r. ⌜ Deleted (formOf form) (now (arena .entry)) (now (arena .exit)) l x r ⌝ }
@@ -292,6 +294,12 @@ pub fn delete(form: u32, arena: &mut [u32], l: usize, x: usize) -> usize
     let over = p.over;
     if at == 0 {
         return l;
+    }
+    let c = at - 1;
+    let a = left_of(form, arena, c);
+    let b = right_of(form, arena, c);
+    if (a == 0) | (b == 0) {
+        return link_of(attach(form, arena, l, over, x, a + b, 0));
     }
     delete_at(form, arena, l, at, over)
 }
@@ -325,6 +333,80 @@ fn is_heavier(form: u32, arena: &[u32], a: usize, b: usize) -> bool
     length_of(form, arena, b - 1) <= length_of(form, arena, a - 1)
 }
 
+// Whether a block of `n` cells at cell `x` stands above the roots at the links `lo` and `hi`.
+fn over_roots(form: u32, arena: &[u32], lo: usize, hi: usize, x: usize, n: u32) -> bool
+    requires { ⌜ ((ta : Tree) × At (formOf form) (now arena) lo ta) × ((tb : Tree) × At (formOf form) (now arena) hi tb) ⌝ }
+    ensures { λ r. ⌜ OverRoots (formOf form) (now (arena .entry)) lo hi (run x n) r ⌝ }
+{
+    if over_root(form, arena, lo, x, n) {
+        return over_root(form, arena, hi, x, n);
+    }
+    false
+}
+
+// Which stays on top where a block of `n` cells at cell `x` goes between the trees at the links `lo` and `hi`: 0 for the
+// block, 1 for the root at `lo`, 2 for the root at `hi`.
+fn on_top(form: u32, arena: &[u32], lo: usize, hi: usize, x: usize, n: u32) -> u32
+    requires { ⌜ ((ta : Tree) × At (formOf form) (now arena) lo ta) × ((tb : Tree) × At (formOf form) (now arena) hi tb) ⌝ }
+    ensures { λ k. ⌜ OnTop (formOf form) (now (arena .entry)) lo hi (run x n) k ⌝ }
+{
+    if over_roots(form, arena, lo, hi, x, n) {
+        return 0;
+    }
+    if is_heavier(form, arena, lo, hi) {
+        return 1;
+    }
+    2
+}
+
+// Puts the block of `n` cells at cell `x` between the trees at the links `lo` and `hi`, where the root at `lo` stays on
+// top: the block goes down its right side. As long as the right son stays on top too, its link stays, and the loop goes
+// on to it. Neither of the two functions calls itself: compiled, it would keep the slice in memory.
+fn sink_right(form: u32, arena: &mut [u32], lo: usize, hi: usize, x: usize, n: u32)
+    requires { ⌜ ((ta : Tree) × (tb : Tree) × Between (formOf form) (now arena) lo hi (run x n) ta tb) ⌝ }
+    requires { ⌜ OnTop (formOf form) (now arena) lo hi (run x n) 1 ⌝ }
+    ensures { λ _. ⌜ Heapified (formOf form) (now (arena .entry)) (now (arena .exit)) lo hi (run x n) lo ⌝ }
+{
+    let mut c = lo - 1;
+    let mut s = right_of(form, arena, c);
+    let mut top = on_top(form, arena, s, hi, x, n);
+    while top == 1 {
+        c = s - 1;
+        s = right_of(form, arena, c);
+        top = on_top(form, arena, s, hi, x, n);
+    }
+    if top == 0 {
+        put_first(form, arena, x, n, s, hi);
+        set_right(form, arena, c, x + 1);
+        return;
+    }
+    sink_left(form, arena, s, hi, x, n);
+    set_right(form, arena, c, hi);
+}
+
+// The same where the root at `hi` stays on top: the block goes down its left side.
+fn sink_left(form: u32, arena: &mut [u32], lo: usize, hi: usize, x: usize, n: u32)
+    requires { ⌜ ((ta : Tree) × (tb : Tree) × Between (formOf form) (now arena) lo hi (run x n) ta tb) ⌝ }
+    requires { ⌜ OnTop (formOf form) (now arena) lo hi (run x n) 2 ⌝ }
+    ensures { λ _. ⌜ Heapified (formOf form) (now (arena .entry)) (now (arena .exit)) lo hi (run x n) hi ⌝ }
+{
+    let mut c = hi - 1;
+    let mut s = left_of(form, arena, c);
+    let mut top = on_top(form, arena, lo, s, x, n);
+    while top == 2 {
+        c = s - 1;
+        s = left_of(form, arena, c);
+        top = on_top(form, arena, lo, s, x, n);
+    }
+    if top == 0 {
+        put_first(form, arena, x, n, lo, s);
+        set_left(form, arena, c, x + 1);
+        return;
+    }
+    sink_right(form, arena, lo, s, x, n);
+    set_left(form, arena, c, lo);
+}
+
 // Puts the block of `n` cells at cell `x` between the trees at the links `lo` and `hi`, and returns the link to the
 // whole. Most often it stands above both roots, and the trees are its sons as they are. Else the heavier root stays on
 // top, and the block goes down its inner side; a link that stays is not written.
@@ -332,25 +414,16 @@ fn heapify(form: u32, arena: &mut [u32], lo: usize, hi: usize, x: usize, n: u32)
     requires { ⌜ ((ta : Tree) × (tb : Tree) × Between (formOf form) (now arena) lo hi (run x n) ta tb) ⌝ }
     ensures { λ r. ⌜ Heapified (formOf form) (now (arena .entry)) (now (arena .exit)) lo hi (run x n) r ⌝ }
 {
-    if over_root(form, arena, lo, x, n) & over_root(form, arena, hi, x, n) {
+    let top = on_top(form, arena, lo, hi, x, n);
+    if top == 0 {
         put_first(form, arena, x, n, lo, hi);
         return x + 1;
     }
-    if is_heavier(form, arena, lo, hi) {
-        let s = right_of(form, arena, lo - 1);
-        let q = heapify(form, arena, s, hi, x, n);
-        if q == s {
-            return lo;
-        }
-        set_right(form, arena, lo - 1, q);
+    if top == 1 {
+        sink_right(form, arena, lo, hi, x, n);
         return lo;
     }
-    let s = left_of(form, arena, hi - 1);
-    let q = heapify(form, arena, lo, s, x, n);
-    if q == s {
-        return hi;
-    }
-    set_left(form, arena, hi - 1, q);
+    sink_left(form, arena, lo, hi, x, n);
     hi
 }
 

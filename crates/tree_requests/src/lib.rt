@@ -11,15 +11,17 @@ use sizes::cells_of;
 use tree_check::Head;
 use tree_nodes::forms::cell_count;
 ghost use mathlib.Core.Path.{_≡_};
-ghost use mathlib.Core.List.{[]};
-ghost use Prim.Native.Nat.{_+_, _*_, _%_, _<_, _≤_};
+ghost use mathlib.Core.List.{List, []};
+ghost use Prim.Native.Nat.{_+_, _*_, _/_, _%_, _<_, _≤_};
 ghost use lib.ListN.{length};
 ghost use mathlib.Core.Bool.{true};
 ghost use Rattle.calls.specs.Pool.{sound};
+ghost use Rattle.ledger.specs.Runs.{Run};
 ghost use Rattle.ledger.specs.Records.{isParty, keepable, shortened};
 ghost use Rattle.calls.specs.Step.{ask, give, cut, answerTo, poolAfter, partied};
 ghost use Rattle.calls.specs.Engines.{treeEngine};
 ghost use Rattle.stored_forms.specs.Tree.{formOf};
+ghost use Rattle.free_blocks.specs.Blocks.{Gives, Given};
 ghost use Rattle.call_parts.specs.Parts.{namedIn, actOf, requestAt, withAnswer};
 ghost use Rattle.call_parts.specs.Results.{acted, ran};
 ghost use Rattle.tree_check.specs.Gate.{treePool};
@@ -151,6 +153,21 @@ pub fn outcome_of_grant(head: Head, words: u32, done: u64) -> Outcome
 
 // ---- release
 
+// Gives back the cells of the named record's block behind its first `kept`, and returns the link to the tree. The cells are
+// counted here, for a release and a trim alike: what is left of those is then small enough that the compiler makes it
+// part of their callers, the loop over a list among them.
+fn give_tail(form: u32, arena: &mut [u32], root: usize, named: Row, kept: usize) -> usize
+    requires { ⌜ ((rs : List Run) × Gives (formOf form) (now arena) root (named .address / formOf form .cell + kept)
+        (named .address / formOf form .cell + cellSpan (formOf form) (named .words)) rs) ⌝ }
+    ensures { λ q. ⌜ Given (formOf form) (now (arena .entry)) (now (arena .exit)) root
+        (named .address / formOf form .cell + kept)
+        (named .address / formOf form .cell + cellSpan (formOf form) (named .words)) q ⌝ }
+{
+    let first = cell_count(form, named.address as usize);
+    let past = first + cells_of(form, named.words);
+    free_blocks::give_cells(form, arena, root, first + kept, past)
+}
+
 // Gives back the cells of the named record, which stands in the slot, and empties the slot.
 fn give_back(head: Head, arena: &mut [u32], table: &mut [u32], named: Row, slot: usize) -> u64
     requires { ⌜ (sound treeEngine (treePool head (now arena) (now table))
@@ -158,10 +175,7 @@ fn give_back(head: Head, arena: &mut [u32], table: &mut [u32], named: Row, slot:
     ensures { λ r. ⌜ handed (releaseOutcome head named r) (now (arena .exit)) (now (table .exit)) []
         ≡ acted treeEngine (give named) (treePool head (now (arena .entry)) (now (table .entry))) ⌝ }
 {
-    let form = head.form;
-    let lo = cell_count(form, named.address as usize);
-    let hi = lo + cells_of(form, named.words);
-    let root = free_blocks::give_cells(form, arena, head.root as usize, lo, hi);
+    let root = give_tail(head.form, arena, head.root as usize, named, 0);
     record_table::write_row(table, slot, call_parts::EMPTY_ROW);
     effect(root, 0)
 }
@@ -216,13 +230,11 @@ fn cut_back(
 {
     let form = head.form;
     record_table::write_row(table, slot, call_parts::shortened(named, keep));
-    let first = cell_count(form, named.address as usize);
-    let from = first + cells_of(form, keep);
-    let past = first + cells_of(form, named.words);
-    if from == past {
+    let kept = cells_of(form, keep);
+    if kept == cells_of(form, named.words) {
         return effect(head.root as usize, 0);
     }
-    let root = free_blocks::give_cells(form, arena, head.root as usize, from, past);
+    let root = give_tail(form, arena, head.root as usize, named, kept);
     effect(root, 0)
 }
 

@@ -1,9 +1,8 @@
 -- `tree_requests::cut_back` meets its contract: the cells that go back, if any, and the shorter record, make the act a
 -- trim. Assumes nothing.
 use Prim.Native.Nat.{ℕ, _+_, _*_, _/_, _<_}
-use native.Mathlib.Nat.{div-le-self}
 use native.Mathlib.Omega.{arith}
-use mathlib.Core.Path.{_≡_, sym, ap, ap₂, subst, _∙_}
+use mathlib.Core.Path.{_≡_, sym, ap, _∙_}
 use mathlib.Core.List.{[], _∷_}
 use borrow.Author.Needs.{needs}
 use denote.Ref.{now}
@@ -13,7 +12,7 @@ use Rattle.ledger.specs.declared.Row.{Row}
 use Rattle.ledger.specs.Records.{recordsOf, tableOf, keep, shortened, carryOut, member, settle}
 use Rattle.ledger.specs.Units.{first, keptUnits, tailUnits}
 use Rattle.stored_forms.specs.Tree.{Form, formOf, formRule, cellsPerUnit}
-use Rattle.free_blocks.specs.Blocks.{Changed, Gives, Given}
+use Rattle.free_blocks.specs.Blocks.{Changed}
 use Rattle.calls.specs.Step.{cut}
 use Rattle.calls.specs.Engines.{treeEngine}
 use Rattle.call_parts.specs.Results.{acted}
@@ -22,12 +21,15 @@ use Rattle.tree_check.specs.Gate.{treePool}
 use Rattle.tree_requests.specs.declared.Outcome.{Outcome}
 use Rattle.tree_requests.specs.Outcomes.{handed, releaseOutcome, effectNumber, effectRoot, effectAddress}
 use Rattle.tree_requests.specs.Sizes.{cellSpan}
-use Rattle.tree_requests.proofs.SizeLaws.{freeCells, cells-fit}
+use Rattle.tree_requests.proofs.SizeLaws.{freeCells}
 use Rattle.tree_requests.proofs.RefusedLaws.{released}
 use Rattle.tree_requests.proofs.PlanLaws.{plan-range, plan-slot, plan-answer, plan-some, plan-none, plan-gives}
 use Rattle.tree_requests.proofs.PlanLaws.{plan-given, plan-stays, plan-root, plan-pool, trim-from}
 use Rattle.tree_requests.proofs.cut_back.Statement.{statement}
 use Rattle.tree_requests.proofs.cut_back.Tie as tie
+
+add-same : (k : ℕ) {m n : ℕ} → k + m ≡ k + n → m ≡ n
+add-same k e = omega arith
 
 abbrev form : tie.Start → Form
 form s = formOf (s .args .head .form)
@@ -44,22 +46,19 @@ Frees s b root =
     (freeCells (form s) (length a) (settle (member (s .args .named .ticket) (keep (s .args .keep)) ∷ []) L)) root
 
 -- the tail in the code's own numbers: where it begins, and where it ends
-tail-from : (c : tie.After-cells-of2) → let x = c .before .before in let s = x .before .before .before .before .before .before .before .before .before in
+tail-from : (c : tie.After-cells-of2) → let s = c .before .before .before .before .before .before .before .before .before in
     let ρ = formRule (form s) in
-    x .cell-count .result + c .before .cells-of .result
+    named-cell s + c .before .cells-of .result
     ≡ (first ρ (s .args .named) + keptUnits ρ (keep (s .args .keep))) * cellsPerUnit (form s)
 tail-from c =
-    let x = c .before .before in
-    let s = x .before .before .before .before .before .before .before .before .before in
-    ap₂ (λ (m n : ℕ). m + n) (x .cell-count .ensures) (c .before .cells-of .ensures)
+    let s = c .before .before .before .before .before .before .before .before .before in
+    ap (λ (n : ℕ). named-cell s + n) (c .before .cells-of .ensures)
     ∙ trim-from (s .args .head) (now (s .args .arena)) (now (s .args .table)) (s .args .named) (s .args .slot)
     (s .pre .0) (s .pre .1) (s .args .keep)
 
-tail-to : (c : tie.After-cells-of2) → let x = c .before .before in let s = x .before .before .before .before .before .before .before .before .before in
-    x .cell-count .result + c .cells-of2 .result ≡ named-cell s + cellSpan (form s) (s .args .named .words)
-tail-to c =
-    let x = c .before .before in
-    ap₂ (λ (m n : ℕ). m + n) (x .cell-count .ensures) (c .cells-of2 .ensures)
+tail-to : (c : tie.After-cells-of2) → let s = c .before .before .before .before .before .before .before .before .before in
+    c .cells-of2 .result ≡ cellSpan (form s) (s .args .named .words)
+tail-to c = c .cells-of2 .ensures
 
 -- the table with the shorter record
 abbrev Written : tie.Start → Words → Type 0
@@ -102,41 +101,11 @@ write-row-requires c κs =
           (s .pre .0) (s .pre .1) .fours,
     )
 
-cast-cell-count : tie.Need-cast-cell-count
-cast-cell-count c = search needs
-
-cell-count-requires : tie.Need-cell-count-requires
-cell-count-requires c κs = search needs
-
 cells-of-requires : tie.Need-cells-of-requires
 cells-of-requires c κs = search needs
 
-add-from : tie.Need-add-from
-add-from c =
-    let x = c .before in
-    let s = x .before .before .before .before .before .before .before .before .before in
-    omega (
-      arith,
-      x .cell-count .ensures,
-      div-le-self (s .args .named .address) (form s .cell),
-      c .cells-of .ensures,
-      cells-fit (s .args .head .form) (s .args .keep) (omega arith),
-    )
-
 cells-of-requires-2 : tie.Need-cells-of-requires-2
 cells-of-requires-2 c κs = search needs
-
-add-past : tie.Need-add-past
-add-past c =
-    let x = c .before .before in
-    let s = x .before .before .before .before .before .before .before .before .before in
-    omega (
-      arith,
-      x .cell-count .ensures,
-      div-le-self (s .args .named .address) (form s .cell),
-      c .cells-of2 .ensures,
-      cells-fit (s .args .head .form) (s .args .named .words) (omega arith),
-    )
 
 cast-effect : tie.Need-cast-effect
 cast-effect c = search needs
@@ -151,67 +120,59 @@ returns : tie.Need-returns
 returns c =
     let i = c .before .before in
     let y = i .before in
-    let x = y .before .before in
-    let w = i .before .before .before .before .before .before .before in
-    let s = i .before .before .before .before .before .before .before .before .before .before .before .before in
+    let s = y .before .before .before .before .before .before .before .before .before in
+    let w = y .before .before .before .before in
     let none = plan-none (s .args .head) (now (s .args .arena)) (now (s .args .table)) (s .args .named) (s .args .slot)
-    (s .pre .0) (s .pre .1) (keep (s .args .keep)) (s .pre .2)
-    (x .cell-count .result + y .before .cells-of .result) (tail-from y) (i .if1 .taken ∙ tail-to y) in
+    (s .pre .0) (s .pre .1) (keep (s .args .keep)) (s .pre .2) (named-cell s + y .before .cells-of .result) (tail-from y)
+    (ap (λ (n : ℕ). named-cell s + n) (i .if1 .taken ∙ tail-to y)) in
     acts s (now (s .args .arena)) (w .write-row .last .0) (s .args .head .root) (c .effect .result)
     (plan-stays (s .args .head) (now (s .args .arena)) (now (s .args .table)) (s .args .named) (s .args .slot)
     (s .pre .0) (s .pre .1) (keep (s .args .keep)) (s .pre .2) none)
     (written w) (c .effect .ensures)
 
-cast-give-cells : tie.Need-cast-give-cells
-cast-give-cells c = search needs
+cast-give-tail : tie.Need-cast-give-tail
+cast-give-tail c = search needs
 
 -- there is a tail
-some-tail : (i : tie.Else1) → let s = i .before .before .before .before .before .before .before .before .before .before .before .before in
+some-tail : (i : tie.Else1) → let s = i .before .before .before .before .before .before .before .before .before .before in
     0 < tailUnits (formRule (form s)) (keep (s .args .keep)) (s .args .named)
 some-tail i =
     let y = i .before in
-    let x = y .before .before in
-    let s = i .before .before .before .before .before .before .before .before .before .before .before .before in
+    let s = y .before .before .before .before .before .before .before .before .before in
     plan-some (s .args .head) (now (s .args .arena)) (now (s .args .table)) (s .args .named) (s .args .slot)
-    (s .pre .0) (s .pre .1) (keep (s .args .keep)) (s .pre .2)
-    (x .cell-count .result + y .before .cells-of .result) (tail-from y) (λ e. i .if1 .left (e ∙ sym (tail-to y)))
+    (s .pre .0) (s .pre .1) (keep (s .args .keep)) (s .pre .2) (named-cell s + y .before .cells-of .result) (tail-from y)
+    (λ e. i .if1 .left (add-same (named-cell s) e ∙ sym (tail-to y)))
 
-give-cells-requires : tie.Need-give-cells-requires
-give-cells-requires c κs =
+give-tail-requires : tie.Need-give-tail-requires
+give-tail-requires c κs =
     let i = c .before .before in
     let y = i .before in
-    let x = y .before .before in
-    let s = i .before .before .before .before .before .before .before .before .before .before .before .before in
-    let lo = x .cell-count .result + y .before .cells-of .result in
-    let rs = freeCells (form s) (length (now (s .args .arena))) (recordsOf (now (s .args .table))) in (
-      rs,
-      subst (λ (hi : ℕ). Gives (form s) (now (s .args .arena)) (s .args .head .root) lo hi rs) (sym (tail-to y))
-          (plan-gives (s .args .head) (now (s .args .arena)) (now (s .args .table)) (s .args .named) (s .args .slot)
-          (s .pre .0) (s .pre .1) (keep (s .args .keep)) (s .pre .2)
-          lo (tail-from y) (some-tail i)),
+    let s = y .before .before .before .before .before .before .before .before .before in (
+      freeCells (form s) (length (now (s .args .arena))) (recordsOf (now (s .args .table))),
+      plan-gives (s .args .head) (now (s .args .arena)) (now (s .args .table)) (s .args .named) (s .args .slot)
+          (s .pre .0) (s .pre .1) (keep (s .args .keep)) (s .pre .2) (named-cell s + y .before .cells-of .result)
+          (tail-from y) (some-tail i),
     )
 
 -- what the cells given back leave
-given : (g : tie.After-give-cells) → Frees (g .before .before .before .before .before .before .before .before .before .before .before .before .before .before .before) (g .give-cells .last .1 .0) (g .give-cells .result)
+given : (g : tie.After-give-tail)
+    → Frees (g .before .before .before .before .before .before .before .before .before .before .before .before .before)
+    (g .give-tail .last .1 .0) (g .give-tail .result)
 given g =
     let i = g .before .before .before in
     let y = i .before in
-    let x = y .before .before in
-    let s = i .before .before .before .before .before .before .before .before .before .before .before .before in
-    let lo = x .cell-count .result + y .before .cells-of .result in
+    let s = y .before .before .before .before .before .before .before .before .before in
     plan-given (s .args .head) (now (s .args .arena)) (now (s .args .table)) (s .args .named) (s .args .slot)
-    (s .pre .0) (s .pre .1) (keep (s .args .keep)) (s .pre .2)
-    lo (tail-from y) (some-tail i) (g .give-cells .last .1 .0) (g .give-cells .result)
-    (subst (λ (hi : ℕ). Given (form s) (now (s .args .arena)) (g .give-cells .last .1 .0) (s .args .head .root) lo hi
-    (g .give-cells .result)) (tail-to y) (g .give-cells .ensures))
+    (s .pre .0) (s .pre .1) (keep (s .args .keep)) (s .pre .2) (named-cell s + y .before .cells-of .result) (tail-from y)
+    (some-tail i) (g .give-tail .last .1 .0) (g .give-tail .result) (g .give-tail .ensures)
 
 effect-requires-2 : tie.Need-effect-requires-2
 effect-requires-2 c κs =
     let g = c .before .before in
-    let s = g .before .before .before .before .before .before .before .before .before .before .before .before .before .before .before in (
+    let s = g .before .before .before .before .before .before .before .before .before .before .before .before .before in (
       plan-root (s .args .head) (now (s .args .arena)) (now (s .args .table)) (s .args .named) (s .args .slot)
           (s .pre .0) (s .pre .1) (keep (s .args .keep)) (s .pre .2)
-          (g .give-cells .last .1 .0) (g .give-cells .result) (given g),
+          (g .give-tail .last .1 .0) (g .give-tail .result) (given g),
       omega arith,
     )
 
@@ -224,9 +185,9 @@ same-length-3 c = search needs
 returns-2 : tie.Need-returns-2
 returns-2 c =
     let g = c .before .before .before in
-    let w = g .before .before .before .before .before .before .before .before .before .before in
-    let s = g .before .before .before .before .before .before .before .before .before .before .before .before .before .before .before in
-    acts s (g .give-cells .last .1 .0) (w .write-row .last .0) (g .give-cells .result) (c .effect2 .result) (given g)
+    let w = g .before .before .before .before .before .before .before .before in
+    let s = w .before .before .before .before .before in
+    acts s (g .give-tail .last .1 .0) (w .write-row .last .0) (g .give-tail .result) (c .effect2 .result) (given g)
     (written w) (c .effect2 .ensures)
 
 pub cut-back-spec : {M : Type 1} → statement M
@@ -235,18 +196,14 @@ cut-back-spec =
     (tie.spec
     shortened-requires
     write-row-requires
-    cast-cell-count
-    cell-count-requires
     cells-of-requires
-    add-from
     cells-of-requires-2
-    add-past
     cast-effect
     effect-requires
     same-length
     returns
-    cast-give-cells
-    give-cells-requires
+    cast-give-tail
+    give-tail-requires
     effect-requires-2
     same-length-2
     same-length-3

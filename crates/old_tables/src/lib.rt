@@ -25,12 +25,7 @@ fn widened_at(old: &[u32], i: usize) -> Row
     let address = old[3 * i + 1];
     let words = old[3 * i + 2];
     if (ticket == 0) & (address == 0) & (words == 0) {
-        return Row {
-            ticket: 0,
-            address: 0,
-            words: 0,
-            party: 0,
-        };
+        return call_parts::EMPTY_ROW;
     }
     Row {
         ticket,

@@ -398,14 +398,14 @@ pub fn right_lengths(s: u32, arena: &[i32], table: &[u32], index: &[u32]) -> boo
     ensures { λ r. ⌜ RightLengths s (now (arena .entry)) (now (table .entry)) (now (index .entry)) r ⌝ }
 {
     let w = arena.len();
-    let t = table.len();
+    let slots = slot_count(table);
     let one = is_segments(s);
     (2 <= w)
         & (w <= 16384)
         & one
-        & (t % 4 == 0)
-        & (1 <= t / 4)
-        & (t / 4 <= 256)
+        & (table.len() % 4 == 0)
+        & (1 <= slots)
+        & (slots <= 256)
         & (index.len() == 3 * (s as usize))
 }
 

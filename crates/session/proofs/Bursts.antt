@@ -287,8 +287,8 @@ module _ (buffer : Bytes) (long : length buffer ≡ stateBytes) where
       (ap (λ (b : Bytes). talk b os) started ∙ talk-there before [] good-begun os)
       ∙ end-there (f .state) (f .kept) (good-talk before [] good-begun os) out
 
-  handed-there : (xs out : Bytes) → mostAnswer * length xs ≤ length out → HandsOver (begun buffer) xs (delivery xs out ∷ [])
-  handed-there xs out room =
+  handed-at-once : (xs out : Bytes) → mostAnswer * length xs ≤ length out → HandsOver (begun buffer) xs (delivery xs out ∷ [])
+  handed-at-once xs out room =
       let f = burst serve (length out) before [] xs in
       let none = burst-taken serve (length out) before [] xs
       (omega (arith, room, said-short serve mostAnswer said-long before [] xs)) in
@@ -316,7 +316,7 @@ module _ (buffer : Bytes) (long : length buffer ≡ stateBytes) where
     ends = λ os out room.
         let f = rooms.fedBy serve before [] (map offer os) in
         rw (end-after os out) (end-fits (f .state) (f .kept) (bytesOf (session (f .state) (f .kept))) out room);
-    handed = handed-there;
+    at-once = handed-at-once;
   }
 
 pub all-bursts : AllBursts

@@ -93,7 +93,7 @@ module _ (buffer : Bytes) where
     -- and an end call is served
     pub ends : (os : List Delivery) (out : Bytes) → mostAnswer ≤ length out → endCall (talk begun os .state) out .number ≡ 0
     -- any bytes can be handed over: at once, if there is room for any answer to each of them
-    pub handed : (xs out : Bytes) → mostAnswer * length xs ≤ length out → HandsOver begun xs (delivery xs out ∷ [])
+    pub at-once : (xs out : Bytes) → mostAnswer * length xs ≤ length out → HandsOver begun xs (delivery xs out ∷ [])
 
 -- whatever buffer of a state's length the start call was lent
 abbrev pub AllBursts : Type 0

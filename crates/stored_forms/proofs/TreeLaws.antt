@@ -96,9 +96,6 @@ pub heaped-treeOf : (rs : List Run) → Heaped (treeOf rs)
 heaped-treeOf [] = tt
 heaped-treeOf (r ∷ rs) = heaped-addLeft r (treeOf rs) (heaped-treeOf rs)
 
-pub tree-is : (rs : List Run) → IsTreeOf rs (treeOf rs)
-tree-is rs = record { order = inorder-treeOf rs; heap = heaped-treeOf rs }
-
 -- ---- leftmost fit
 
 -- a run of at least m cells

@@ -17,7 +17,7 @@ use Rattle.ledger.specs.Runs.{Run, run, Gapped, covered}
 use Rattle.stored_forms.specs.Tree.{Tree, leaf, node, link, inorder, noLongerThan, Form}
 use Rattle.stored_forms.specs.Tree.{lengthAt, leftAt, rightAt}
 use Rattle.stored_forms.proofs.NodeLaws.{Readable, holds-reads}
-use Rattle.tree_nodes.specs.Nodes.{Clear}
+use Rattle.tree_nodes.specs.Nodes.{NodeOnly}
 use Rattle.record_table.specs.Partition.{total}
 use Rattle.record_table.proofs.PartitionLaws.{total-append}
 use Rattle.tree_check.specs.Maps.{Covers}
@@ -264,7 +264,7 @@ module _ {F : Form} (back : Readable F (F .links)) {m map : Words} {N : ℕ} (re
             inside = omega (arith, end-is x);
           }
 
-      node-clear : Clear F m c z
+      node-clear : NodeOnly F m c z
       node-clear =
           let small = sons-in x in
           let (n, l, r) = holds-reads F (F .links) back m a (run c z) b (x .holds) (small .0) (small .1) in

@@ -10,7 +10,7 @@ use Rattle.words.specs.Lists.{Words, all}
 use Rattle.ledger.specs.Runs.{Run, Gapped, covered}
 use Rattle.stored_forms.specs.Tree.{Tree, link, inorder, Heaped, Form}
 use Rattle.stored_forms.specs.Blocks.{Holds}
-use Rattle.tree_nodes.specs.Nodes.{cells, Clear}
+use Rattle.tree_nodes.specs.Nodes.{cells, NodeOnly}
 use Rattle.record_table.specs.Partition.{total}
 use Rattle.tree_check.specs.Maps.{Covers, Leads, Roomy}
 
@@ -44,7 +44,7 @@ pub record Between (k hi limit c z : ℕ) : Type 0 where
 pub record NodeFollows (F : Form) (m map : Words) (k c z : ℕ) : Type 0 where
   pub apart : earliest k ≤ c
   pub led : Leads map k c
-  pub clear : Clear F m c z
+  pub clear : NodeOnly F m c z
 
 -- A tree lies at the link l: its runs are shorter than the limit and lie apart from cell k up to cell `next`, where
 -- every other cell is held. `free` counts their cells besides the `before` that were counted already.

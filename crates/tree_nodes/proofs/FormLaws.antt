@@ -21,7 +21,7 @@ use Rattle.stored_forms.specs.Tree.{Form, formOne, formTwo, formThree, formOf, 
 use Rattle.stored_forms.specs.Tree.{lengthAt, leftAt, rightAt, cellsPerUnit}
 use Rattle.stored_forms.specs.Blocks.{Zeros}
 use Rattle.stored_forms.proofs.NodeLaws.{each-form, readable}
-use Rattle.tree_nodes.specs.Nodes.{cells, Clear, NodePut, LeftSet, RightSet, NodeCleared}
+use Rattle.tree_nodes.specs.Nodes.{cells, NodeOnly, NodePut, LeftSet, RightSet, NodeCleared}
 
 -- ---- the forms
 
@@ -167,7 +167,7 @@ zeros-says m lo hi = (
 module _ (m : Words) (c z : ℕ) (some : 1 ≤ z) where
   -- in the first form a cell reads as a node whatever stands in it
   pub two-clear : c + z ≤ length m / 2
-      → Says (every (zeroAt m) (2 * c + 2) (2 * (c + z) - (2 * c + 2))) (Clear formOne m c z)
+      → Says (every (zeroAt m) (2 * c + 2) (2 * (c + z) - (2 * c + 2))) (NodeOnly formOne m c z)
   unfolding formOne
   two-clear inside =
       let x = getD m (2 * c) 0 in
@@ -181,7 +181,7 @@ module _ (m : Words) (c z : ℕ) (some : 1 ≤ z) where
 
   -- in the second its fourth word is 0
   pub four-clear : c + z ≤ length m / 4
-      → Says (every (zeroAt m) (4 * c + 3) (4 * (c + z) - (4 * c + 3))) (Clear formTwo m c z)
+      → Says (every (zeroAt m) (4 * c + 3) (4 * (c + z) - (4 * c + 3))) (NodeOnly formTwo m c z)
   unfolding formTwo
   four-clear inside =
       let cell = four-cell m c (omega arith) in

@@ -32,8 +32,8 @@ NodeAt F m c = cellWords F m c ≡ F .node (lengthAt F m c) (leftAt F m c) (righ
 
 -- A block of z cells from cell c on has a node in its first, and zeros in the others: "A free block's first cell is its
 -- node. All its other words are zero."
-abbrev pub Clear : Form → Words → ℕ → ℕ → Type 0
-Clear F m c z = NodeAt F m c × Zeros m (F .cell * suc c) (F .cell * (c + z))
+abbrev pub NodeOnly : Form → Words → ℕ → ℕ → Type 0
+NodeOnly F m c z = NodeAt F m c × Zeros m (F .cell * suc c) (F .cell * (c + z))
 
 -- the node of length n with the links l and r lies at cell c, and no other cell has changed
 pub record NodePut (F : Form) (m m′ : Words) (c n l r : ℕ) : Type 0 where

@@ -9,7 +9,7 @@ ghost use Prim.Native.Nat.{suc, _+_, _*_, _≤_, _<_};
 ghost use Rattle.words.specs.Flags.{Says};
 ghost use Rattle.stored_forms.specs.Tree.{formOf, lengthAt, leftAt, rightAt};
 ghost use Rattle.stored_forms.specs.Blocks.{Zeros};
-ghost use Rattle.tree_nodes.specs.Nodes.{countBase, cells, differ, Clear, NodePut, LeftSet, RightSet};
+ghost use Rattle.tree_nodes.specs.Nodes.{countBase, cells, differ, NodeOnly, NodePut, LeftSet, RightSet};
 ghost use Rattle.tree_nodes.specs.Nodes.{NodeCleared, wipedCells};
 
 // The length of the node at cell `c`.
@@ -49,7 +49,7 @@ pub fn right_of(form: u32, arena: &[u32], c: usize) -> usize
 // 0, and none behind it.
 pub fn is_clear(form: u32, arena: &[u32], c: usize, z: usize) -> bool
     requires { ⌜ (1 ≤ z) × (c + z ≤ cells (formOf form) (now arena)) ⌝ }
-    ensures { λ r. ⌜ Says r (Clear (formOf form) (now (arena .entry)) c z) ⌝ }
+    ensures { λ r. ⌜ Says r (NodeOnly (formOf form) (now (arena .entry)) c z) ⌝ }
 {
     if form == 2 {
         return words::is_zero_part(arena, 4 * c + 3, 4 * (c + z));

@@ -8,10 +8,10 @@ use Rattle.calls.specs.Step.{format, refusal, step}
 use Rattle.calls.specs.Engines.{treeEngine}
 use Rattle.calls.specs.Computing.{treeMachine}
 use Rattle.worked_cases.specs.BenchSheet.{trace}
-use Rattle.worked_cases.specs.FormThree.{memory, requests, expected, written, r₁, r₂, r₃, released}
+use Rattle.worked_cases.specs.FormThree.{memory, formThreeCalls, expected, written, r₁, r₂, r₃, released}
 use Rattle.worked_cases.specs.FormThree.{ending, orders, emptied, soundIn, offUnit, partUnit, twelveWords, either}
 
-pub form-three : (trace treeEngine (memory 3 24) requests ≡ expected)
+pub form-three : (trace treeEngine (memory 3 24) formThreeCalls ≡ expected)
     × (trace treeEngine written (r₁ ∷ r₃ ∷ r₂ ∷ []) ≡ released)
     × (map (ending written) orders ≡ replicate 6 emptied)
 unfolding treeMachine

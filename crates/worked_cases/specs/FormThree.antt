@@ -13,8 +13,8 @@ use Rattle.calls.specs.Engines.{treeEngine}
 use Rattle.worked_cases.specs.BenchSheet.{State, state}
 
 -- a tree pool with this form
-abbrev pub poolIn : ℕ → ℕ → ℕ → Words → Words → Pool
-poolIn form root next arena table = record {
+abbrev pub poolWith : ℕ → ℕ → ℕ → Words → Words → Pool
+poolWith form root next arena table = record {
   head = record { own = root ∷ form ∷ []; next = next };
   shape = form;
   arena = arena;
@@ -24,10 +24,10 @@ poolIn form root next arena table = record {
 
 -- memory before the format, with any contents
 abbrev pub memory : ℕ → ℕ → Pool
-memory form words = poolIn form 0 0 (replicate words 7) (replicate 16 9)
+memory form words = poolWith form 0 0 (replicate words 7) (replicate 16 9)
 
-abbrev pub requests : List (Call Words)
-requests = format 1 ∷ allocate 1 5 ∷ allocate 1 4 ∷ allocate 1 6 ∷ allocate 1 1 ∷ []
+abbrev pub formThreeCalls : List (Call Words)
+formThreeCalls = format 1 ∷ allocate 1 5 ∷ allocate 1 4 ∷ allocate 1 6 ∷ allocate 1 1 ∷ []
 
 abbrev pub expected : List State
 expected =
@@ -53,7 +53,7 @@ expected =
 -- the pool then, when its holders have written all their words, spare ones too
 abbrev pub written : Pool
 written =
-    poolIn 3 0 4
+    poolWith 3 0 4
     (1 ∷ 2 ∷ 3 ∷ 4 ∷ 5 ∷ 6 ∷ 7 ∷ 8 ∷ 9 ∷ 10 ∷ 11 ∷ 12 ∷ 13 ∷ 14 ∷ 15 ∷ 16 ∷ 17 ∷ 18 ∷ 19 ∷ 20 ∷ 21 ∷ 22 ∷ 23 ∷ 24 ∷ [])
     (1 ∷ 0 ∷ 5 ∷ 1 ∷ 2 ∷ 8 ∷ 4 ∷ 1 ∷ 3 ∷ 16 ∷ 6 ∷ 1 ∷ 0 ∷ 0 ∷ 0 ∷ 0 ∷ [])
 
@@ -91,7 +91,7 @@ orders =
     ∷ (r₃ ∷ r₂ ∷ r₁ ∷ []) ∷ []
 
 abbrev pub emptied : Pool
-emptied = poolIn 3 1 4 (12 ∷ replicate 23 0) (replicate 16 0)
+emptied = poolWith 3 1 4 (12 ∷ replicate 23 0) (replicate 16 0)
 
 -- ---- the rule in the soundness check
 
@@ -102,13 +102,13 @@ soundIn p = sound treeEngine (p 1) ∷ sound treeEngine (p 3) ∷ []
 -- a record on a cell but no unit; a free block that is no whole number of units; 12 words, all free; and a pool whose
 -- memory does not say its form
 abbrev pub offUnit : ℕ → Pool
-offUnit form = poolIn form 4 2 (1 ∷ 0 ∷ 7 ∷ 7 ∷ 7 ∷ 7 ∷ 9 ∷ 1 ∷ replicate 16 0) (1 ∷ 2 ∷ 4 ∷ 1 ∷ [])
+offUnit form = poolWith form 4 2 (1 ∷ 0 ∷ 7 ∷ 7 ∷ 7 ∷ 7 ∷ 9 ∷ 1 ∷ replicate 16 0) (1 ∷ 2 ∷ 4 ∷ 1 ∷ [])
 
 abbrev pub partUnit : ℕ → Pool
-partUnit form = poolIn form 4 2 (7 ∷ 7 ∷ 7 ∷ 7 ∷ 7 ∷ 7 ∷ 9 ∷ 0 ∷ replicate 16 0) (1 ∷ 0 ∷ 5 ∷ 1 ∷ [])
+partUnit form = poolWith form 4 2 (7 ∷ 7 ∷ 7 ∷ 7 ∷ 7 ∷ 7 ∷ 9 ∷ 0 ∷ replicate 16 0) (1 ∷ 0 ∷ 5 ∷ 1 ∷ [])
 
 abbrev pub twelveWords : ℕ → Pool
-twelveWords form = poolIn form 1 2 (6 ∷ replicate 11 0) (0 ∷ 0 ∷ 0 ∷ 0 ∷ [])
+twelveWords form = poolWith form 1 2 (6 ∷ replicate 11 0) (0 ∷ 0 ∷ 0 ∷ 0 ∷ [])
 
 abbrev pub either : ℕ → Pool
-either form = poolIn form 5 2 (7 ∷ 7 ∷ 7 ∷ 7 ∷ 7 ∷ 7 ∷ 7 ∷ 7 ∷ 8 ∷ 0 ∷ replicate 14 0) (1 ∷ 0 ∷ 8 ∷ 1 ∷ [])
+either form = poolWith form 5 2 (7 ∷ 7 ∷ 7 ∷ 7 ∷ 7 ∷ 7 ∷ 7 ∷ 7 ∷ 8 ∷ 0 ∷ replicate 14 0) (1 ∷ 0 ∷ 8 ∷ 1 ∷ [])

@@ -59,7 +59,7 @@ module _ {F : Form} (readable : Readable F (F .links)) where
       × (((a < F .links) × (b < F .links)) × Zeros m (F .cell * r .start) (F .cell * suc (r .start)))
   between-ready {m} {r = r} {tb = tb} p =
       let some = p .filled in
-      let high = within-le tb (r .start + r .size) (cells F m) (p .over) in
+      let high = within-le tb (r .start + r .size) (cells F m) (p .right-within) in
       let next : suc (r .start) ≤ r .start + r .size = omega arith in (
         omega arith,
         (
@@ -83,12 +83,12 @@ module _ {F : Form} (readable : Readable F (F .links)) where
             put .node ∙ cc,
             same-zeros readable m m′ (suc x) (x + n) (λ d u v. put .frame d (λ z. omega arith))
                 (after-first m x (F .cell * (x + n)) (p .zeros)),
-            same-tree readable m m′ ta 0 x (p .under) long (λ d u v. put .frame d (λ z. omega arith))
+            same-tree readable m m′ ta 0 x (p .left-within) long (λ d u v. put .frame d (λ z. omega arith))
                 (p .left .holds),
-            same-tree readable m m′ tb (x + n) (cells F m) (p .over) long (λ d u v. put .frame d (λ z. omega arith))
+            same-tree readable m m′ tb (x + n) (cells F m) (p .right-within) long (λ d u v. put .frame d (λ z. omega arith))
                 (p .right .holds),
           );
-          within = rw long (p .under, some, p .over);
+          within = rw long (p .left-within, some, p .right-within);
           small = rw long (p .left .small);
         };
         frame = put .frame;
@@ -102,8 +102,8 @@ module _ {F : Form} (readable : Readable F (F .links)) where
       record {
         left = j .low .tree;
         right = j .high .tree;
-        under = below-apart (run x n) t 0 (cells F m) (p .apart) (p .tree .within) (omega arith);
-        over = rw (j .low .long)
+        left-within = below-apart (run x n) t 0 (cells F m) (p .apart) (p .tree .within) (omega arith);
+        right-within = rw (j .low .long)
             (above-apart (run x n) t 0 (cells F m) (p .apart) (p .tree .within) (p .inside));
         filled = p .filled;
         zeros = same-zeros readable m m₁ x (x + n)
@@ -225,8 +225,8 @@ module _ {F : Form} (readable : Readable F (F .links)) where
       left = at-left readable p left;
       right = at-right readable p right;
       middle = l - 1;
-      under = p .within .0;
-      over = wider tb (l - 1 + n) (l - 1) (cells F m) (cells F m) (omega arith) (omega arith) (p .within .2);
+      left-within = p .within .0;
+      right-within = wider tb (l - 1 + n) (l - 1) (cells F m) (cells F m) (omega arith) (omega arith) (p .within .2);
     }
 
     pub sons-beside : ((t : Tree) × At F m l t) → (ta : Tree) × (tb : Tree) × Beside F m a b ta tb

@@ -34,15 +34,15 @@ module _ {F : Form} (readable : Readable F (F .links)) where
       left = at-right readable (w .left) e;
       right = w .right;
       middle = w .middle;
-      under = wider y (c + n) 0 (w .middle) (w .middle) (omega arith) (omega arith) (w .under .2);
-      over = w .over;
+      left-within = wider y (c + n) 0 (w .middle) (w .middle) (omega arith) (omega arith) (w .left-within .2);
+      right-within = w .right-within;
     }
 
     none-inside : (d : ℕ) → d < c + n → NoNodeOf y tb d
     none-inside d h =
-        let low = within-le y (c + n) (w .middle) (w .under .2) in (
-          no-node-below y (c + n) (w .middle) d (w .under .2) h,
-          no-node-below tb (w .middle) (cells F m) d (w .over) (omega arith),
+        let low = within-le y (c + n) (w .middle) (w .left-within .2) in (
+          no-node-below y (c + n) (w .middle) d (w .left-within .2) h,
+          no-node-below tb (w .middle) (cells F m) d (w .right-within) (omega arith),
         )
 
     left-step : {m₁ m′ : Words} {s : ℕ} → top tb ≤ n → Joined F m m₁ y tb s → RightSet F m₁ m′ c s
@@ -50,31 +50,31 @@ module _ {F : Form} (readable : Readable F (F .links)) where
     left-step h made put =
         rw (join-left x (run c n) y tb h)
         (right-replaced readable (w .left) made (λ d o. ((o .0 .2, o .1), o .0 .1)) put
-        (within-join y tb (c + n) (w .middle) (cells F m) (w .under .2) (w .over)) none-inside)
+        (within-join y tb (c + n) (w .middle) (cells F m) (w .left-within .2) (w .right-within)) none-inside)
 
   module _ {m : Words} {a b c n : ℕ} {x y ta : Tree} (w : Beside F m a b ta (node x (run c n) y)) where
     inner-right : {s : ℕ} → s ≡ leftAt F m c → Beside F m a s ta x
     inner-right e =
-        let high = within-le y (c + n) (cells F m) (w .over .2) in
+        let high = within-le y (c + n) (cells F m) (w .right-within .2) in
         record {
           left = w .left;
           right = at-left readable (w .right) e;
           middle = w .middle;
-          under = w .under;
-          over = wider x (w .middle) (w .middle) c (cells F m) (omega arith) (omega arith) (w .over .0);
+          left-within = w .left-within;
+          right-within = wider x (w .middle) (w .middle) c (cells F m) (omega arith) (omega arith) (w .right-within .0);
         }
 
     none-outside : (d : ℕ) → c ≤ d → NoNodeOf ta x d
     none-outside d h =
-        let high = within-le x (w .middle) c (w .over .0) in
-        (no-node-above ta 0 (w .middle) d (w .under) (omega arith), no-node-above x (w .middle) c d (w .over .0) h)
+        let high = within-le x (w .middle) c (w .right-within .0) in
+        (no-node-above ta 0 (w .middle) d (w .left-within) (omega arith), no-node-above x (w .middle) c d (w .right-within .0) h)
 
     right-step : {m₁ m′ : Words} {s : ℕ} → top ta < n → Joined F m m₁ ta x s → LeftSet F m₁ m′ c s
         → Joined F m m′ ta (node x (run c n) y) b
     right-step h made put =
         rw (join-right ta x (run c n) y h)
         (left-replaced readable (w .right) made (λ d o. ((o .0, o .1 .0), o .1 .1)) put
-        (within-join ta x 0 (w .middle) c (w .under) (w .over .0)) none-outside)
+        (within-join ta x 0 (w .middle) c (w .left-within) (w .right-within .0)) none-outside)
 
   -- ---- the roots of two trees that are not empty
 
@@ -160,7 +160,7 @@ module _ {F : Form} (readable : Readable F (F .links)) where
         let made = post y tb (left-wins z (w .right-root) h v) in
         left-step (w .sides) (w .heavier) made
         (right-kept readable (w .sides .left) made
-        (none-inside (w .sides) (a - 1) (omega (arith, w .sides .under .1))) e))
+        (none-inside (w .sides) (a - 1) (omega (arith, w .sides .left-within .1))) e))
 
     pub left-right : {m₁ m′ : Words} → s ≢ 0 → lengthAt F m (s - 1) < lengthAt F m (b - 1)
         → RightJoined F m m₁ s b

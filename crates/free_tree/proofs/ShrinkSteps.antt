@@ -70,7 +70,7 @@ module _ {F : Form} (readable : Readable F (F .links)) where
       → (r .start < cells F m) × (r .start + 1 < F .links)
   between-in {m} {r = r} (ta, tb, p) =
       let some-cells = p .filled in
-      let inside = within-le tb (r .start + r .size) (cells F m) (p .over) in
+      let inside = within-le tb (r .start + r .size) (cells F m) (p .right-within) in
       let small = p .left .small in
       (omega arith, omega arith)
 
@@ -98,17 +98,17 @@ module _ {F : Form} (readable : Readable F (F .links)) where
     inner-left e = record {
       left = at-right readable (w .left) e;
       right = w .right;
-      under = wider y (c + n) 0 (r .start) (r .start) (omega arith) (omega arith) (w .under .2);
-      over = w .over;
+      left-within = wider y (c + n) 0 (r .start) (r .start) (omega arith) (omega arith) (w .left-within .2);
+      right-within = w .right-within;
       filled = w .filled;
       zeros = w .zeros;
     }
 
     none-inside : (d : ℕ) → d < c + n → NoNodeOfNor y tb (r .start) d
     none-inside d h =
-        let low = within-le y (c + n) (r .start) (w .under .2) in (
-          no-node-below y (c + n) (r .start) d (w .under .2) h,
-          no-node-below tb (r .start + r .size) (cells F m) d (w .over) (omega arith),
+        let low = within-le y (c + n) (r .start) (w .left-within .2) in (
+          no-node-below y (c + n) (r .start) d (w .left-within .2) h,
+          no-node-below tb (r .start + r .size) (cells F m) d (w .right-within) (omega arith),
           λ z. omega arith,
         )
 
@@ -119,18 +119,18 @@ module _ {F : Form} (readable : Readable F (F .links)) where
     left-step e h made put =
         rw (heapify-left r x (run c n) y tb e h)
         (right-replaced readable (w .left) made (λ d o. ((o .0 .2, o .1, o .2), o .0 .1)) put
-        (within-heapify r y tb (c + n) (cells F m) (w .under .2) (w .filled) (w .over)) none-inside)
+        (within-heapify r y tb (c + n) (cells F m) (w .left-within .2) (w .filled) (w .right-within)) none-inside)
 
   module _ {m : Words} {a b c n : ℕ} {r : Run} {x y ta : Tree} (w : Between F m a b r ta (node x (run c n) y)) where
     inner-right : {s : ℕ} → s ≡ leftAt F m c → Between F m a s r ta x
     inner-right e =
-        let high = within-le y (c + n) (cells F m) (w .over .2) in
+        let high = within-le y (c + n) (cells F m) (w .right-within .2) in
         let end = r .start + r .size in
         record {
           left = w .left;
           right = at-left readable (w .right) e;
-          under = w .under;
-          over = wider x end end c (cells F m) (omega arith) (omega arith) (w .over .0);
+          left-within = w .left-within;
+          right-within = wider x end end c (cells F m) (omega arith) (omega arith) (w .right-within .0);
           filled = w .filled;
           zeros = w .zeros;
         }
@@ -138,9 +138,9 @@ module _ {F : Form} (readable : Readable F (F .links)) where
     none-outside : (d : ℕ) → c ≤ d → NoNodeOfNor ta x (r .start) d
     none-outside d h =
         let some = w .filled in
-        let high = within-le x (r .start + r .size) c (w .over .0) in (
-          no-node-above ta 0 (r .start) d (w .under) (omega arith),
-          no-node-above x (r .start + r .size) c d (w .over .0) h,
+        let high = within-le x (r .start + r .size) c (w .right-within .0) in (
+          no-node-above ta 0 (r .start) d (w .left-within) (omega arith),
+          no-node-above x (r .start + r .size) c d (w .right-within .0) h,
           λ z. omega arith,
         )
 
@@ -151,7 +151,7 @@ module _ {F : Form} (readable : Readable F (F .links)) where
     right-step e h made put =
         rw (heapify-right r ta x (run c n) y e h)
         (left-replaced readable (w .right) made (λ d o. ((o .0, o .1 .0, o .2), o .1 .1)) put
-        (within-heapify r ta x 0 c (w .under) (w .filled) (w .over .0)) none-outside)
+        (within-heapify r ta x 0 c (w .left-within) (w .filled) (w .right-within .0)) none-outside)
 
   -- ---- which stays on top
 
@@ -276,7 +276,7 @@ module _ {F : Form} (readable : Readable F (F .links)) where
             let (under, first) = top-first (run x n) (node c (run (a - 1) i) d) tb (at-top-of p e) in
             let made = post d tb (inner-left p son) in
             left-step p under first made
-            (right-kept readable q made (none-inside p (a - 1) (omega (arith, p .under .1))) son)) ta (p .left) p
+            (right-kept readable q made (none-inside p (a - 1) (omega (arith, p .left-within .1))) son)) ta (p .left) p
 
     -- the second root stays on top; s is its left son
     module _ (e : k ≡ 2) where
@@ -459,8 +459,8 @@ module _ {F : Form} (readable : Readable F (F .links)) where
           record {
             left = at-left readable (p .tree) left;
             right = at-right readable (p .tree) right;
-            under = wider ta 0 0 (l - 1) (x + k) (omega arith) (omega arith) (p .tree .within .0);
-            over =
+            left-within = wider ta 0 0 (l - 1) (x + k) (omega arith) (omega arith) (p .tree .within .0);
+            right-within =
                 wider tb (l - 1 + i) (x + k + (i - k)) (cells F m) (cells F m) high (omega arith) (p .tree .within .2);
             filled = omega arith;
             zeros = λ d u v.

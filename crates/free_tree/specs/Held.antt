@@ -49,8 +49,8 @@ pub record Beside (F : Form) (m : Words) (a b : ℕ) (ta tb : Tree) : Type 0 whe
   pub left : At F m a ta
   pub right : At F m b tb
   pub middle : ℕ
-  pub under : Within 0 middle ta
-  pub over : Within middle (cells F m) tb
+  pub left-within : Within 0 middle ta
+  pub right-within : Within middle (cells F m) tb
 
 -- neither is empty, and the first root stays on top
 pub record LeftWins (F : Form) (m : Words) (a b : ℕ) (ta tb : Tree) : Type 0 where
@@ -173,8 +173,8 @@ OnTop F m a b r k = (ta tb : Tree) → At F m a ta → At F m b tb → k ≡ onT
 pub record Between (F : Form) (m : Words) (a b : ℕ) (r : Run) (ta tb : Tree) : Type 0 where
   pub left : At F m a ta
   pub right : At F m b tb
-  pub under : Within 0 (r .start) ta
-  pub over : Within (r .start + r .size) (cells F m) tb
+  pub left-within : Within 0 (r .start) ta
+  pub right-within : Within (r .start + r .size) (cells F m) tb
   pub filled : 1 ≤ r .size
   pub zeros : Zeros m (F .cell * r .start) (F .cell * (r .start + r .size))
 

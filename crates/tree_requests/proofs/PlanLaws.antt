@@ -13,7 +13,7 @@ use lib.ListN.{length, set}
 use Rattle.words.specs.Lists.{Words}
 use Rattle.ledger.specs.declared.Row.{Row}
 use Rattle.ledger.specs.declared.Rule.{Rule}
-use Rattle.ledger.specs.Records.{Ledger, recordAt, recordsOf, tableOf, slots, recordOf, Plan, vacate, keep, keepable}
+use Rattle.ledger.specs.Records.{Ledger, recordAt, recordsOf, tableOf, slots, recordOf, Plan, vacate, keep}
 use Rattle.ledger.specs.Records.{shortened, carryOut, feasible, member, settle}
 use Rattle.ledger.specs.Units.{span, first, past, valid, free, keptUnits, tailUnits}
 use Rattle.ledger.specs.Runs.{Run, covered, freeRuns, runsFrom, addRun}

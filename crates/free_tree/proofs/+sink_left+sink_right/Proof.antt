@@ -6,7 +6,6 @@ use Prim.Native.Nat.{ℕ, _+_, _<_}
 use native.Mathlib.Omega.{arith}
 use mathlib.Core.Path.{_∙_, refl}
 use denote.Ref.{now}
-use borrow.Author.Needs.{needs}
 use borrow.Fn.Kinds.{In}
 use borrow.Fn.PlainCycle.{Measures, is, falls, and}
 use Rattle.ledger.specs.Runs.{run}
@@ -15,7 +14,7 @@ use Rattle.stored_forms.proofs.NodeLaws.{readable}
 use Rattle.tree_nodes.proofs.FormLaws.{few-links}
 use Rattle.free_tree.specs.Held.{OnTop}
 use Rattle.free_tree.proofs.Numbers.{falls-below, in-kept}
-use Rattle.free_tree.proofs.StepLaws.{count, at-in, at-small}
+use Rattle.free_tree.proofs.StepLaws.{count, at-in}
 use Rattle.free_tree.proofs.ChangeSteps.{between-ready}
 use Rattle.free_tree.proofs.ShrinkSteps.{SinkLeft, SinkRight, sink-left-start, sink-left-on, sink-right-start}
 use Rattle.free_tree.proofs.ShrinkSteps.{sink-right-on, between-in, left-root, right-root, heapify-top}
@@ -96,59 +95,68 @@ sink-left-inv form arena lo hi x n c₀ s₀ top₀ c s top =
 abbrev sink-left-μ : sink-left-lts.MeasureT-loop
 sink-left-μ form arena lo hi x n c₀ s₀ top₀ c s top = count (formOf form) arena s
 
-sink-left-sub-c : (t : ℕ) → sink-left-lts.Need-sub-c (sink-left-claims t) (sink-left-at t) sink-left.Post sink-left-inv sink-left-μ
+sink-left-sub-c : (t : ℕ)
+    → sink-left-lts.Need-sub-c (sink-left-claims t) (sink-left-at t) sink-left.Post sink-left-inv sink-left-μ
 sink-left-sub-c t c =
     let s = c .before in
     let root = right-root (readable _) (s .pre .1 .1) refl (s .pre .1 .0) in
     omega arith
 
-sink-left-left-of-requires : (t : ℕ) → sink-left-lts.Need-left-of-requires (sink-left-claims t) (sink-left-at t) sink-left.Post sink-left-inv sink-left-μ
+sink-left-left-of-requires : (t : ℕ)
+    → sink-left-lts.Need-left-of-requires (sink-left-claims t) (sink-left-at t) sink-left.Post sink-left-inv sink-left-μ
 sink-left-left-of-requires t c κs =
     let s = c .before .before in
     let (ta, tb, p) = s .pre .1 .0 in
     at-in (readable _) (right-root (readable _) (s .pre .1 .1) refl (s .pre .1 .0)) (tb, p .right)
 
-sink-left-on-top-requires : (t : ℕ) → sink-left-lts.Need-on-top-requires (sink-left-claims t) (sink-left-at t) sink-left.Post sink-left-inv sink-left-μ
+sink-left-on-top-requires : (t : ℕ)
+    → sink-left-lts.Need-on-top-requires (sink-left-claims t) (sink-left-at t) sink-left.Post sink-left-inv sink-left-μ
 sink-left-on-top-requires t c κs =
     let b1 = c .before in
     let s = b1 .before .before .before in
     let (ta, tb, p) = sink-left-start (readable _) (s .pre .1 .1) (s .pre .1 .0) refl (b1 .left-of .ensures) .inner in
     ((ta, p .left), (tb, p .right))
 
-sink-left-loop-holds : (t : ℕ) → sink-left-lts.Need-loop-holds (sink-left-claims t) (sink-left-at t) sink-left.Post sink-left-inv sink-left-μ
+sink-left-loop-holds : (t : ℕ)
+    → sink-left-lts.Need-loop-holds (sink-left-claims t) (sink-left-at t) sink-left.Post sink-left-inv sink-left-μ
 sink-left-loop-holds t c =
     let b2 = c .before .before in
     let s = b2 .before .before .before in
     (sink-left-start (readable _) (s .pre .1 .1) (s .pre .1 .0) refl (b2 .left-of .ensures), c .on-top .ensures)
 
-sink-left-sub-c-2 : (t : ℕ) → sink-left-lts.Need-sub-c-2 (sink-left-claims t) (sink-left-at t) sink-left.Post sink-left-inv sink-left-μ
+sink-left-sub-c-2 : (t : ℕ)
+    → sink-left-lts.Need-sub-c-2 (sink-left-claims t) (sink-left-at t) sink-left.Post sink-left-inv sink-left-μ
 sink-left-sub-c-2 t c =
     let inv = c .before .loop .inv in
     let root = right-root (readable _) (inv .1) (c .loop-test .taken) (inv .0 .inner) in
     omega (arith, root)
 
-sink-left-left-of-requires-2 : (t : ℕ) → sink-left-lts.Need-left-of-requires-2 (sink-left-claims t) (sink-left-at t) sink-left.Post sink-left-inv sink-left-μ
+sink-left-left-of-requires-2 : (t : ℕ)
+    → sink-left-lts.Need-left-of-requires-2 (sink-left-claims t) (sink-left-at t) sink-left.Post sink-left-inv sink-left-μ
 sink-left-left-of-requires-2 t c κs =
     let b1 = c .before in
     let inv = b1 .before .loop .inv in
     let (ta, tb, p) = inv .0 .inner in
     at-in (readable _) (right-root (readable _) (inv .1) (b1 .loop-test .taken) (inv .0 .inner)) (tb, p .right)
 
-sink-left-on-top-requires-2 : (t : ℕ) → sink-left-lts.Need-on-top-requires-2 (sink-left-claims t) (sink-left-at t) sink-left.Post sink-left-inv sink-left-μ
+sink-left-on-top-requires-2 : (t : ℕ)
+    → sink-left-lts.Need-on-top-requires-2 (sink-left-claims t) (sink-left-at t) sink-left.Post sink-left-inv sink-left-μ
 sink-left-on-top-requires-2 t c κs =
     let b3 = c .before .before .before in
     let inv = b3 .before .loop .inv in
     let (ta, tb, p) = sink-left-start (readable _) (inv .1) (inv .0 .inner) (b3 .loop-test .taken) (c .before .left-of2 .ensures) .inner in
     ((ta, p .left), (tb, p .right))
 
-sink-left-loop-less : (t : ℕ) → sink-left-lts.Need-loop-less (sink-left-claims t) (sink-left-at t) sink-left.Post sink-left-inv sink-left-μ
+sink-left-loop-less : (t : ℕ)
+    → sink-left-lts.Need-loop-less (sink-left-claims t) (sink-left-at t) sink-left.Post sink-left-inv sink-left-μ
 sink-left-loop-less t c =
     let b2 = c .before .before in
     let b4 = b2 .before .before in
     let inv = b4 .before .loop .inv in
     omega (arith, sink-left-start (readable _) (inv .1) (inv .0 .inner) (b4 .loop-test .taken) (b2 .left-of2 .ensures) .fewer)
 
-sink-left-loop-again : (t : ℕ) → sink-left-lts.Need-loop-again (sink-left-claims t) (sink-left-at t) sink-left.Post sink-left-inv sink-left-μ
+sink-left-loop-again : (t : ℕ)
+    → sink-left-lts.Need-loop-again (sink-left-claims t) (sink-left-at t) sink-left.Post sink-left-inv sink-left-μ
 sink-left-loop-again t c =
     let b2 = c .before .before in
     let b4 = b2 .before .before in
@@ -158,17 +166,20 @@ sink-left-loop-again t c =
       c .on-top2 .ensures,
     )
 
-sink-left-put-first-requires : (t : ℕ) → sink-left-lts.Need-put-first-requires (sink-left-claims t) (sink-left-at t) sink-left.Post sink-left-inv sink-left-μ
+sink-left-put-first-requires : (t : ℕ)
+    → sink-left-lts.Need-put-first-requires (sink-left-claims t) (sink-left-at t) sink-left.Post sink-left-inv sink-left-μ
 sink-left-put-first-requires t c κs =
     let (ta, tb, p) = c .before .before .before .loop .inv .0 .inner in between-ready (readable _) p
 
-sink-left-add-set-left : (t : ℕ) → sink-left-lts.Need-add-set-left (sink-left-claims t) (sink-left-at t) sink-left.Post sink-left-inv sink-left-μ
+sink-left-add-set-left : (t : ℕ)
+    → sink-left-lts.Need-add-set-left (sink-left-claims t) (sink-left-at t) sink-left.Post sink-left-inv sink-left-μ
 sink-left-add-set-left t c =
     let b7 = c .before .before .before .before .before .before .before in
     let s = b7 .before .before .before .before .before .before in
     omega (arith, few-links (s .args .form), between-in (readable _) (b7 .loop .inv .0 .inner) .1)
 
-sink-left-set-left-requires : (t : ℕ) → sink-left-lts.Need-set-left-requires (sink-left-claims t) (sink-left-at t) sink-left.Post sink-left-inv sink-left-μ
+sink-left-set-left-requires : (t : ℕ)
+    → sink-left-lts.Need-set-left-requires (sink-left-claims t) (sink-left-at t) sink-left.Post sink-left-inv sink-left-μ
 sink-left-set-left-requires t c κs =
     let b3 = c .before .before .before in
     let b7 = b3 .before .before .before .before in
@@ -178,12 +189,14 @@ sink-left-set-left-requires t c κs =
       between-in (readable _) (inv .inner) .1,
     )
 
-sink-left-same-length : (t : ℕ) → sink-left-lts.Need-same-length (sink-left-claims t) (sink-left-at t) sink-left.Post sink-left-inv sink-left-μ
+sink-left-same-length : (t : ℕ)
+    → sink-left-lts.Need-same-length (sink-left-claims t) (sink-left-at t) sink-left.Post sink-left-inv sink-left-μ
 sink-left-same-length t c =
     let b2 = c .before .before in
     b2 .set-left .kept .1 .0 ∙ b2 .before .before .before .before .put-first .kept .1 .0
 
-sink-left-returns : (t : ℕ) → sink-left-lts.Need-returns (sink-left-claims t) (sink-left-at t) sink-left.Post sink-left-inv sink-left-μ
+sink-left-returns : (t : ℕ)
+    → sink-left-lts.Need-returns (sink-left-claims t) (sink-left-at t) sink-left.Post sink-left-inv sink-left-μ
 sink-left-returns t c =
     let b2 = c .before .before in
     let b6 = b2 .before .before .before .before in
@@ -191,7 +204,8 @@ sink-left-returns t c =
     let inv = b8 .before .before .loop .inv in
     inv .0 .turns (heapify-top (readable _) (inv .1) (b8 .if1 .taken) (b6 .put-first .ensures .0)) (b2 .set-left .ensures)
 
-sink-left-sink-right-requires : (t : ℕ) → sink-left-lts.Need-sink-right-requires (sink-left-claims t) (sink-left-at t) sink-left.Post sink-left-inv sink-left-μ
+sink-left-sink-right-requires : (t : ℕ)
+    → sink-left-lts.Need-sink-right-requires (sink-left-claims t) (sink-left-at t) sink-left.Post sink-left-inv sink-left-μ
 sink-left-sink-right-requires t c κs =
     let b1 = c .before in
     let b2 = b1 .before in
@@ -202,7 +216,8 @@ sink-left-sink-right-requires t c κs =
       (inv .0 .inner, first-left (readable _) (inv .1) (b1 .if1 .left) (b2 .loop-test .left)),
     )
 
-sink-left-set-left-requires-2 : (t : ℕ) → sink-left-lts.Need-set-left-requires-2 (sink-left-claims t) (sink-left-at t) sink-left.Post sink-left-inv sink-left-μ
+sink-left-set-left-requires-2 : (t : ℕ)
+    → sink-left-lts.Need-set-left-requires-2 (sink-left-claims t) (sink-left-at t) sink-left.Post sink-left-inv sink-left-μ
 sink-left-set-left-requires-2 t c κs =
     let b3 = c .before .before .before in
     let b7 = b3 .before .before .before .before in
@@ -212,12 +227,14 @@ sink-left-set-left-requires-2 t c κs =
       heapified-small (readable _) (b3 .sink-right .ensures) (inv .inner),
     )
 
-sink-left-same-length-2 : (t : ℕ) → sink-left-lts.Need-same-length-2 (sink-left-claims t) (sink-left-at t) sink-left.Post sink-left-inv sink-left-μ
+sink-left-same-length-2 : (t : ℕ)
+    → sink-left-lts.Need-same-length-2 (sink-left-claims t) (sink-left-at t) sink-left.Post sink-left-inv sink-left-μ
 sink-left-same-length-2 t c =
     let b2 = c .before .before in
     b2 .set-left2 .kept .1 .0 ∙ b2 .before .before .before .before .sink-right .kept .1 .0
 
-sink-left-returns-2 : (t : ℕ) → sink-left-lts.Need-returns-2 (sink-left-claims t) (sink-left-at t) sink-left.Post sink-left-inv sink-left-μ
+sink-left-returns-2 : (t : ℕ)
+    → sink-left-lts.Need-returns-2 (sink-left-claims t) (sink-left-at t) sink-left.Post sink-left-inv sink-left-μ
 sink-left-returns-2 t c =
     let b2 = c .before .before in
     let b6 = b2 .before .before .before .before in
@@ -230,59 +247,68 @@ sink-right-inv form arena lo hi x n c₀ s₀ top₀ c s top =
 abbrev sink-right-μ : sink-right-lts.MeasureT-loop
 sink-right-μ form arena lo hi x n c₀ s₀ top₀ c s top = count (formOf form) arena s
 
-sink-right-sub-c : (t : ℕ) → sink-right-lts.Need-sub-c (sink-right-claims t) (sink-right-at t) sink-right.Post sink-right-inv sink-right-μ
+sink-right-sub-c : (t : ℕ)
+    → sink-right-lts.Need-sub-c (sink-right-claims t) (sink-right-at t) sink-right.Post sink-right-inv sink-right-μ
 sink-right-sub-c t c =
     let s = c .before in
     let root = left-root (readable _) (s .pre .1 .1) refl (s .pre .1 .0) in
     omega arith
 
-sink-right-right-of-requires : (t : ℕ) → sink-right-lts.Need-right-of-requires (sink-right-claims t) (sink-right-at t) sink-right.Post sink-right-inv sink-right-μ
+sink-right-right-of-requires : (t : ℕ)
+    → sink-right-lts.Need-right-of-requires (sink-right-claims t) (sink-right-at t) sink-right.Post sink-right-inv sink-right-μ
 sink-right-right-of-requires t c κs =
     let s = c .before .before in
     let (ta, tb, p) = s .pre .1 .0 in
     at-in (readable _) (left-root (readable _) (s .pre .1 .1) refl (s .pre .1 .0)) (ta, p .left)
 
-sink-right-on-top-requires : (t : ℕ) → sink-right-lts.Need-on-top-requires (sink-right-claims t) (sink-right-at t) sink-right.Post sink-right-inv sink-right-μ
+sink-right-on-top-requires : (t : ℕ)
+    → sink-right-lts.Need-on-top-requires (sink-right-claims t) (sink-right-at t) sink-right.Post sink-right-inv sink-right-μ
 sink-right-on-top-requires t c κs =
     let b1 = c .before in
     let s = b1 .before .before .before in
     let (ta, tb, p) = sink-right-start (readable _) (s .pre .1 .1) (s .pre .1 .0) refl (b1 .right-of .ensures) .inner in
     ((ta, p .left), (tb, p .right))
 
-sink-right-loop-holds : (t : ℕ) → sink-right-lts.Need-loop-holds (sink-right-claims t) (sink-right-at t) sink-right.Post sink-right-inv sink-right-μ
+sink-right-loop-holds : (t : ℕ)
+    → sink-right-lts.Need-loop-holds (sink-right-claims t) (sink-right-at t) sink-right.Post sink-right-inv sink-right-μ
 sink-right-loop-holds t c =
     let b2 = c .before .before in
     let s = b2 .before .before .before in
     (sink-right-start (readable _) (s .pre .1 .1) (s .pre .1 .0) refl (b2 .right-of .ensures), c .on-top .ensures)
 
-sink-right-sub-c-2 : (t : ℕ) → sink-right-lts.Need-sub-c-2 (sink-right-claims t) (sink-right-at t) sink-right.Post sink-right-inv sink-right-μ
+sink-right-sub-c-2 : (t : ℕ)
+    → sink-right-lts.Need-sub-c-2 (sink-right-claims t) (sink-right-at t) sink-right.Post sink-right-inv sink-right-μ
 sink-right-sub-c-2 t c =
     let inv = c .before .loop .inv in
     let root = left-root (readable _) (inv .1) (c .loop-test .taken) (inv .0 .inner) in
     omega (arith, root)
 
-sink-right-right-of-requires-2 : (t : ℕ) → sink-right-lts.Need-right-of-requires-2 (sink-right-claims t) (sink-right-at t) sink-right.Post sink-right-inv sink-right-μ
+sink-right-right-of-requires-2 : (t : ℕ)
+    → sink-right-lts.Need-right-of-requires-2 (sink-right-claims t) (sink-right-at t) sink-right.Post sink-right-inv sink-right-μ
 sink-right-right-of-requires-2 t c κs =
     let b1 = c .before in
     let inv = b1 .before .loop .inv in
     let (ta, tb, p) = inv .0 .inner in
     at-in (readable _) (left-root (readable _) (inv .1) (b1 .loop-test .taken) (inv .0 .inner)) (ta, p .left)
 
-sink-right-on-top-requires-2 : (t : ℕ) → sink-right-lts.Need-on-top-requires-2 (sink-right-claims t) (sink-right-at t) sink-right.Post sink-right-inv sink-right-μ
+sink-right-on-top-requires-2 : (t : ℕ)
+    → sink-right-lts.Need-on-top-requires-2 (sink-right-claims t) (sink-right-at t) sink-right.Post sink-right-inv sink-right-μ
 sink-right-on-top-requires-2 t c κs =
     let b3 = c .before .before .before in
     let inv = b3 .before .loop .inv in
     let (ta, tb, p) = sink-right-start (readable _) (inv .1) (inv .0 .inner) (b3 .loop-test .taken) (c .before .right-of2 .ensures) .inner in
     ((ta, p .left), (tb, p .right))
 
-sink-right-loop-less : (t : ℕ) → sink-right-lts.Need-loop-less (sink-right-claims t) (sink-right-at t) sink-right.Post sink-right-inv sink-right-μ
+sink-right-loop-less : (t : ℕ)
+    → sink-right-lts.Need-loop-less (sink-right-claims t) (sink-right-at t) sink-right.Post sink-right-inv sink-right-μ
 sink-right-loop-less t c =
     let b2 = c .before .before in
     let b4 = b2 .before .before in
     let inv = b4 .before .loop .inv in
     omega (arith, sink-right-start (readable _) (inv .1) (inv .0 .inner) (b4 .loop-test .taken) (b2 .right-of2 .ensures) .fewer)
 
-sink-right-loop-again : (t : ℕ) → sink-right-lts.Need-loop-again (sink-right-claims t) (sink-right-at t) sink-right.Post sink-right-inv sink-right-μ
+sink-right-loop-again : (t : ℕ)
+    → sink-right-lts.Need-loop-again (sink-right-claims t) (sink-right-at t) sink-right.Post sink-right-inv sink-right-μ
 sink-right-loop-again t c =
     let b2 = c .before .before in
     let b4 = b2 .before .before in
@@ -292,17 +318,20 @@ sink-right-loop-again t c =
       c .on-top2 .ensures,
     )
 
-sink-right-put-first-requires : (t : ℕ) → sink-right-lts.Need-put-first-requires (sink-right-claims t) (sink-right-at t) sink-right.Post sink-right-inv sink-right-μ
+sink-right-put-first-requires : (t : ℕ)
+    → sink-right-lts.Need-put-first-requires (sink-right-claims t) (sink-right-at t) sink-right.Post sink-right-inv sink-right-μ
 sink-right-put-first-requires t c κs =
     let (ta, tb, p) = c .before .before .before .loop .inv .0 .inner in between-ready (readable _) p
 
-sink-right-add-set-right : (t : ℕ) → sink-right-lts.Need-add-set-right (sink-right-claims t) (sink-right-at t) sink-right.Post sink-right-inv sink-right-μ
+sink-right-add-set-right : (t : ℕ)
+    → sink-right-lts.Need-add-set-right (sink-right-claims t) (sink-right-at t) sink-right.Post sink-right-inv sink-right-μ
 sink-right-add-set-right t c =
     let b7 = c .before .before .before .before .before .before .before in
     let s = b7 .before .before .before .before .before .before in
     omega (arith, few-links (s .args .form), between-in (readable _) (b7 .loop .inv .0 .inner) .1)
 
-sink-right-set-right-requires : (t : ℕ) → sink-right-lts.Need-set-right-requires (sink-right-claims t) (sink-right-at t) sink-right.Post sink-right-inv sink-right-μ
+sink-right-set-right-requires : (t : ℕ)
+    → sink-right-lts.Need-set-right-requires (sink-right-claims t) (sink-right-at t) sink-right.Post sink-right-inv sink-right-μ
 sink-right-set-right-requires t c κs =
     let b3 = c .before .before .before in
     let b7 = b3 .before .before .before .before in
@@ -312,12 +341,14 @@ sink-right-set-right-requires t c κs =
       between-in (readable _) (inv .inner) .1,
     )
 
-sink-right-same-length : (t : ℕ) → sink-right-lts.Need-same-length (sink-right-claims t) (sink-right-at t) sink-right.Post sink-right-inv sink-right-μ
+sink-right-same-length : (t : ℕ)
+    → sink-right-lts.Need-same-length (sink-right-claims t) (sink-right-at t) sink-right.Post sink-right-inv sink-right-μ
 sink-right-same-length t c =
     let b2 = c .before .before in
     b2 .set-right .kept .1 .0 ∙ b2 .before .before .before .before .put-first .kept .1 .0
 
-sink-right-returns : (t : ℕ) → sink-right-lts.Need-returns (sink-right-claims t) (sink-right-at t) sink-right.Post sink-right-inv sink-right-μ
+sink-right-returns : (t : ℕ)
+    → sink-right-lts.Need-returns (sink-right-claims t) (sink-right-at t) sink-right.Post sink-right-inv sink-right-μ
 sink-right-returns t c =
     let b2 = c .before .before in
     let b6 = b2 .before .before .before .before in
@@ -325,7 +356,8 @@ sink-right-returns t c =
     let inv = b8 .before .before .loop .inv in
     inv .0 .turns (heapify-top (readable _) (inv .1) (b8 .if1 .taken) (b6 .put-first .ensures .0)) (b2 .set-right .ensures)
 
-sink-right-sink-left-requires : (t : ℕ) → sink-right-lts.Need-sink-left-requires (sink-right-claims t) (sink-right-at t) sink-right.Post sink-right-inv sink-right-μ
+sink-right-sink-left-requires : (t : ℕ)
+    → sink-right-lts.Need-sink-left-requires (sink-right-claims t) (sink-right-at t) sink-right.Post sink-right-inv sink-right-μ
 sink-right-sink-left-requires t c κs =
     let b1 = c .before in
     let b2 = b1 .before in
@@ -336,7 +368,8 @@ sink-right-sink-left-requires t c κs =
       (inv .0 .inner, second-left (readable _) (inv .1) (b1 .if1 .left) (b2 .loop-test .left)),
     )
 
-sink-right-set-right-requires-2 : (t : ℕ) → sink-right-lts.Need-set-right-requires-2 (sink-right-claims t) (sink-right-at t) sink-right.Post sink-right-inv sink-right-μ
+sink-right-set-right-requires-2 : (t : ℕ)
+    → sink-right-lts.Need-set-right-requires-2 (sink-right-claims t) (sink-right-at t) sink-right.Post sink-right-inv sink-right-μ
 sink-right-set-right-requires-2 t c κs =
     let b3 = c .before .before .before in
     let b7 = b3 .before .before .before .before in
@@ -346,12 +379,14 @@ sink-right-set-right-requires-2 t c κs =
       heapified-small (readable _) (b3 .sink-left .ensures) (inv .inner),
     )
 
-sink-right-same-length-2 : (t : ℕ) → sink-right-lts.Need-same-length-2 (sink-right-claims t) (sink-right-at t) sink-right.Post sink-right-inv sink-right-μ
+sink-right-same-length-2 : (t : ℕ)
+    → sink-right-lts.Need-same-length-2 (sink-right-claims t) (sink-right-at t) sink-right.Post sink-right-inv sink-right-μ
 sink-right-same-length-2 t c =
     let b2 = c .before .before in
     b2 .set-right2 .kept .1 .0 ∙ b2 .before .before .before .before .sink-left .kept .1 .0
 
-sink-right-returns-2 : (t : ℕ) → sink-right-lts.Need-returns-2 (sink-right-claims t) (sink-right-at t) sink-right.Post sink-right-inv sink-right-μ
+sink-right-returns-2 : (t : ℕ)
+    → sink-right-lts.Need-returns-2 (sink-right-claims t) (sink-right-at t) sink-right.Post sink-right-inv sink-right-μ
 sink-right-returns-2 t c =
     let b2 = c .before .before in
     let b6 = b2 .before .before .before .before in

@@ -1,6 +1,6 @@
 -- `tree_requests::give_tail` meets its contract: the code's numbers are those of the contract. Assumes nothing.
 -- In a need, `b3` is the place three before its own.
-use Prim.Native.Nat.{ℕ, _+_, _/_}
+use Prim.Native.Nat.{ℕ, _+_}
 use native.Mathlib.Nat.{div-le-self}
 use native.Mathlib.Omega.{arith}
 use mathlib.Core.Path.{sym, subst₂}

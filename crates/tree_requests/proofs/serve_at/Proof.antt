@@ -6,7 +6,7 @@ use borrow.Author.Needs.{needs}
 use denote.Ref.{now}
 use Rattle.calls.specs.declared.Answer.{Answer}
 use Rattle.calls.specs.Step.{Act, partied}
-use Rattle.call_parts.specs.Parts.{requestAt, withAnswer}
+use Rattle.call_parts.specs.Parts.{withAnswer}
 use Rattle.call_parts.specs.Results.{Result, acted}
 use Rattle.call_parts.proofs.ListLaws.{listed-partied}
 use Rattle.calls.specs.Engines.{treeEngine}

@@ -1,5 +1,4 @@
 -- `tree_requests::trim` meets its contract: the rows 6 and 7, then 2, then the cut. Assumes nothing.
-use native.Mathlib.Omega.{arith}
 use mathlib.Core.Path.{_∙_, sym, refl}
 use borrow.Author.Needs.{needs}
 use denote.Ref.{now}

@@ -1,5 +1,6 @@
 #include "timing.h"
 
+#include <alloca.h>
 #include <stdio.h>
 #include <stdlib.h>
 #include <time.h>
@@ -30,6 +31,16 @@ static double sample(const contest *c, const contestant *who, pool *p, size_t re
     return took / (double)repetitions;
 }
 
+// The same with the stack so many bytes further down. The check's map lies on the stack, and where its addresses agree with
+// the arena's in the low twelve bits, reads wait for writes: up to a fifth of a check of one page, by where the system
+// put the stack of this process.
+static double sample_at(size_t depth, const contest *c, const contestant *who, pool *p, size_t repetitions)
+{
+    volatile char *room = alloca(depth + 1);
+    room[0] = 0;
+    return sample(c, who, p, repetitions);
+}
+
 static size_t repetitions_for(double nanoseconds, const contest *c, const contestant *who, pool *p)
 {
     for (size_t n = 1;; n *= 2) {
@@ -55,9 +66,10 @@ void time_pass(timings *t, effort e, pool *p, contest c)
     for (size_t k = 0; k < t->count; k++)
         repetitions[k] = repetitions_for(e.sample, &c, t->by[k].who, p);
     for (int r = 0; r < e.rounds; r++) {
+        size_t depth = t->taken % 8 * 512; // another in each round, the same for all
         for (size_t i = 0; i < t->count; i++) {
             size_t k = (i + t->taken) % t->count;
-            t->by[k].samples[t->taken] = sample(&c, t->by[k].who, p, repetitions[k]) / (double)c.parts;
+            t->by[k].samples[t->taken] = sample_at(depth, &c, t->by[k].who, p, repetitions[k]) / (double)c.parts;
         }
         t->taken++;
     }

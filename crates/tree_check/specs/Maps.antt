@@ -47,10 +47,10 @@ CoversAll map lo hi = (u : ℕ) → lo ≤ u → u < hi → Covers map u
 unfoldable pub homes : ℕ → ℕ
 homes n = cond (eqb n 769) 64 512
 
--- Where the search for cell k begins. Few records are told apart by their 128 cells; many by the upper bits of a
+-- Where the search for cell k begins. Few records are told apart by their 64 cells; many by the upper bits of a
 -- product, which part cells that lie at equal distances.
 unfoldable pub home : ℕ → ℕ → ℕ
-home n k = cond (eqb n 769) (k / 128 % 64) (k * 2654435761 % 4294967296 / 8388608)
+home n k = cond (eqb n 769) (k / 64 % 64) (k * 2654435761 % 4294967296 / 8388608)
 
 -- A search from cell k on comes to place p, where the map has entries: no place before it is empty, or has a span from
 -- cell k on.

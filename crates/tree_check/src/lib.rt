@@ -107,6 +107,17 @@ fn is_shown_small(head: Head, arena: &[u32], table: &[u32]) -> bool
     is_shown_over(head, &*arena, &*table, &mut map, &mut seen, 128)
 }
 
+// At most 1,024 cells.
+fn is_shown_modest(head: Head, arena: &[u32], table: &[u32]) -> bool
+    requires { ⌜ Linked (formOf (head .form)) (now arena)
+        × (cells (formOf (head .form)) (now arena) ≤ 1024) × (slots (now table) ≤ 256) ⌝ }
+    ensures { λ r. ⌜ Says r (Shown head (now (arena .entry)) (now (table .entry))) ⌝ }
+{
+    let mut map: [u8; 1024] = [0; 1024];
+    let mut seen: [u8; 128] = [0; 128];
+    is_shown_over(head, &*arena, &*table, &mut map, &mut seen, 128)
+}
+
 // At most 32 records, by entries: 64 places where a search may begin, and room behind them for 32 records that crowd
 // the last.
 fn is_shown_sparse(head: Head, arena: &[u32], table: &[u32]) -> bool
@@ -136,6 +147,17 @@ fn is_shown_busy(head: Head, arena: &[u32], table: &[u32]) -> bool
     ensures { λ r. ⌜ Says r (Shown head (now (arena .entry)) (now (table .entry))) ⌝ }
 {
     let mut map: [u8; 2048] = [0; 2048];
+    let mut seen: [u8; 2048] = [0; 2048];
+    is_shown_over(head, &*arena, &*table, &mut map, &mut seen, 2048)
+}
+
+// At most 4,096 cells.
+fn is_shown_wide(head: Head, arena: &[u32], table: &[u32]) -> bool
+    requires { ⌜ Linked (formOf (head .form)) (now arena)
+        × (cells (formOf (head .form)) (now arena) ≤ 4096) × (slots (now table) ≤ 256) ⌝ }
+    ensures { λ r. ⌜ Says r (Shown head (now (arena .entry)) (now (table .entry))) ⌝ }
+{
+    let mut map: [u8; 4096] = [0; 4096];
     let mut seen: [u8; 2048] = [0; 2048];
     is_shown_over(head, &*arena, &*table, &mut map, &mut seen, 2048)
 }
@@ -170,13 +192,19 @@ fn is_shown_other(head: Head, arena: &[u32], table: &[u32]) -> bool
     let slots = slot_count(&*table);
     let count = cell_count(head.form, arena.len());
     if count <= 2048 {
-        if slots <= 16 {
-            return is_shown_middle(head, &*arena, &*table);
+        if 16 < slots {
+            return is_shown_busy(head, &*arena, &*table);
         }
-        return is_shown_busy(head, &*arena, &*table);
+        if count <= 1024 {
+            return is_shown_modest(head, &*arena, &*table);
+        }
+        return is_shown_middle(head, &*arena, &*table);
     }
     if slots <= 32 {
         return is_shown_sparse(head, &*arena, &*table);
+    }
+    if count <= 4096 {
+        return is_shown_wide(head, &*arena, &*table);
     }
     if count <= 8192 {
         return is_shown_large(head, &*arena, &*table);

@@ -58,7 +58,7 @@ fn home_of(bytes: usize, k: usize) -> usize
     ensures { λ r. ⌜ (r ≡ home bytes k) × (r < 512) ⌝ }
 {
     if bytes == 769 {
-        return k / 128 % 64;
+        return k / 64 % 64;
     }
     k * 2654435761 % 4294967296 / 8388608
 }

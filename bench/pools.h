@@ -29,7 +29,7 @@ enum {
     LIST_LENGTH = 512,
     LIST_UNITS = 512,
     LIST_MOST = 1024,
-    LISTS = 8,
+    LISTS = 48,
     MIX_LENGTH = 48,
     TRIM = 3, // kind of a call of a mix; lists have none such
     TEXT_WORDS = 8192, // the most of a session's pool

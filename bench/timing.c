@@ -31,9 +31,8 @@ static double sample(const contest *c, const contestant *who, pool *p, size_t re
     return took / (double)repetitions;
 }
 
-// The same with the stack so many bytes further down. The check's map lies on the stack, and where its addresses agree with
-// the arena's in the low twelve bits, reads wait for writes: up to a fifth of a check of one page, by where the system
-// put the stack of this process.
+// The same with the stack so many bytes further down. Checks of one binary take up to a fifth longer from one start of it
+// to the next; where the map on the stack lies against the arena, by the low twelve bits of addresses, may be part of it.
 static double sample_at(size_t depth, const contest *c, const contestant *who, pool *p, size_t repetitions)
 {
     volatile char *room = alloca(depth + 1);

@@ -74,8 +74,8 @@ abbrev pub heavier : Tree → Tree → Bool
 heavier leaf t = false
 heavier (node a q b) t = leb (top t) (q .size)
 
--- which stays on top where the run goes between the runs of two trees: 0 for the run, 1 for the first root, 2 for the
--- second
+-- 01: "the heavier root stays on top", here with a run between the runs of two trees: 0 for the run itself, 1 for the
+-- first root, 2 for the second
 abbrev pub onTop : Run → Tree → Tree → ℕ
 onTop r s t = cond (standsOver r s && standsOver r t) 0 (cond (heavier s t) 1 2)
 

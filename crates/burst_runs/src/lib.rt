@@ -10,7 +10,7 @@ use testing::{least, pick, print, print_count, stirred, until};
 // ---- counts
 
 // Calls made, those that were answered 10, comparisons, and comparisons that failed.
-#[derive(Drop)]
+#[derive(Clone, Copy)]
 pub struct Tally {
     pub calls: u64,
     pub tens: u64,
@@ -105,7 +105,7 @@ fn is_same_front(a: &[u8], b: &[u8], n: usize) -> bool {
 // ---- what is due: one burst with room enough, and the end call
 
 // How many answer bytes the burst is due, and how many with the end call's.
-#[derive(Drop)]
+#[derive(Clone, Copy)]
 pub struct Due {
     pub said: usize,
     pub all: usize,
@@ -158,7 +158,7 @@ fn due_to(text: &[u8], after: &mut [u8], ended: &mut [u8], due: &mut [u8], tally
 // ---- a cutting
 
 // How far the handing over of a text has come: the bytes taken, the answer bytes, the last random number.
-#[derive(Drop)]
+#[derive(Clone, Copy)]
 struct Talk {
     from: usize,
     at: usize,

@@ -83,7 +83,7 @@ pub fn with_party(number: u32, party: u32) -> u32
 }
 
 // The slot of the record that a call names, or the number of the refusal: 6, for another party's record too, or 7.
-#[derive(Drop)]
+#[derive(Clone, Copy)]
 pub enum Named {
     Slot(usize),
     Refused(u32),
@@ -127,7 +127,7 @@ pub fn shortened(named: Row, keep: u32) -> Row
 }
 
 // A request of a list: party and words of an allocation, or the record that a release names.
-#[derive(Drop)]
+#[derive(Clone, Copy)]
 pub enum Request {
     Ask(u32, u32),
     Give(Row),

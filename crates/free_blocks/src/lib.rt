@@ -44,7 +44,7 @@ fn take_out(form: u32, arena: &mut [u32], root: usize, first: usize) -> usize
 }
 
 // The link to the tree without the block that touches, and the merged block's end on that side.
-#[derive(Drop)]
+#[derive(Clone, Copy)]
 struct Merge {
     root: usize,
     cell: usize,

@@ -149,7 +149,7 @@ fn lower_part(form: u32, arena: &mut [u32], l: usize, x: usize) -> u64
 // ---- the place of a change
 
 // Where a search ends: the link to what lies there, 0 for none, and the link to its father, 0 for none.
-#[derive(Drop)]
+#[derive(Clone, Copy)]
 pub struct Place {
     pub at: usize,
     pub over: usize,
@@ -468,7 +468,7 @@ pub fn leftmost_fit(form: u32, arena: &[u32], root: usize, cells: u32) -> Place
 }
 
 // The links to the blocks below and above some cells.
-#[derive(Drop)]
+#[derive(Clone, Copy)]
 pub struct Sides {
     pub lo: usize,
     pub hi: usize,

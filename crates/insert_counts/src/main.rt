@@ -10,7 +10,7 @@ use tree_nodes::forms::cell_count;
 
 // What a round has come to: the form's number, the root link, the last random number, insertions, links stored, and insertions whose
 // number was another than the count.
-#[derive(Drop)]
+#[derive(Clone, Copy)]
 struct Round {
     form: u32,
     root: usize,
@@ -276,7 +276,7 @@ fn bench_sheet(form: u32, arena: &mut [u32], map: &mut [u32], before: &mut [u32]
 }
 
 // A round's words of arena, and the number that its blocks' cells stay below.
-#[derive(Drop)]
+#[derive(Clone, Copy)]
 struct Size {
     words: usize,
     most: usize,

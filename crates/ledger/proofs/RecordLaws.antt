@@ -2,7 +2,7 @@
 use Prim.Native.Nat.{ℕ, zero, suc, ◌+◌, ◌*◌, ◌%◌, ◌≤◌, ◌<◌}
 use native.Mathlib.Nat.{zero-add, le_of_suc-le-suc}
 use native.Mathlib.Omega.{arith}
-use mathlib.Core.Path.{◌≡◌, refl, sym, ap, ap₂, ◌∙◌}
+use mathlib.Core.Path.{◌≡◌, refl, sym, ap, ap₂, ◌∙◌, subst}
 use mathlib.Core.Logic.{◌≢◌}
 use mathlib.Core.Bool.{Bool, true, false, cond, not, false≢true, and-false}
 use mathlib.Core.List.{List, [], ◌∷◌}
@@ -274,8 +274,9 @@ module _ (ρ : Rule) where
   settle_slot [] i t q h l z e = refl
   settle_slot (r ∷ L) zero t q h l z e =
       let apart_all = and_l (all (apart ρ r) L) (pairwise (apart ρ) L) h in
-      rw (sym e, eqb_same r.ticket)
-      (ap (λ (M : Ledger). carry_out q r ∷ M) (settle_others r L (λ y. z (sym e ∙ y)) apart_all q))
+      let others = settle_others r L (λ y. z (sym e ∙ y)) apart_all q in
+      let same = subst (λ (k : ℕ). settle (member k q ∷ []) L ≡ L) e others in
+      rw (sym e, eqb_same r.ticket) (ap (λ (M : Ledger). carry_out q r ∷ M) same)
   settle_slot (r ∷ L) (suc i) t q h l z e =
       let first = and_l (all (apart ρ r) L) (pairwise (apart ρ) L) h in
       let x = all_get_d (apart ρ r) empty_row L first i (le_of_suc-le-suc l) in

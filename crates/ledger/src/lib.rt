@@ -1,7 +1,8 @@
 // Records in the table, over the unit rule.
+#![tactic(auto)]
 
 // A record: ticket, address in words, words asked, party.
-#[derive(Drop)]
+#[derive(Clone, Copy)]
 pub struct Row {
     pub ticket: u32,
     pub address: u32,
@@ -10,7 +11,7 @@ pub struct Row {
 }
 
 // The unit rule: words to a unit, and words of a block before its address.
-#[derive(Drop)]
+#[derive(Clone, Copy)]
 pub struct Rule {
     pub unit: u32,
     pub lead: u32,

@@ -21,7 +21,7 @@ use pool_text::{Own, Stage};
 use tree_check::Head;
 
 // The six words at the state's start.
-#[derive(Drop)]
+#[derive(Clone, Copy)]
 struct Fields {
     stage: u32,
     kept: u32,
@@ -189,7 +189,7 @@ fn is_fit(stage: Stage, arena: &[u32], table: &[u32]) -> bool
 }
 
 // What was read of a buffer: whether it is a state, and if so where the session stands and how many bytes it keeps.
-#[derive(Drop)]
+#[derive(Clone, Copy)]
 struct Loaded {
     fine: bool,
     stage: Stage,
@@ -358,7 +358,7 @@ fn store(stage: Stage, line: &[u8], kept: usize, arena: &[u32], table: &[u32], s
 // ---- the calls
 
 // What a call tells: its number, how many bytes of the burst it took, and how many answer bytes it wrote.
-#[derive(Drop)]
+#[derive(Clone, Copy)]
 pub struct Counts {
     pub number: u32,
     pub taken: usize,
@@ -388,7 +388,7 @@ fn number_at(from: usize, n: usize) -> u32
 }
 
 // A burst that was served, and where the session stands: the words of its pool are still to be put into the state.
-#[derive(Drop)]
+#[derive(Clone, Copy)]
 struct ServedBurst {
     counts: Counts,
     stage: Stage,

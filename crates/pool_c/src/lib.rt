@@ -20,14 +20,14 @@ use pool_bursts::Counts;
 
 // lf_tree_head. Root and next ticket are written at once, since a caller in C copies them so.
 #[repr(C)]
-#[derive(Drop)]
+#[derive(Clone, Copy)]
 pub struct TreeHead {
     pub first: First,
     pub form: u32,
 }
 
 #[repr(C)]
-#[derive(Drop)]
+#[derive(Clone, Copy)]
 pub struct First {
     pub root: u32,
     pub next: u32,
@@ -36,21 +36,21 @@ pub struct First {
 // lf_answer, in two halves: a caller in C reads eight bytes of it at a time, and finds them soonest if they were
 // written so.
 #[repr(C)]
-#[derive(Drop)]
+#[derive(Clone, Copy)]
 pub struct Answer {
     pub told: Told,
     pub block: Block,
 }
 
 #[repr(C)]
-#[derive(Drop)]
+#[derive(Clone, Copy)]
 pub struct Told {
     pub number: u32,
     pub ticket: u32,
 }
 
 #[repr(C)]
-#[derive(Drop)]
+#[derive(Clone, Copy)]
 pub struct Block {
     pub address: u32,
     pub words: u32,
@@ -58,7 +58,7 @@ pub struct Block {
 
 // lf_tree_outcome
 #[repr(C)]
-#[derive(Drop)]
+#[derive(Clone, Copy)]
 pub struct TreeOutcome {
     pub head: TreeHead,
     pub answer: Answer,
@@ -66,7 +66,7 @@ pub struct TreeOutcome {
 
 // lf_segment_outcome
 #[repr(C)]
-#[derive(Drop)]
+#[derive(Clone, Copy)]
 pub struct SegmentOutcome {
     pub next: u32,
     pub answer: Answer,
@@ -74,7 +74,7 @@ pub struct SegmentOutcome {
 
 // lf_segment_allocation
 #[repr(C)]
-#[derive(Drop)]
+#[derive(Clone, Copy)]
 pub struct SegmentAllocation {
     pub next: u32,
     pub answer: Answer,
@@ -83,7 +83,7 @@ pub struct SegmentAllocation {
 
 // lf_burst
 #[repr(C)]
-#[derive(Drop)]
+#[derive(Clone, Copy)]
 pub struct Burst {
     pub number: u32,
     pub taken: usize,

@@ -124,7 +124,7 @@ fn put_answer(out: &mut [u8], at: usize, x: Answer) -> usize
 // ---- a whole line
 
 // The program's own pool, in the first words of the lent arena and table: its head and its sizes.
-#[derive(Drop)]
+#[derive(Clone, Copy)]
 pub struct Own {
     pub head: Head,
     pub words: usize,
@@ -132,7 +132,7 @@ pub struct Own {
 }
 
 // Where the program stands.
-#[derive(Drop)]
+#[derive(Clone, Copy)]
 pub enum Stage {
     Before,
     Serving(Own),
@@ -140,7 +140,7 @@ pub enum Stage {
 }
 
 // Where it stands after a line, and the place after what was answered.
-#[derive(Drop)]
+#[derive(Clone, Copy)]
 struct Line {
     stage: Stage,
     at: usize,
@@ -422,7 +422,7 @@ fn put_fitting(out: &mut [u8], at: usize, x: Answer) -> usize
 // ---- a line, where its answer has room
 
 // Where the program stands after a line that was tried, and the place after what was answered; or nothing of it was done.
-#[derive(Drop)]
+#[derive(Clone, Copy)]
 pub struct Tried {
     pub stage: Stage,
     pub at: usize,
@@ -524,7 +524,7 @@ pub fn try_line(
 
 // A place inside a burst: where the program stands, how many bytes of the unfinished line are kept, the place after
 // what was answered, and the next byte.
-#[derive(Drop)]
+#[derive(Clone, Copy)]
 pub struct Turn {
     pub stage: Stage,
     pub kept: usize,

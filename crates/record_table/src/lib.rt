@@ -1,5 +1,7 @@
 // The table of records: reading and writing a slot, searching it, and entering its records one after another, for a check
 // that it holds a valid ledger.
+#![tactic(auto)]
+
 ghost use Rattle.std.specs.Prelude.{◌≡◌, ◌≢◌, true, false, ◌+◌, ◌/◌, ◌-◌, ◌%◌, ◌≤◌, ◌<◌, length, set};
 ghost use Rattle.words.specs.Lists.{is_zero};
 ghost use Rattle.words.specs.Counted.{every};
@@ -13,7 +15,7 @@ ghost use Rattle.record_table.specs.Partition.{new_at, other_than, mark_of, Note
 use ledger::{Row, Rule};
 
 // The slot that a search found.
-#[derive(Drop)]
+#[derive(Clone, Copy)]
 pub enum Found {
     At(usize),
     Nothing,

@@ -44,7 +44,7 @@ pub fn block_before(v: &[i32], from: usize, p: usize) -> usize
 }
 
 // What a sweep over blocks answers: the largest weight, and where the first block past them begins.
-#[derive(Drop)]
+#[derive(Clone, Copy)]
 pub struct Swept {
     pub most: u32,
     pub next: usize,

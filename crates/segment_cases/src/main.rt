@@ -22,7 +22,7 @@ use testing::{
 };
 
 // The head of the pool, the number of segments, the party that calls, and how many words of the three buffers are lent.
-#[derive(Drop)]
+#[derive(Clone, Copy)]
 struct Pool {
     head: Head,
     segments: u32,

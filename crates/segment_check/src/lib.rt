@@ -29,7 +29,7 @@ use words::is_zero_part_signed;
 pub const WORDS: Rule = Rule { unit: 1, lead: 1 };
 
 // What a call of the segment pool is passed and hands back: the next ticket, 0 when none is left.
-#[derive(Drop)]
+#[derive(Clone, Copy)]
 pub struct Head {
     pub next: u32,
 }
@@ -86,7 +86,7 @@ fn is_free_block(v: &[i32], at: usize, n: usize, after: bool) -> bool
 
 // Where a walk over blocks has led: the next one begins at `next`, past the arena's end if one is wrong. So many
 // words are free up to there, `after` says whether the last block is, and `most` is the largest weight.
-#[derive(Drop)]
+#[derive(Clone, Copy)]
 struct Walk {
     next: usize,
     free: usize,

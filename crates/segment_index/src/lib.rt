@@ -141,7 +141,7 @@ fn segment_size(w: usize, d: u32) -> usize
 }
 
 // The segments of an arena: how many there are, the logarithm of that, and the words of each.
-#[derive(Drop)]
+#[derive(Clone, Copy)]
 pub struct Segments {
     pub count: usize,
     pub log: u32,
@@ -237,7 +237,7 @@ pub fn raise_most(t: &mut [u32], s: usize, at: usize, v: u32)
 }
 
 // A word of the tree: 2 ^ height leaves lie below it.
-#[derive(Drop)]
+#[derive(Clone, Copy)]
 struct Node {
     pub at: usize,
     pub height: u32,

@@ -19,14 +19,14 @@ use record_table::Found as Slot;
 use segment_check::Head;
 
 // A head with the answer.
-#[derive(Drop)]
+#[derive(Clone, Copy)]
 pub struct Outcome {
     pub head: Head,
     pub answer: Answer,
 }
 
 // An outcome with the places that the search looked at: what an allocation hands back.
-#[derive(Drop)]
+#[derive(Clone, Copy)]
 pub struct Allocation {
     pub head: Head,
     pub answer: Answer,

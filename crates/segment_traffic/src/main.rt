@@ -10,7 +10,7 @@ use testing::{
 };
 
 // What a round has come to: the pool's head and number of segments, and the ledger's side.
-#[derive(Drop)]
+#[derive(Clone, Copy)]
 struct Round {
     head: Head,
     segments: u32,
@@ -19,7 +19,7 @@ struct Round {
 
 // A round's sizes: segments, words of arena, records of table, the number that requested words stay below, first
 // ticket, calls.
-#[derive(Drop)]
+#[derive(Clone, Copy)]
 struct Size {
     segments: u32,
     words: usize,

@@ -3,7 +3,7 @@ use ledger::Row;
 
 // The request of a line: words, the record that a release names, or the one that a trim names with the words to keep. A
 // list's requests know no trim.
-#[derive(Drop)]
+#[derive(Clone, Copy)]
 pub enum LineRequest {
     Ask(u32),
     Give(Row),

@@ -260,7 +260,7 @@ pub fn show_answer(answer: Answer) {
 
 // What a round has come to: the ledger's next ticket, the last random number, the number that requested words stay
 // below, and the counts.
-#[derive(Drop)]
+#[derive(Clone, Copy)]
 pub struct Tally {
     pub next: u32,
     pub seed: u64,
@@ -272,7 +272,7 @@ pub struct Tally {
 
 // A call drawn at random: its kind, of sixteen, the words that it asks for or the slot whose record it names, a party,
 // and the random number that the next one is drawn from.
-#[derive(Drop)]
+#[derive(Clone, Copy)]
 pub struct Draw {
     pub kind: u32,
     pub words: u32,

@@ -1,8 +1,7 @@
 -- Cutting the bytes into pieces changes nothing. Assumes nothing.
-use Prim.Native.Nat.{ℕ}
 use mathlib.Core.Path.{◌≡◌, refl, sym, ap, ◌∙◌}
 use mathlib.Core.Bool.{Bool, true, false, cond}
-use mathlib.Core.List.{List, [], ◌∷◌, ◌++◌, append_assoc}
+use mathlib.Core.List.{[], ◌∷◌, ◌++◌, append_assoc}
 use lib.Dec.{eqb}
 use Rattle.text.specs.Numbers.{Bytes}
 use Rattle.text.specs.Lines.{Served, Fed, also, feed, keep}

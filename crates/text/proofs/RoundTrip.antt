@@ -8,7 +8,7 @@ use native.Mathlib.Nat.{pow-suc}
 use native.Mathlib.Omega.{arith}
 use lib.ListN.{length, get_or}
 use lib.Dec.{ltb, eqb}
-use borrow.Author.Tests.{lt-ltb, le-ltb, ne_eqb, ltb-true, ltb-false, eqb-true, eqb_false}
+use borrow.Author.Tests.{lt-ltb, le-ltb, ne_eqb, ltb-true, ltb-false, eqb-true, eqb-false}
 use Rattle.text.specs.declared.Number.{Number}
 use Rattle.text.specs.declared.Number.TheVariants.{Value, Bad}
 use Rattle.text.specs.Numbers.{Bytes, largest, value_from, value_of, decimal, decimal_of}
@@ -133,5 +133,5 @@ only_written (b ∷ s) n e =
     let p = (test_unmet (eqb (length (b ∷ s)) 0) _ n e).1 in
     ⊎_elim
     (λ t. ap (λ (x : ℕ). x ∷ s) (eqb-true b 48 t) ∙ only_zero n s (rw t at p))
-    (λ f. only_digits b n s (eqb_false b 48 f) (rw f at p))
+    (λ f. only_digits b n s (eqb-false b 48 f) (rw f at p))
     (true_or_false (eqb b 48))

@@ -2,7 +2,7 @@
 -- Assumes nothing.
 use Rattle.std.specs.Prelude.{ℕ, ◌-◌, ◌≡◌, cond, List, [], ◌∷◌, ◌++◌, length, eqb, leb}
 use Rattle.text.specs.Numbers.{Bytes}
-use Rattle.text.specs.Lines.{Served, Fed, also, feed, keep}
+use Rattle.text.specs.Lines.{Served, Fed, also, keep}
 
 -- what a burst did, and the bytes of it that were not taken
 pub record Burst (S : Type 0) : Type 0 where

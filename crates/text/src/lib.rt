@@ -1,4 +1,6 @@
 // Numbers, fields and lines as bytes, read and written, with nothing of pools in it.
+#![tactic(auto)]
+
 ghost use Rattle.std.specs.Prelude.{◌≡◌, [], ◌∷◌, ◌+◌, ◌<◌, ◌≤◌, length, take, drop};
 ghost use Rattle.text.specs.Numbers.{last_two, value_of, value_from, decimal_of};
 ghost use Rattle.text.specs.Fields.{tab_in, two, three, four, pair_of, triple_of, quad_of, fields_of, line_of, Wrote};
@@ -7,7 +9,7 @@ ghost use Rattle.text.specs.Lines.{keep, run};
 // ---- numbers
 
 // A field read as a number.
-#[derive(Drop)]
+#[derive(Clone, Copy)]
 pub enum Number {
     Value(u32),
     Bad,
@@ -101,7 +103,7 @@ fn find_tab(s: &[u8]) -> usize
     i
 }
 
-#[derive(Drop)]
+#[derive(Clone, Copy)]
 pub enum Pair {
     Two(u32, u32),
     Bad,
@@ -134,7 +136,7 @@ pub fn read_pair(s: &[u8]) -> Pair
     two_of(a, b)
 }
 
-#[derive(Drop)]
+#[derive(Clone, Copy)]
 pub enum Triple {
     Three(u32, u32, u32),
     Bad,
@@ -167,7 +169,7 @@ pub fn read_triple(s: &[u8]) -> Triple
     three_of(a, b)
 }
 
-#[derive(Drop)]
+#[derive(Clone, Copy)]
 pub enum Quad {
     Four(u32, u32, u32, u32),
     Bad,
@@ -273,7 +275,7 @@ fn keep_byte(line: &mut [u8], kept: usize, b: u8) -> usize
 }
 
 // How many bytes are kept, and the place in the chunk of the line feed or of its end.
-#[derive(Drop)]
+#[derive(Clone, Copy)]
 pub struct Kept {
     pub kept: usize,
     pub at: usize,

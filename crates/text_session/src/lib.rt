@@ -36,7 +36,7 @@ fn piece_end(from: usize, piece: usize, length: usize) -> usize
 }
 
 // A place in what was read, and whether all answers before it could be written.
-#[derive(Drop)]
+#[derive(Clone, Copy)]
 struct Reached {
     from: usize,
     written: bool,
@@ -90,7 +90,7 @@ fn has_stopped(state: &[u8]) -> bool
 }
 
 // What one read came to: whether to read on, and whether nothing failed.
-#[derive(Drop)]
+#[derive(Clone, Copy)]
 struct AfterRead {
     more: bool,
     fine: bool,

@@ -20,7 +20,7 @@ use tree_check::Head;
 use tree_requests::Outcome;
 
 // The head of the pool, the party that calls, and how many words of the two buffers are lent.
-#[derive(Drop)]
+#[derive(Clone, Copy)]
 struct Pool {
     head: Head,
     party: u32,

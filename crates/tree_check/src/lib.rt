@@ -24,7 +24,7 @@ use tree_walk::walk_all;
 
 // What a call of the tree pool is passed and hands back: the root link, the next ticket, 0 when none is left, and the
 // number of the pool's form.
-#[derive(Drop)]
+#[derive(Clone, Copy)]
 pub struct Head {
     pub root: u32,
     pub next: u32,

@@ -27,7 +27,7 @@ use tree_check::Head;
 use tree_nodes::forms::cell_count;
 
 // A head with the answer: what a call hands back.
-#[derive(Drop)]
+#[derive(Clone, Copy)]
 pub struct Outcome {
     pub head: Head,
     pub answer: Answer,

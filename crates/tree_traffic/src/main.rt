@@ -11,7 +11,7 @@ use testing::{
 use tree_check::Head;
 
 // What a round has come to: the pool's head, and the ledger's side.
-#[derive(Drop)]
+#[derive(Clone, Copy)]
 struct Round {
     head: Head,
     tally: Tally,
@@ -19,7 +19,7 @@ struct Round {
 
 // A round's form and sizes: words of arena, records of table, the number that requested words stay below, first ticket,
 // calls.
-#[derive(Drop)]
+#[derive(Clone, Copy)]
 struct Size {
     form: u32,
     words: usize,

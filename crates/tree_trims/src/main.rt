@@ -69,7 +69,7 @@ fn second_words(place: u32, words: u32, unit: u32) -> u32 {
     words
 }
 
-#[derive(Drop)]
+#[derive(Clone, Copy)]
 struct Block {
     head: Head,
     named: Row,

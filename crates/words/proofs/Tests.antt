@@ -49,10 +49,10 @@ pub and_map : (a b c d : Bool) → (a ≡ true → c ≡ true) → (b ≡ true �
 and_map a b c d f g h = and_i c d (f (and_l a b h)) (g (and_r a b h))
 
 pub not_true : (a : Bool) → not a ≡ true → a ≡ false
-not_true a e = author.not_true a e
+not_true a e = author.not-true a e
 
 pub not_false : (a : Bool) → not a ≡ false → a ≡ true
-not_false a e = author.not_false a e
+not_false a e = author.not-false a e
 
 pub of_not : (a : Bool) → a ≡ false → not a ≡ true
 of_not a e = rw e
@@ -69,7 +69,7 @@ pub eqb_ne : (m n : ℕ) → m ≢ n → eqb m n ≡ false
 eqb_ne m n h = author.ne_eqb m n h
 
 pub eqb_false : (m n : ℕ) → eqb m n ≡ false → m ≢ n
-eqb_false m n e = author.eqb_false m n e
+eqb_false m n e = author.eqb-false m n e
 
 pub le_of : (m n : ℕ) → leb m n ≡ true → m ≤ n
 le_of m n e = author.leb-true m n e

@@ -1,4 +1,6 @@
 // Loops over words that every part of the pool needs: setting a run of them, and testing that a run is all zero.
+#![tactic(auto)]
+
 ghost use Rattle.std.specs.Prelude.{◌≡◌, ◌-◌, ◌≤◌, length, replicate, pos};
 ghost use Rattle.words.specs.Lists.{zero_at};
 ghost use Rattle.words.specs.Signed.{zero_at_z};

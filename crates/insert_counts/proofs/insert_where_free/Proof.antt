@@ -1,7 +1,7 @@
 -- `insert_counts::insert_where_free` meets its contract. Assumes nothing.
 -- In a need, `b3` is the place three before its own.
 use Rattle.std.proofs.Common.{arith, rules}
-use borrow.Author.Tests.{not_false}
+use borrow.Author.Tests.{not-false}
 use Rattle.insert_counts.proofs.MapLaws.{root_read, room, inserted}
 use Rattle.insert_counts.proofs.insert_where_free.Statement.{statement}
 use Rattle.insert_counts.proofs.insert_where_free.Tie as tie
@@ -19,12 +19,12 @@ add-mark : tie.Need-overflow-add-mark
 add-mark c =
     let b2 = c.before.before in
     let s = b2.before.before.before.before in
-    let f = b2.fits2.ensures (not_false _ c.before.if1.false) in
+    let f = b2.fits2.ensures (not-false _ c.before.if1.false) in
     omega (arith, f.inside, s.requires.paired.few)
 
 mark-requires : tie.Need-mark-requires
 mark-requires c κs =
-    let f = c.before.before.fits2.ensures (not_false _ c.before.if1.false) in
+    let f = c.before.before.fits2.ensures (not-false _ c.before.if1.false) in
     (omega arith, f.inside)
 
 cast-insert : tie.Need-overflow-cast-insert
@@ -32,7 +32,7 @@ cast-insert c =
     let b5 = c.before.before.before.before.before in
     let b6 = b5.before in
     let s = b6.before.before.before.before in
-    let f = b6.fits2.ensures (not_false _ b5.if1.false) in
+    let f = b6.fits2.ensures (not-false _ b5.if1.false) in
     omega (arith, f.inside, s.requires.paired.few)
 
 insert-requires : tie.Need-insert-requires
@@ -40,7 +40,7 @@ insert-requires c κs =
     let b5 = c.before.before.before.before.before in
     let b6 = b5.before in
     let s = b6.before.before.before.before in
-    let f = b6.fits2.ensures (not_false _ b5.if1.false) in
+    let f = b6.fits2.ensures (not-false _ b5.if1.false) in
     (s.requires.tree, room _ s.requires f)
 
 same-length-2 : tie.Need-same-length-2
@@ -56,7 +56,7 @@ returns-2 c =
     let b8 = b6.before.before in
     let b9 = b8.before in
     let s = b9.before.before.before.before in
-    let f = b9.fits2.ensures (not_false _ b8.if1.false) in
+    let f = b9.fits2.ensures (not-false _ b8.if1.false) in
     inserted _ s.requires f b2.insert.result b6.mark.ensures b2.insert.ensures
 
 pub insert-where-free-spec : {M : Type 1} → statement M

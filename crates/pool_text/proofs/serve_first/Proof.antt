@@ -5,7 +5,7 @@ use mathlib.Core.Bool.{true}
 use Prim.Native.Nat.{◌≤◌}
 use lib.ListN.{length}
 use borrow.Author.Rules.{rules}
-use borrow.Author.Tests.{not_true, not_false}
+use borrow.Author.Tests.{not-true, not-false}
 use Rattle.session.specs.Meaning.{begins}
 use Rattle.pool_text.proofs.RequestLaws.{begins_long, first_fields, first_bad}
 use Rattle.pool_text.proofs.StandLaws.{became_as, became_stopped}
@@ -17,7 +17,7 @@ abbrev entry : tie.Else1 → tie.Start
 entry c = c.before.before.before.before.before.before
 
 is-first : (c : tie.Else1) → begins (entry c).args.line.now 80 ≡ true
-is-first c = sym c.before.begins.ensures ∙ not_false c.before.begins.result c.if1.false
+is-first c = sym c.before.begins.ensures ∙ not-false c.before.begins.result c.if1.false
 
 long : (c : tie.Else1) → 2 ≤ length (entry c).args.line.now
 long c = begins_long (entry c).args.line.now 80 (is-first c)
@@ -40,7 +40,7 @@ returns c =
     let a = s.args.arena.now in
     let t = s.args.table.now in
     let e = first_bad s.args.line.now
-    (sym b.begins.ensures ∙ not_true b.begins.result i.if1.true) in
+    (sym b.begins.ensures ∙ not-true b.begins.result i.if1.true) in
     let r = p.stop in
     became_as (sym e) r.result.stage a t s.args.out.now r.new.0 s.args.at r.result.at
     (became_stopped _ a t _ _ _ _ 9 r.ensures.0 s.requires.0 s.requires.1 r.ensures.1)

@@ -2,7 +2,7 @@
 use mathlib.Core.Path.{◌≡◌, ◌∙◌, sym, ap, refl}
 use mathlib.Core.Bool.{true}
 use borrow.Author.Rules.{rules}
-use borrow.Author.Tests.{not_true, not_false}
+use borrow.Author.Tests.{not-true, not-false}
 use mathlib.Core.List.{[], ◌∷◌}
 use Rattle.calls.specs.Pool.{Pool}
 use Rattle.calls.specs.Step.{list, list_suits, pool_number}
@@ -29,7 +29,7 @@ same s o = handed o s.args.arena.now s.args.table.now (s.args.answers.now ∷ []
 suits : (c : tie.Else2) → let s = c.before.before.before.before.before.before.before.before.before in list_suits s.args.asked.now s.args.answers.now ≡ true
 suits c =
     let u = c.before in
-    sym u.list-suits.ensures ∙ not_false u.list-suits.result c.if2.false
+    sym u.list-suits.ensures ∙ not-false u.list-suits.result c.if2.false
 
 is-form-requires : tie.Need-is-form-requires
 is-form-requires c κs = search rules
@@ -44,7 +44,7 @@ returns c =
     let s = k.before.before.before.before.before in
     ap (same s) c.refused-with.ensures
     ∙ unknown_result tree_engine (lent s) s.args.party s.args.asked.now s.args.answers.now
-    (sym k.is-form.ensures ∙ not_true k.is-form.result c.before.if1.true)
+    (sym k.is-form.ensures ∙ not-true k.is-form.result c.before.if1.true)
 
 list-suits-requires : tie.Need-list-suits-requires
 list-suits-requires c κs = search rules
@@ -64,8 +64,8 @@ returns-2 c =
     let s = k.before.before.before.before.before in
     ap (same s) c.refused-with2.ensures
     ∙ unsuited_result tree_engine (lent s) s.args.party s.args.asked.now s.args.answers.now
-    (sym k.is-form.ensures ∙ not_false k.is-form.result f.if1.false)
-    (sym u.list-suits.ensures ∙ not_true u.list-suits.result c.before.if2.true)
+    (sym k.is-form.ensures ∙ not-false k.is-form.result f.if1.false)
+    (sym u.list-suits.ensures ∙ not-true u.list-suits.result c.before.if2.true)
 
 gate-for-requires : tie.Need-gate-for-requires
 gate-for-requires c κs = search rules

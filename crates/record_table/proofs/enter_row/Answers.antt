@@ -1,0 +1,61 @@
+use native.Mathlib.Nat.{mul-div-le, mul-mod_right}
+use native.Mathlib.Omega.{arith}
+use mathlib.Core.Path.{◌≡◌, sym, ap, ◌∙◌}
+use mathlib.Core.Bool.{true, false≢true}
+use Rattle.words.proofs.Tests.{not_true, not_false}
+use Rattle.ledger.specs.Records.{record_at, is_empty}
+use Rattle.record_table.specs.Checks.{row_ok}
+use Rattle.record_table.proofs.CheckLaws.{row_whole}
+use Rattle.record_table.proofs.EnterLaws.{empty_joins, note_none, fit_row}
+use borrow.Author.Rules.{rules}
+use Rattle.record_table.proofs.enter_row.Goals as goal
+
+pub returns-then-is_empty : goal.returns-then-is_empty
+returns-then-is_empty c =
+    let a = c.args in
+    let t = a.table.now in
+    let is = c.requires.unit_nonzero.3 in
+    let (some, long, noted) = c.requires.m_nonzero in
+    let none : is_empty (record_at t a.i) ≡ true =
+    ap is_empty (sym is) ∙ sym c.is_empty.ensures ∙ c.if-is_empty.true in record {
+      joins = λ l. (
+        empty_joins a.rule a.words a.next t a.i none,
+        note_none a.m a.seen.now t a.i noted none,
+      );
+      upper_bound = λ ok new. omega arith;
+    }
+
+pub overflow_mul-room : goal.overflow_mul-room
+overflow_mul-room c =
+    rw c.whole_units.ensures (omega (arith, c.requires.unit_nonzero.1, mul-div-le c.args.words c.args.rule.unit))
+
+pub may_enter-requires : goal.may_enter-requires
+may_enter-requires c =
+    let (unit, words, i, is) = c.requires.unit_nonzero in (
+      (unit, mul-mod_right c.args.rule.unit c.whole_units.result, i, is),
+      (sym c.is_empty.ensures ∙ c.if-is_empty.false, c.requires.m_nonzero),
+    )
+
+pub returns-then-not-may_enter : goal.returns-then-not-may_enter
+returns-then-not-may_enter c =
+    let a = c.args in record {
+      joins = λ l. absurd (omega arith);
+      upper_bound = λ ok new. absurd (false≢true (sym (not_true c.may_enter.result c.if-not-may_enter.true-raw) ∙ c.may_enter.ensures.value
+          (row_whole a.rule c.requires.unit_nonzero.0 a.words a.next (record_at a.table.now a.i) c.whole_units.result
+          c.whole_units.ensures ∙ ok) new));
+    }
+
+pub returns : goal.returns
+returns c =
+    let a = c.args in
+    let whole = row_whole a.rule c.requires.unit_nonzero.0 a.words a.next (record_at a.table.now a.i) c.whole_units.result
+    c.whole_units.ensures in
+    let (joins, noted) = c.may_enter.ensures.joins (not_false c.may_enter.result c.if-not-may_enter.false-raw) in
+    let live = sym c.is_empty.ensures ∙ c.if-is_empty.false in
+    let ok = sym whole ∙ joins.0 in
+    let (ticket, room) = fit_row a.rule c.requires.unit_nonzero.0 a.words a.next a.r live
+    (ap (row_ok a.rule a.words a.next) c.requires.unit_nonzero.3 ∙ ok) in
+    let units = c.Span-of.ensures in record {
+      joins = λ l. ((ok, joins.1, units ∙ joins.2), noted);
+      upper_bound = λ good is. omega arith;
+    }

@@ -1,0 +1,8 @@
+use mathlib.Core.Path.{◌∙◌}
+use Rattle.ledger.specs.Units.{first}
+use borrow.Author.Rules.{rules}
+use Rattle.record_table.proofs.first_unit.Goals as goal
+
+pub returns : goal.returns
+unfolding first
+returns c = c.whole_units.ensures ∙ rw c.begin_of.ensures

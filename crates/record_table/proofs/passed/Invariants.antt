@@ -1,0 +1,14 @@
+use Prim.Native.Nat.{◌-◌, ◌≤◌}
+use native.Mathlib.Omega.{arith}
+use mathlib.Core.Path.{◌≡◌}
+use borrow.Author.Rules.{rules}
+use Rattle.ledger.specs.Records.{slots}
+use Rattle.record_table.specs.Slots.{Without}
+use Rattle.record_table.proofs.SlotLaws.{without_none, without_next}
+use Rattle.record_table.proofs.passed.Given as goal
+
+abbrev pub invariant-loop-i : goal.invariant-loop-i
+invariant-loop-i l = (l.n ≡ slots l.table) × (l.i ≤ l.n) × Without l.table l.x 0 l.i
+
+abbrev pub decreases-loop-i : goal.decreases-loop-i
+decreases-loop-i l = l.n - l.i

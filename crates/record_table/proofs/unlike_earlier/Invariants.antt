@@ -1,0 +1,17 @@
+use Prim.Native.Nat.{◌-◌, ◌≤◌}
+use native.Mathlib.Omega.{arith}
+use mathlib.Core.Path.{◌≡◌, ap}
+use mathlib.Core.Bool.{◌&&◌, not}
+use lib.Dec.{eqb}
+use borrow.Author.Rules.{rules}
+use Rattle.words.specs.Counted.{every}
+use Rattle.words.proofs.CountedLaws.{flag_start, flag_next, flag_end}
+use Rattle.record_table.specs.Partition.{other_than}
+use Rattle.record_table.proofs.unlike_earlier.Given as goal
+
+abbrev pub invariant-loop-j : goal.invariant-loop-j
+invariant-loop-j l =
+    (l.j ≤ l.i) × ((l.ok && every (other_than l.table l.ticket) l.j (l.i - l.j)) ≡ every (other_than l.table l.ticket) 0 l.i)
+
+abbrev pub decreases-loop-j : goal.decreases-loop-j
+decreases-loop-j l = l.i - l.j

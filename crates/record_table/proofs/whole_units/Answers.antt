@@ -1,0 +1,16 @@
+use native.Mathlib.Nat.{div-one}
+use mathlib.Core.Path.{sym}
+use borrow.Author.Rules.{rules}
+use Rattle.record_table.proofs.whole_units.Goals as goal
+
+pub returns-then-unit-eq1 : goal.returns-then-unit-eq1
+returns-then-unit-eq1 c = sym (rw c.if-unit-eq1.true (div-one c.args.w))
+
+pub returns-then-unit-eq2 : goal.returns-then-unit-eq2
+returns-then-unit-eq2 c = rw c.if-unit-eq2.true
+
+pub returns-then-unit-eq4 : goal.returns-then-unit-eq4
+returns-then-unit-eq4 c = rw c.if-unit-eq4.true
+
+pub returns-then-unit-eq8 : goal.returns-then-unit-eq8
+returns-then-unit-eq8 c = rw c.if-unit-eq8.true

@@ -1,0 +1,5 @@
+use Rattle.text.proofs.FieldLaws.{four_is}
+use Rattle.text.proofs.four_of.Goals as goal
+
+pub returns-in-Three : goal.returns-in-Three
+returns-in-Three c = four_is _ _ _ _ c.in-Value.is c.in-Three.is

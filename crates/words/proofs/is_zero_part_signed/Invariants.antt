@@ -1,0 +1,11 @@
+use Prim.Native.Nat.{◌-◌, ◌≤◌}
+use mathlib.Core.Path.{◌≡◌}
+use Rattle.words.specs.Signed.{zero_at_z}
+use Rattle.words.specs.Counted.{every}
+use Rattle.words.proofs.is_zero_part_signed.Given as goal
+
+abbrev pub invariant-loop-i : goal.invariant-loop-i
+invariant-loop-i l = (l.lo ≤ l.i) × (l.i ≤ l.hi) × (every (zero_at_z l.s) l.lo (l.hi - l.lo) ≡ every (zero_at_z l.s) l.i (l.hi - l.i))
+
+abbrev pub decreases-loop-i : goal.decreases-loop-i
+decreases-loop-i l = l.hi - l.i

@@ -1,5 +1,7 @@
 // What the test programs share: slices read and written at any place, scripts, printing, and a plain ledger with random
 // calls.
+#![tactic(auto)]
+
 ghost use Rattle.std.specs.Prelude.{◌<◌, ◌≤◌, length};
 
 use calls::Answer;

@@ -2,7 +2,7 @@
 use Prim.Native.Nat.{ℕ, ◌+◌, ◌-◌, ◌*◌, ◌/◌, ◌%◌, ◌≤◌, ◌<◌}
 use native.Mathlib.Decide.{dec_le}
 use native.Mathlib.Nat.{mul-add, mul_comm, mul-le-mul_left, le_trans, le-div_iff_mul-le}
-use native.Mathlib.Nat.{div-le_self, mul-div-le, div-add-mod, mod-lt}
+use native.Mathlib.Nat.{mul-div-le, div-add-mod, mod-lt}
 use native.Mathlib.Omega.{arith}
 use mathlib.Core.Path.{◌≡◌, refl, sym, ap, ◌∙◌}
 use mathlib.Core.Logic.{◌≢◌}

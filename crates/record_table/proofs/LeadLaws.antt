@@ -19,12 +19,12 @@ use Rattle.record_table.proofs.PartitionLaws.{valid_row, held_by, free_slots, no
 -- ---- a walk along spans
 
 module _ {span : ℕ → ℕ → Type 0} where
-  pub leads_up : {lo hi : ℕ} → Leading span hi lo → lo ≤ hi
+  pub leads_up : {hi lo : ℕ} → Leading span hi lo → lo ≤ hi
   leads_up (here e) = omega arith
   leads_up (more s x) = let up = leads_up x in omega arith
 
-  pub leads_join : {a b c : ℕ} → Leading span b a → Leading span c b → Leading span c a
-  leads_join {b = b} {c} (here e) y = subst (Leading span c) (sym e) y
+  pub leads_join : {b a c : ℕ} → Leading span b a → Leading span c b → Leading span c a
+  leads_join {b} {a} {c} (here e) y = subst (Leading span c) (sym e) y
   leads_join (more s x) y = more s (leads_join x y)
 
 -- ---- a valid ledger

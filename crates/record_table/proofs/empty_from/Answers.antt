@@ -1,9 +1,9 @@
-use Prim.Native.Nat.{◌-◌}
+-- `record_table::empty_from` meets its contract. Its invariant: no slot from i up to k passes. Assumes nothing.
 use native.Mathlib.Omega.{arith}
-use mathlib.Core.Path.{◌≡◌, ◌∙◌, sym, ap}
+use mathlib.Core.Path.{◌∙◌, sym, ap}
 use borrow.Author.Rules.{rules}
-use Rattle.ledger.specs.Records.{slots, is_empty}
-use Rattle.record_table.proofs.SlotLaws.{Scanned, scan_start, scan_next, scan_here, scan_end}
+use Rattle.ledger.specs.Records.{is_empty}
+use Rattle.record_table.proofs.SlotLaws.{scan_start, scan_next, scan_here, scan_end}
 use Rattle.record_table.proofs.empty_from.Goals as goal
 
 pub loop-k-init : goal.loop-k-init

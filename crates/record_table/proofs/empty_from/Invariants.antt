@@ -1,9 +1,8 @@
+-- The invariants and measures of the loops of `record_table::empty_from`.
 use Prim.Native.Nat.{◌-◌}
-use native.Mathlib.Omega.{arith}
-use mathlib.Core.Path.{◌≡◌, ◌∙◌, sym, ap}
-use borrow.Author.Rules.{rules}
+use mathlib.Core.Path.{◌≡◌}
 use Rattle.ledger.specs.Records.{slots, is_empty}
-use Rattle.record_table.proofs.SlotLaws.{Scanned, scan_start, scan_next, scan_here, scan_end}
+use Rattle.record_table.proofs.SlotLaws.{Scanned}
 use Rattle.record_table.proofs.empty_from.Given as goal
 
 abbrev pub invariant-loop-k : goal.invariant-loop-k

@@ -1,5 +1,6 @@
+-- `record_table::empty_slot` meets its contract: the slots that were passed do not pass, and the scan goes on from there.
+-- Assumes nothing.
 use native.Mathlib.Omega.{arith}
-use borrow.Author.Rules.{rules}
 use Rattle.ledger.specs.Records.{is_empty}
 use Rattle.record_table.specs.Slots.{empty_slot}
 use Rattle.record_table.proofs.SlotLaws.{reach_here, reach_end, without_empty}

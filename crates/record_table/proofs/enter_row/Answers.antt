@@ -1,3 +1,4 @@
+-- `record_table::enter_row` meets its contract. Assumes nothing.
 use native.Mathlib.Nat.{mul-div-le, mul-mod_right}
 use native.Mathlib.Omega.{arith}
 use mathlib.Core.Path.{◌≡◌, sym, ap, ◌∙◌}
@@ -7,7 +8,6 @@ use Rattle.ledger.specs.Records.{record_at, is_empty}
 use Rattle.record_table.specs.Checks.{row_ok}
 use Rattle.record_table.proofs.CheckLaws.{row_whole}
 use Rattle.record_table.proofs.EnterLaws.{empty_joins, note_none, fit_row}
-use borrow.Author.Rules.{rules}
 use Rattle.record_table.proofs.enter_row.Goals as goal
 
 pub returns-then-is_empty : goal.returns-then-is_empty
@@ -31,10 +31,11 @@ overflow_mul-room c =
 
 pub may_enter-requires : goal.may_enter-requires
 may_enter-requires c =
-    let (unit, words, i, is) = c.requires.unit_nonzero in (
-      (unit, mul-mod_right c.args.rule.unit c.whole_units.result, i, is),
-      (sym c.is_empty.ensures ∙ c.if-is_empty.false, c.requires.m_nonzero),
-    )
+    let (unit, words, i, is) = c.requires.unit_nonzero in record {
+      unit_nonzero = (unit, mul-mod_right c.args.rule.unit c.whole_units.result, i, is);
+      r_value = sym c.is_empty.ensures ∙ c.if-is_empty.false;
+      m_nonzero = c.requires.m_nonzero;
+    }
 
 pub returns-then-not-may_enter : goal.returns-then-not-may_enter
 returns-then-not-may_enter c =
@@ -55,7 +56,7 @@ returns c =
     let ok = sym whole ∙ joins.0 in
     let (ticket, room) = fit_row a.rule c.requires.unit_nonzero.0 a.words a.next a.r live
     (ap (row_ok a.rule a.words a.next) c.requires.unit_nonzero.3 ∙ ok) in
-    let units = c.Span-of.ensures in record {
+    let units = c.span_of.ensures in record {
       joins = λ l. ((ok, joins.1, units ∙ joins.2), noted);
       upper_bound = λ good is. omega arith;
     }

@@ -1,5 +1,6 @@
+-- `record_table::find_slot` meets its contract: the slots that were passed do not pass, and the scan goes on from there.
+-- Assumes nothing.
 use native.Mathlib.Omega.{arith}
-use borrow.Author.Rules.{rules}
 use Rattle.ledger.specs.Records.{record_at, records_of, has_ticket}
 use Rattle.record_table.specs.Slots.{ticket_slot}
 use Rattle.record_table.proofs.SlotLaws.{reach_here, reach_end, ticket_zero, has_other}

@@ -1,7 +1,7 @@
+-- `record_table::first_live` meets its contract: the scan begins at slot 0, or goes on from slot 1. Assumes nothing.
 use native.Mathlib.Omega.{arith}
-use mathlib.Core.Path.{◌≡◌, ◌∙◌, sym, ap}
+use mathlib.Core.Path.{◌∙◌, sym, ap}
 use mathlib.Core.Bool.{not}
-use borrow.Author.Rules.{rules}
 use Rattle.ledger.specs.Records.{is_live}
 use Rattle.record_table.proofs.SlotLaws.{scan_start, scan_next, scan_here, scan_end, scan_on}
 use Rattle.record_table.proofs.first_live.Goals as goal

@@ -1,6 +1,6 @@
+-- `record_table::first_unit` meets its contract. Assumes nothing.
 use mathlib.Core.Path.{◌∙◌}
 use Rattle.ledger.specs.Units.{first}
-use borrow.Author.Rules.{rules}
 use Rattle.record_table.proofs.first_unit.Goals as goal
 
 pub returns : goal.returns

@@ -1,10 +1,10 @@
+-- `record_table::is_new` meets its contract. Assumes nothing.
 use native.Mathlib.Omega.{arith}
 use mathlib.Core.Path.{refl, sym, ap, ◌∙◌}
 use Rattle.words.specs.Counted.{every}
 use Rattle.words.specs.Lists.{is_zero}
 use Rattle.record_table.specs.Partition.{other_than}
 use Rattle.record_table.proofs.EnterLaws.{other_is_new, first_there, unlike_there, noted_there}
-use borrow.Author.Rules.{rules}
 use Rattle.record_table.proofs.is_new.Goals as goal
 
 pub returns-then-kept-eq0 : goal.returns-then-kept-eq0

@@ -1,5 +1,5 @@
+-- `record_table::live_fits` meets its contract. Assumes nothing.
 use mathlib.Core.Path.{sym}
-use borrow.Author.Rules.{rules}
 use Rattle.record_table.proofs.CheckLaws.{low_unfit, fits_by_words}
 use Rattle.record_table.proofs.live_fits.Goals as goal
 

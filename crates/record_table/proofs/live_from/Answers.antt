@@ -1,10 +1,10 @@
-use Prim.Native.Nat.{◌-◌}
+-- `record_table::live_from` meets its contract. Its invariant: no slot from i up to k passes. Assumes nothing.
 use native.Mathlib.Omega.{arith}
-use mathlib.Core.Path.{◌≡◌, ◌∙◌, sym, ap}
+use mathlib.Core.Path.{◌∙◌, sym, ap}
 use mathlib.Core.Bool.{not}
 use borrow.Author.Rules.{rules}
-use Rattle.ledger.specs.Records.{slots, is_live}
-use Rattle.record_table.proofs.SlotLaws.{Scanned, scan_start, scan_next, scan_here, scan_end}
+use Rattle.ledger.specs.Records.{is_live}
+use Rattle.record_table.proofs.SlotLaws.{scan_start, scan_next, scan_here, scan_end}
 use Rattle.record_table.proofs.live_from.Goals as goal
 
 pub loop-k-init : goal.loop-k-init

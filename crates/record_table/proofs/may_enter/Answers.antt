@@ -1,3 +1,4 @@
+-- `record_table::may_enter` meets its contract. Assumes nothing.
 use mathlib.Core.Path.{◌≡◌, refl, sym, ap, ◌∙◌}
 use mathlib.Core.Bool.{true, false≢true}
 use Rattle.words.proofs.Tests.{not_true, not_false}
@@ -5,7 +6,6 @@ use Rattle.ledger.specs.declared.Row.{Row}
 use Rattle.ledger.specs.Units.{span, fits}
 use Rattle.record_table.specs.Checks.{row_ok}
 use Rattle.record_table.proofs.EnterLaws.{live_joins, fit_row}
-use borrow.Author.Rules.{rules}
 use Rattle.record_table.proofs.may_enter.Goals as goal
 
 pub returns-then-not-live_fits : goal.returns-then-not-live_fits
@@ -14,23 +14,18 @@ returns-then-not-live_fits c =
       joins = λ e. absurd (false≢true e);
       value = λ ok new.
           let good : fits a.rule a.words a.next a.r ≡ true =
-          rw c.requires.r_value.0 at (ap (row_ok a.rule a.words a.next) c.requires.unit_nonzero.3 ∙ ok) in
+          rw c.requires.r_value at (ap (row_ok a.rule a.words a.next) c.requires.unit_nonzero.3 ∙ ok) in
           absurd (false≢true (sym (not_true c.live_fits.result c.if-not-live_fits.true-raw) ∙ c.live_fits.ensures ∙ good));
     }
-
--- a record that fits by itself is right in its slot
-own : (c : goal.Start) → (let a = c.args in fits a.rule a.words a.next a.r ≡ true
-    → row_ok a.rule a.words a.next a.r ≡ true)
-own s good = rw s.pre.1.0 good
 
 pub is_new-requires : goal.is_new-requires
 is_new-requires c =
     let a = c.args in
     let good = sym c.live_fits.ensures ∙ not_false c.live_fits.result c.if-not-live_fits.false-raw in
-    let (live, room) = fit_row a.rule c.requires.unit_nonzero.0 a.words a.next a.r c.requires.r_value.0 (own (goal.at.is_new-requires c).Start good) in
+    let (live, room) = fit_row a.rule c.requires.unit_nonzero.0 a.words a.next a.r c.requires.r_value (rw c.requires.r_value good) in
     record {
       i_bound = (c.requires.unit_nonzero.2, ap (λ (r : Row). r.ticket) c.requires.unit_nonzero.3, live);
-      m_nonzero = c.requires.r_value.1;
+      m_nonzero = c.requires.m_nonzero;
     }
 
 pub returns : goal.returns
@@ -39,7 +34,7 @@ returns c =
     let good = sym c.live_fits.ensures ∙ not_false c.live_fits.result c.if-not-live_fits.false-raw in record {
       joins = λ e. (
         live_joins a.rule a.words a.next a.table.now a.i (span a.rule a.r.words) a.r
-            c.requires.unit_nonzero.3 c.requires.r_value.0 (own (goal.at.returns c).Start good) (sym c.is_new.ensures.value ∙ e) refl,
+            c.requires.unit_nonzero.3 c.requires.r_value (rw c.requires.r_value good) (sym c.is_new.ensures.value ∙ e) refl,
         c.is_new.ensures.noted,
       );
       value = λ ok is. c.is_new.ensures.value ∙ is;

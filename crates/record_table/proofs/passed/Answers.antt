@@ -1,9 +1,5 @@
-use Prim.Native.Nat.{◌-◌, ◌≤◌}
+-- `record_table::passed` meets its contract. Its invariant: no slot before i has the ticket. Assumes nothing.
 use native.Mathlib.Omega.{arith}
-use mathlib.Core.Path.{◌≡◌}
-use borrow.Author.Rules.{rules}
-use Rattle.ledger.specs.Records.{slots}
-use Rattle.record_table.specs.Slots.{Without}
 use Rattle.record_table.proofs.SlotLaws.{without_none, without_next}
 use Rattle.record_table.proofs.passed.Goals as goal
 

@@ -1,10 +1,8 @@
+-- The invariants and measures of the loops of `record_table::passed`.
 use Prim.Native.Nat.{◌-◌, ◌≤◌}
-use native.Mathlib.Omega.{arith}
 use mathlib.Core.Path.{◌≡◌}
-use borrow.Author.Rules.{rules}
 use Rattle.ledger.specs.Records.{slots}
 use Rattle.record_table.specs.Slots.{Without}
-use Rattle.record_table.proofs.SlotLaws.{without_none, without_next}
 use Rattle.record_table.proofs.passed.Given as goal
 
 abbrev pub invariant-loop-i : goal.invariant-loop-i

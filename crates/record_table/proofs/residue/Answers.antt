@@ -1,7 +1,7 @@
+-- `record_table::residue` meets its contract: no bits but those of m - 1. Assumes nothing.
 use Prim.Native.Nat.{◌-◌}
 use native.Mathlib.Omega.{arith}
 use mathlib.Core.Path.{refl}
-use borrow.Author.Rules.{rules}
 use lib.Bits.{and_le_r}
 use Rattle.record_table.proofs.residue.Goals as goal
 

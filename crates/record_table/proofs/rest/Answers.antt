@@ -1,5 +1,5 @@
+-- `record_table::rest` meets its contract. Assumes nothing.
 use native.Mathlib.Omega.{arith}
-use borrow.Author.Rules.{rules}
 use Rattle.record_table.proofs.rest.Goals as goal
 
 pub returns-then-unit-eq1 : goal.returns-then-unit-eq1

@@ -1,5 +1,5 @@
+-- `record_table::span_of` meets its contract. Assumes nothing.
 use Rattle.ledger.specs.Units.{span}
-use borrow.Author.Rules.{rules}
 use Rattle.record_table.proofs.span_of.Goals as goal
 
 pub returns : goal.returns

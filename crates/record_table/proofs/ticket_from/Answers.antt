@@ -1,9 +1,9 @@
-use Prim.Native.Nat.{◌-◌}
+-- `record_table::ticket_from` meets its contract. Its invariant: no slot from i up to k passes. Assumes nothing.
 use native.Mathlib.Omega.{arith}
-use mathlib.Core.Path.{◌≡◌, ◌∙◌, sym}
+use mathlib.Core.Path.{◌∙◌, sym}
 use borrow.Author.Rules.{rules}
-use Rattle.ledger.specs.Records.{slots, record_at, has_ticket}
-use Rattle.record_table.proofs.SlotLaws.{Scanned, scan_start, scan_next, scan_here, scan_end, has_same, has_other}
+use Rattle.ledger.specs.Records.{record_at, has_ticket}
+use Rattle.record_table.proofs.SlotLaws.{scan_start, scan_next, scan_here, scan_end, has_same, has_other}
 use Rattle.record_table.proofs.ticket_from.Goals as goal
 
 pub loop-k-init : goal.loop-k-init

@@ -1,9 +1,8 @@
+-- The invariants and measures of the loops of `record_table::ticket_from`.
 use Prim.Native.Nat.{◌-◌}
-use native.Mathlib.Omega.{arith}
-use mathlib.Core.Path.{◌≡◌, ◌∙◌, sym}
-use borrow.Author.Rules.{rules}
-use Rattle.ledger.specs.Records.{slots, record_at, has_ticket}
-use Rattle.record_table.proofs.SlotLaws.{Scanned, scan_start, scan_next, scan_here, scan_end, has_same, has_other}
+use mathlib.Core.Path.{◌≡◌}
+use Rattle.ledger.specs.Records.{slots, has_ticket}
+use Rattle.record_table.proofs.SlotLaws.{Scanned}
 use Rattle.record_table.proofs.ticket_from.Given as goal
 
 abbrev pub invariant-loop-k : goal.invariant-loop-k

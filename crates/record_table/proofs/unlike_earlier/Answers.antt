@@ -1,9 +1,8 @@
-use Prim.Native.Nat.{◌-◌, ◌≤◌}
+-- `record_table::unlike_earlier` meets its contract: the flag and the tickets from j on make the answer. Assumes nothing.
 use native.Mathlib.Omega.{arith}
-use mathlib.Core.Path.{◌≡◌, ap}
+use mathlib.Core.Path.{ap}
 use mathlib.Core.Bool.{◌&&◌, not}
 use lib.Dec.{eqb}
-use borrow.Author.Rules.{rules}
 use Rattle.words.specs.Counted.{every}
 use Rattle.words.proofs.CountedLaws.{flag_start, flag_next, flag_end}
 use Rattle.record_table.specs.Partition.{other_than}

@@ -1,11 +1,8 @@
+-- The invariants and measures of the loops of `record_table::unlike_earlier`.
 use Prim.Native.Nat.{◌-◌, ◌≤◌}
-use native.Mathlib.Omega.{arith}
-use mathlib.Core.Path.{◌≡◌, ap}
-use mathlib.Core.Bool.{◌&&◌, not}
-use lib.Dec.{eqb}
-use borrow.Author.Rules.{rules}
+use mathlib.Core.Path.{◌≡◌}
+use mathlib.Core.Bool.{◌&&◌}
 use Rattle.words.specs.Counted.{every}
-use Rattle.words.proofs.CountedLaws.{flag_start, flag_next, flag_end}
 use Rattle.record_table.specs.Partition.{other_than}
 use Rattle.record_table.proofs.unlike_earlier.Given as goal
 

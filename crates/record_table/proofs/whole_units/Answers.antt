@@ -1,6 +1,6 @@
+-- `record_table::whole_units` meets its contract. Assumes nothing.
 use native.Mathlib.Nat.{div-one}
 use mathlib.Core.Path.{sym}
-use borrow.Author.Rules.{rules}
 use Rattle.record_table.proofs.whole_units.Goals as goal
 
 pub returns-then-unit-eq1 : goal.returns-then-unit-eq1

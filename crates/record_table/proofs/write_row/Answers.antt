@@ -1,6 +1,6 @@
+-- `record_table::write_row` meets its contract: the four words of a slot are its record. Assumes nothing.
 use native.Mathlib.Omega.{arith}
 use mathlib.Core.Path.{◌∙◌, sym, ap}
-use borrow.Author.Rules.{rules}
 use lib.ListN.{length-set}
 use Rattle.ledger.specs.Records.{table_of}
 use Rattle.ledger.proofs.RecordLaws.{put, records_put, table_records}

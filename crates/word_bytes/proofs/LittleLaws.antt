@@ -1,12 +1,12 @@
 -- Words are had back from their bytes, and bytes from their words. Assumes nothing.
 use Prim.Native.Nat.{ℕ, zero, suc, ◌+◌, ◌*◌, ◌/◌, ◌%◌, ◌≤◌, ◌<◌}
-use mathlib.Core.Path.{◌≡◌, refl, sym, ap, ap₂, ◌∙◌}
-use mathlib.Core.List.{List, [], ◌∷◌, ◌++◌}
+use mathlib.Core.Path.{◌≡◌, sym, ap, ◌∙◌}
+use mathlib.Core.List.{[], ◌∷◌, ◌++◌}
 use native.Mathlib.Omega.{arith}
 use native.Mathlib.Numerals.{add-one}
 use native.Mathlib.Decide.{ℕ_discrete}
 use mathlib.Core.Bool.{Bool}
-use lib.ListN.{length, get_or, set, take, drop, length-append, drop_of_length-le, get_or-append}
+use lib.ListN.{length, get_or, set, drop, length-append, drop_of_length-le, get_or-append}
 use lib.Seq.{sets, drop-cons, ext_get_or, get_or-set_same, get_or-set_other, get_or-append-add}
 use Rattle.words.specs.Lists.{Words, list_from}
 use Rattle.words.proofs.ListLaws.{length_list_from, get_d_list_from}

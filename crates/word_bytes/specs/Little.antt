@@ -1,5 +1,5 @@
 -- Words as bytes, lowest first. 02, ticket 1: "docs/ fix its length and layout". Assumes nothing.
-use Rattle.std.specs.Prelude.{ℕ, ◌+◌, ◌*◌, ◌/◌, ◌%◌, ◌<◌, Bool, not, List, [], ◌∷◌, ◌++◌, eqb, get_or}
+use Rattle.std.specs.Prelude.{ℕ, ◌+◌, ◌*◌, ◌/◌, ◌%◌, ◌<◌, Bool, not, [], ◌∷◌, ◌++◌, eqb, get_or}
 use Rattle.words.specs.Lists.{Words}
 use Rattle.text.specs.Numbers.{Bytes}
 

@@ -1,4 +1,6 @@
 // Words as little-endian bytes, and loops over bytes: what a state in a byte buffer is written and read by.
+#![tactic(auto)]
+
 ghost use Rattle.std.specs.Prelude.{◌≡◌, ◌+◌, ◌*◌, ◌-◌, ◌≤◌, length, replicate};
 ghost use Rattle.std.proofs.lemmas.List.Edits.{sets};
 ghost use Rattle.words.specs.Lists.{all, is_zero, zero_at, list_from};

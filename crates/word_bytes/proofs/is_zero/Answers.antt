@@ -1,0 +1,35 @@
+use Prim.Native.Nat.{◌+◌}
+use mathlib.Core.Path.{sym, ◌∙◌}
+use lib.ListN.{length}
+use native.Mathlib.Omega.{arith}
+use borrow.Author.Rules.{rules}
+use Rattle.words.specs.Lists.{is_zero, zero_at}
+use Rattle.words.proofs.Tests.{not_true, not_false}
+use Rattle.words.proofs.CountedLaws.{flag_start, every_skip, every_stop}
+use Rattle.words.proofs.ListLaws.{all_places}
+use Rattle.word_bytes.proofs.is_zero.Goals as goal
+
+pub loop-i-init : goal.loop-i-init
+loop-i-init c =
+    let s = c.args.s.now in
+    (omega arith, omega arith, all_places is_zero 0 s ∙ sym (flag_start (zero_at s) (length s)))
+
+pub returns-then-not-is_zero_block : goal.returns-then-not-is_zero_block
+returns-then-not-is_zero_block c =
+    let l = c.loop-i in
+    let block = c.is_zero_block in
+    every_stop _ _ _ l.i l.invariant.2 (l.i + 512) block.result (omega arith) (omega arith) block.ensures
+    (not_true block.result c.if-not-is_zero_block.true-raw)
+
+pub loop-i-preserved : goal.loop-i-preserved
+loop-i-preserved c =
+    let l = c.loop-i in
+    let block = c.is_zero_block in (
+      search rules,
+      search rules,
+      every_skip _ _ _ l.i l.invariant.2 (l.i + 512) block.result (omega arith) (omega arith) block.ensures
+          (not_false block.result c.if-not-is_zero_block.false-raw),
+    )
+
+pub returns : goal.returns
+returns c = c.is_zero_block-2.ensures ∙ sym c.loop-i.invariant.2

@@ -15,7 +15,7 @@ use Rattle.segment_index.specs.Control.{free_size}
 
 -- what the machine reads back from the bits of a word
 pub reads_back_lem : (z : ℤ) → mag z < 2 ^ 31 → to_z w32 (of_z w32 z) ≡ z
-reads_back_lem z h = to_z-of_z (record { sfits = h })
+reads_back_lem z h = to_z-of_z {w = w32} (record { sfits = h })
 
 pub zero_sub : (z : ℤ) → pos 0 -ℤ z ≡ neg_ℤ z
 zero_sub z = +ℤ_idl (neg_ℤ z)

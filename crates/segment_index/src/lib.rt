@@ -1,4 +1,6 @@
 // The segment pool's control words, the number of segments, and the tree of the index.
+#![tactic(auto)]
+
 ghost use Rattle.std.specs.Prelude.{◌≡◌, true, ℕ, ◌+◌, ◌*◌, ◌/◌, ◌^◌, ◌≤◌, ◌<◌, max, min, pos, neg_ℤ, nat_abs, length, get_or, set};
 ghost use Rattle.stored_forms.specs.Segments.{weight, is_power, depth, most_words, segment_size};
 ghost use Rattle.segment_index.specs.Control.{free_size};

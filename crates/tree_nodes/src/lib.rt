@@ -1,5 +1,7 @@
 // Nodes of the free tree (01, "Stored form of the tree pool"), one by one: no other crate's code knows how a node lies
 // in the words of its cell. The first parameter is the form's number (02, ticket 3).
+#![tactic(auto)]
+
 pub mod forms;
 pub mod four_words;
 pub mod two_words;
@@ -34,7 +36,7 @@ pub fn left_of(form: u32, arena: &[u32], c: usize) -> usize
 }
 
 // The right link of the node at cell `c`.
-pub fn right_of_lem(form: u32, arena: &[u32], c: usize) -> usize
+pub fn right_of(form: u32, arena: &[u32], c: usize) -> usize
     requires { c < cells (form_of form) arena.now }
     ensures { result ≡ right_at (form_of form) arena.now c }
 {

@@ -5,8 +5,10 @@ ghost use Rattle.stored_forms.specs.Blocks.{Zeros};
 ghost use Rattle.tree_nodes.specs.Nodes.{cells, differ, NodePut, LeftSet, RightSet};
 
 // Sets the left link of the node at cell `c`.
+#[tactic(auto, unfolding(stored_forms::specs::Tree::form_one))]
 pub fn set_left(arena: &mut [u32], c: usize, l: usize)
-    requires { (c < cells form_one arena.old) × (l < form_one.links) }
+    requires c_bound { c < cells form_one arena.old }
+    requires l_bound { l < form_one.links }
     ensures { LeftSet form_one arena.old arena.new c l }
 {
     let i = 2 * c + 1;
@@ -15,8 +17,10 @@ pub fn set_left(arena: &mut [u32], c: usize, l: usize)
 }
 
 // Sets the right link of the node at cell `c`.
+#[tactic(auto, unfolding(stored_forms::specs::Tree::form_one))]
 pub fn set_right(arena: &mut [u32], c: usize, r: usize)
-    requires { (c < cells form_one arena.old) × (r < form_one.links) }
+    requires c_bound { c < cells form_one arena.old }
+    requires r_bound { r < form_one.links }
     ensures { RightSet form_one arena.old arena.new c r }
 {
     let i = 2 * c + 1;
@@ -25,9 +29,10 @@ pub fn set_right(arena: &mut [u32], c: usize, r: usize)
 }
 
 // Writes the node of a block of `n` cells at cell `c`.
+#[tactic(auto, unfolding(stored_forms::specs::Tree::form_one))]
 pub fn put_node(arena: &mut [u32], c: usize, n: u32, l: usize, r: usize)
     requires c_bound { c < cells form_one arena.old }
-    requires l_lt_links { (l < form_one.links) × (r < form_one.links) }
+    requires l_bound { (l < form_one.links) × (r < form_one.links) }
     ensures { NodePut form_one arena.old arena.new c n l r }
 {
     arena[2 * c] = n;
@@ -46,9 +51,10 @@ fn if_link(l: usize) -> u64
 
 // Writes the node at cell `c`, whose words are zero: the links' word only if there is one. Returns how many links are
 // not 0.
+#[tactic(auto, unfolding(stored_forms::specs::Tree::form_one))]
 pub fn put_first(arena: &mut [u32], c: usize, n: u32, l: usize, r: usize) -> u64
     requires c_bound { c < cells form_one arena.old }
-    requires l_lt_links { (l < form_one.links) × (r < form_one.links) }
+    requires l_bound { (l < form_one.links) × (r < form_one.links) }
     requires zeros { Zeros arena.old (form_one.cell * c) (form_one.cell * suc c) }
     ensures node_put { NodePut form_one arena.old arena.new c n l r }
     ensures value { result ≡ differ 0 l + differ 0 r }

@@ -1,10 +1,10 @@
 -- Form 3 of the tree pool. 02, ticket 11: "In form 3 with 24 words and 4 records, A 5, A 4 and A 6 give addresses 0, 8
 -- and 16, and a fourth A 1 is 5." The calls with every word along the way; the three releases in all orders; and pools
 -- that are sound in one form and not in another. Assumes nothing.
-use Rattle.std.specs.Prelude.{ℕ, Bool, true, false, List, [], ◌∷◌, map, replicate}
+use Rattle.std.specs.Prelude.{ℕ, Bool, List, [], ◌∷◌, replicate}
 use Rattle.words.specs.Lists.{Words}
 use Rattle.ledger.specs.Records.{row}
-use Rattle.calls.specs.Pool.{Pool, Engine, sound}
+use Rattle.calls.specs.Pool.{Pool, sound}
 use Rattle.calls.specs.Step.{Call, format, allocate, release, success, zero_answer, refusal, step}
 use Rattle.calls.specs.Engines.{tree_engine}
 use Rattle.worked_cases.specs.BenchSheet.{State, state}

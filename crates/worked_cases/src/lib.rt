@@ -1,1 +1,2 @@
 // Worked cases of documents 01 and 02.
+#![tactic(auto)]

@@ -2,7 +2,7 @@
 # archive: in a fresh clone that is every crate below pool_c, and takes minutes.
 ROOT := ../..
 OUT := $(ROOT)/target/examples
-ARCHIVE := $(ROOT)/target/staticlib/libpool_c.a
+ARCHIVE := $(ROOT)/crates/pool_c/out/libpool_c.a
 
 $(ARCHIVE): $(wildcard $(ROOT)/crates/*/src/*.rt)
-	cd $(ROOT) && rt staticlib pool_c
+	cd $(ROOT)/crates/pool_c && rt lib

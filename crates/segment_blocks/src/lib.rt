@@ -1,5 +1,7 @@
 // Scans of the segment pool from block to block, and the upkeep of the index after a change of the blocks: only the
 // segments whose control words changed are scanned again, each from its first block.
+#![tactic(auto)]
+
 ghost use Rattle.std.specs.Prelude.{◌≡◌, true, ℕ, ◌+◌, ◌-◌, ◌*◌, ◌≤◌, ◌<◌, ◌^◌, ℤ, length};
 ghost use Rattle.words.specs.Places.{wiped};
 ghost use Rattle.stored_forms.specs.Segments.{largest};

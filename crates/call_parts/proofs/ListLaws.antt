@@ -1,6 +1,6 @@
 -- A list call as a loop over its requests: what holds after the first i of them, for any engine. Assumes nothing.
 use Prim.Native.Nat.{ℕ, suc, ◌+◌, ◌*◌, ◌<◌}
-use native.Mathlib.Numerals.{add-one, add_two, add_three}
+use native.Mathlib.Numerals.{add-one, add-two, add-three}
 use native.Mathlib.Omega.{arith}
 use mathlib.Core.Path.{◌≡◌, refl, sym, ap, ap₂, ◌∙◌}
 use mathlib.Core.Bool.{true}
@@ -24,8 +24,8 @@ requests_from c rs i h =
     rw (
       e,
       add-one,
-      add_two,
-      add_three,
+      add-two,
+      add-three,
       drop-cons rs (4 * i) 0 (omega arith),
       drop-cons rs (suc (4 * i)) 0 (omega arith),
       drop-cons rs (suc (suc (4 * i))) 0 (omega arith),
@@ -40,7 +40,7 @@ abbrev four_words : Answer → Words
 four_words x = x.number ∷ x.ticket ∷ x.address ∷ x.words ∷ []
 
 answer_sets : (b : Words) (i : ℕ) (x : Answer) → with_answer b i x ≡ sets b (4 * i) (four_words x)
-answer_sets b i x = rw (add-one (4 * i), add_two (4 * i), add_three (4 * i))
+answer_sets b i x = rw (add-one (4 * i), add-two (4 * i), add-three (4 * i))
 
 module _ (b : Words) (i : ℕ) (x : Answer) (h : 4 * i + 3 < length b) where
   answer_parts : with_answer b i x ≡ take (4 * i) b ++ four_words x ++ drop (4 * i + 4) b

@@ -1,4 +1,6 @@
 // What the calls of both engines share: answers, the record that a call names, and the requests of a list.
+#![tactic(auto)]
+
 ghost use Rattle.std.specs.Prelude.{◌≡◌, ◌+◌, ◌*◌, ◌≤◌, ◌<◌, length, get_or, set};
 ghost use Rattle.ledger.specs.Records.{records_of, keepable, shortened};
 ghost use Rattle.calls.specs.Pool.{next_after};

@@ -39,7 +39,7 @@ module _ (next : ℕ) (L : Ledger) (v : List ℤ) (good : valid segment_rule (le
   same_at e i l =
       let long = length_stamp (owned segment_rule L) (control_word (length v) L) v in
       let bits = sym (map_at v i l) ∙ ap (λ ws. get_or ws i 0) e ∙ map_at (arena_of L v) i (rw long l) in
-      sym (to_z-of_z (record { sfits = fits i })) ∙ ap (to_z w32) bits ∙ to_z-of_z (new_fits (owned segment_rule L i) refl)
+      sym (to_z-of_z {w = w32} (record { sfits = fits i })) ∙ ap (to_z w32) bits ∙ to_z-of_z {w = w32} (new_fits (owned segment_rule L i) refl)
     where
       new_fits : (b : Bool) → owned segment_rule L i ≡ b → SFits w32 (get_or (arena_of L v) i (pos 0))
       new_fits true o =

@@ -2,6 +2,8 @@
 // change.
 // Slices are lent to the upkeep as `&*v` and `&mut *t`, which keeps them in registers (docs/DECISIONS.md, what crosses
 // calls).
+#![tactic(auto)]
+
 ghost use Rattle.std.specs.Prelude.{◌≡◌, ℕ, ◌+◌, ◌-◌, ◌*◌, ◌≤◌, ◌<◌, ◌^◌, ℤ, pos, length};
 ghost use Rattle.words.specs.Places.{wiped};
 ghost use Rattle.ledger.specs.Records.{Ledger};

@@ -1,4 +1,6 @@
 // Tables from before parties, of three words to a record: a copy of one as party 1.
+#![tactic(auto)]
+
 ghost use Rattle.std.specs.Prelude.{◌≡◌, true, ◌+◌, ◌*◌, ◌/◌, ◌<◌, length};
 ghost use Rattle.ledger.specs.Records.{table_of};
 ghost use Rattle.calls.specs.Step.{widened_at, copied, copy_suits};

@@ -1,6 +1,8 @@
 // The check of the segment pool: blocks that lie side by side from the first word to the last, and an index that is
 // theirs. No unit is marked: the map has a bit for each word, set only where a record's block begins.
 // Slices are lent on as `&*slice`, which keeps pointer and length in registers (docs/DECISIONS.md, what crosses calls).
+#![tactic(auto)]
+
 ghost use Rattle.std.specs.Prelude.{◌≡◌, true, ◌||◌, ℕ, ◌+◌, ◌-◌, ◌*◌, ◌≤◌, ◌<◌, eqb, pos, length, get_or};
 ghost use Rattle.words.specs.Lists.{all, is_zero};
 ghost use Rattle.words.specs.Counted.{every};

@@ -1,0 +1,43 @@
+-- `segment_check::gate_number` meets its contract, by the test that led to each number. Assumes nothing.
+use mathlib.Core.Bool.{true}
+use mathlib.Core.Path.{◌≡◌, ◌∙◌, refl, sym}
+use Rattle.words.proofs.Tests.{not_true, not_false}
+use Rattle.calls.specs.Pool.{Pool, lengths}
+use Rattle.calls.specs.Engines.{segment_engine}
+use Rattle.calls.proofs.GateLaws.{is_eight, is_one, is_zero}
+use Rattle.segment_check.specs.Gate.{segment_pool}
+use Rattle.segment_check.proofs.gate_number.Goals as goal
+use Rattle.segment_check.proofs.gate_number.Goals.{Else-not-right_lengths}
+
+pub returns-then-not-right_lengths : goal.returns-then-not-right_lengths
+unfolding segment_engine
+returns-then-not-right_lengths c =
+    let a = c.args in
+    let bad = sym (c.right_lengths.ensures a.head) ∙ not_true _ c.if-not-right_lengths.true-raw in
+    is_eight segment_engine (segment_pool a.s a.head a.arena.now a.table.now a.index.now) refl bad
+
+-- the lengths are right
+abbrev lent : Else-not-right_lengths → Pool
+lent c =
+    let a = c.args in
+    segment_pool a.s a.head a.arena.now a.table.now a.index.now
+
+right : (c : Else-not-right_lengths) → lengths segment_engine (lent c) ≡ true
+right c =
+    let a = c.args in
+    sym (c.right_lengths.ensures a.head) ∙ not_false _ c.if-not-right_lengths.false-raw
+
+pub is_stored-requires : goal.is_stored-requires
+is_stored-requires c = right (goal.at.is_stored-requires c).Else-not-right_lengths
+
+pub returns-then-not-is_stored : goal.returns-then-not-is_stored
+returns-then-not-is_stored c =
+    let lengths-right = right (goal.at.returns-then-not-is_stored c).Else-not-right_lengths in
+    let bad = sym c.is_stored.ensures ∙ not_true _ c.if-not-is_stored.true-raw in
+    is_one segment_engine (lent (goal.at.returns-then-not-is_stored c).Else-not-right_lengths) lengths-right bad
+
+pub returns : goal.returns
+returns c =
+    let lengths-right = right (goal.at.returns c).Else-not-right_lengths in
+    let good = sym c.is_stored.ensures ∙ not_false _ c.if-not-is_stored.false-raw in
+    is_zero segment_engine (lent (goal.at.returns c).Else-not-right_lengths) lengths-right good

@@ -1,4 +1,6 @@
 // The text program's meaning, and the state that a byte buffer carries from burst to burst.
+#![tactic(auto)]
+
 use ledger::Row;
 
 // The request of a line: words, the record that a release names, or the one that a trim names with the words to keep. A

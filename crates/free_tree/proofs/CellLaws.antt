@@ -12,7 +12,7 @@ use Rattle.ledger.specs.Runs.{Run}
 use Rattle.stored_forms.specs.Tree.{Tree, leaf, node, Form, cell_words}
 use Rattle.stored_forms.specs.Blocks.{Within, In, NotFirst, Holds, Zeros}
 use Rattle.stored_forms.proofs.NodeLaws.{Readable, within_le}
-use Rattle.tree_nodes.specs.Nodes.{cells, Same}
+use Rattle.tree_nodes.specs.Nodes.{Same}
 use Rattle.free_tree.specs.Held.{Apart}
 
 module _ {F : Form} (readable : Readable F F.links) where

@@ -58,12 +58,12 @@ module _ {F : Form} (readable : Readable F F.links) where
   pub fit_start : {m : Words} {root : ℕ} (n : ℕ) → FitLeft F m root n root 0
   fit_start n T p = (T, p, fit_none n T)
 
-  pub fit_tree : {m : Words} {root n l d : ℕ} → FitLeft F m root n l d → ((T : Tree) × At F m root T)
+  pub fit_tree : {m : Words} {root l d : ℕ} (n : ℕ) → FitLeft F m root n l d → ((T : Tree) × At F m root T)
       → (t : Tree) × At F m l t
-  fit_tree inv (T, p) = let (t, q, e) = inv T p in (t, q)
+  fit_tree n inv (T, p) = let (t, q, e) = inv T p in (t, q)
 
-  pub fit_end : {m : Words} {root n l d : ℕ} → l ≡ 0 → FitLeft F m root n l d → LeftmostFound F m root n d
-  fit_end {n = n} {d = d} z inv T p = let (t, q, e) = inv T p in sym (e ∙ at_none (λ t. fit_or n t d ≡ d) z refl t q)
+  pub fit_end : {m : Words} {root l d : ℕ} (n : ℕ) → l ≡ 0 → FitLeft F m root n l d → LeftmostFound F m root n d
+  fit_end {d = d} n z inv T p = let (t, q, e) = inv T p in sym (e ∙ at_none (λ t. fit_or n t d ≡ d) z refl t q)
 
   module _ {m : Words} {root n l d k : ℕ} (z : l ≢ 0) (len : k ≡ length_at F m (l - 1))
       (inv : FitLeft F m root n l d) where

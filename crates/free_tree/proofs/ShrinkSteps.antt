@@ -155,15 +155,15 @@ module _ {F : Form} (readable : Readable F F.links) where
 
   -- ---- which stays on top
 
-  pub over_roots_not : {m : Words} {a : ℕ} (b : ℕ) {r : Run} {v : Bool} → OverRoot F m a r v → v ≡ false
+  pub over_roots_not : {m : Words} {a : ℕ} (b : ℕ) (r : Run) {v : Bool} → OverRoot F m a r v → v ≡ false
       → OverRoots F m a b r false
-  over_roots_not b {r} low e ta tb p q = ap (λ w. w && stands_over r tb) (sym e ∙ low ta p)
+  over_roots_not b r low e ta tb p q = ap (λ w. w && stands_over r tb) (sym e ∙ low ta p)
 
-  pub over_roots_both : {m : Words} {a b : ℕ} {r : Run} {v w : Bool} → OverRoot F m a r v → v ≡ true
+  pub over_roots_both : {m : Words} {a b : ℕ} (r : Run) {v w : Bool} → OverRoot F m a r v → v ≡ true
       → OverRoot F m b r w → OverRoots F m a b r w
-  over_roots_both {r = r} low e high ta tb p q = high tb q ∙ ap (λ x. x && stands_over r tb) (sym e ∙ low ta p)
+  over_roots_both r low e high ta tb p q = high tb q ∙ ap (λ x. x && stands_over r tb) (sym e ∙ low ta p)
 
-  module _ {m : Words} {a b : ℕ} {r : Run} {v : Bool} (both : OverRoots F m a b r v) where
+  module _ {m : Words} {a b : ℕ} (r : Run) {v : Bool} (both : OverRoots F m a b r v) where
     pub on_top_run : v ≡ true → OnTop F m a b r 0
     on_top_run e ta tb p q = sym (rw (sym (both ta tb p q) ∙ e) refl)
 
@@ -205,7 +205,7 @@ module _ {F : Form} (readable : Readable F F.links) where
       go false false e = (refl, refl)
 
   -- one of the three is left
-  module _ {m : Words} {a b k : ℕ} {r : Run} (which : OnTop F m a b r k) (y : k ≢ 0) where
+  module _ {m : Words} {a b k : ℕ} (r : Run) (which : OnTop F m a b r k) (y : k ≢ 0) where
     pub second_left : k ≢ 1 → OnTop F m a b r 2
     second_left z ta tb p q =
         go (stands_over r ta && stands_over r tb) (heavier ta tb) (which ta tb p q)

@@ -1,5 +1,7 @@
 // The free tree of a tree pool: the free blocks in a lent arena, each with its node in its first cell (01, "Stored
 // form of the tree pool"). How a node lies in words is left to tree_nodes: no function here reads or writes a word.
+#![tactic(auto)]
+
 ghost use Rattle.std.specs.Prelude.{◌≡◌, ◌≢◌, ℕ, ◌+◌, ◌-◌, ◌≤◌, ◌<◌};
 ghost use Rattle.ledger.specs.Runs.{run};
 ghost use Rattle.stored_forms.specs.Tree.{Tree, form_of, length_at};
@@ -13,7 +15,7 @@ ghost use Rattle.free_tree.specs.Held.{Heapified, Longer, Shrunk, LeftmostFound,
 ghost use Rattle.free_tree.specs.Held.{if_ends, if_begins};
 
 use tree_nodes::{
-    left_of, length_of, put_first, right_of_lem, set_left, set_right, store_left, store_right,
+    left_of, length_of, put_first, right_of, set_left, set_right, store_left, store_right,
 };
 
 // ---- join
@@ -25,7 +27,7 @@ fn over_left(form: u32, arena: &mut [u32], a: usize, b: usize)
     ensures { LeftJoined (form_of form) arena.old arena.new a b }
 {
     let c = a - 1;
-    let s = right_of_lem(form, arena, c);
+    let s = right_of(form, arena, c);
     if s == 0 {
         set_right(form, arena, c, b);
         return;
@@ -112,10 +114,10 @@ fn upper_part(form: u32, arena: &mut [u32], l: usize, x: usize) -> u64
     ensures { Parts (form_of form) arena.old arena.new l x l (link_of result) (count_of result) }
 {
     let mut c = l - 1;
-    let mut s = right_of_lem(form, arena, c);
+    let mut s = right_of(form, arena, c);
     while (s != 0) & (s <= x) {
         c = s - 1;
-        s = right_of_lem(form, arena, c);
+        s = right_of(form, arena, c);
     }
     if s == 0 {
         return 0;
@@ -179,7 +181,7 @@ fn place_for(form: u32, arena: &[u32], l: usize, x: usize, n: u32) -> Place
         if x < c {
             at = left_of(form, arena, c);
         } else {
-            at = right_of_lem(form, arena, c);
+            at = right_of(form, arena, c);
         }
     }
     Place { at, over }
@@ -201,7 +203,7 @@ fn place_of(form: u32, arena: &[u32], l: usize, x: usize) -> Place
         if x < c {
             at = left_of(form, arena, c);
         } else {
-            at = right_of_lem(form, arena, c);
+            at = right_of(form, arena, c);
         }
     }
     Place { at, over }
@@ -277,7 +279,7 @@ pub fn delete_at(form: u32, arena: &mut [u32], l: usize, at: usize, over: usize)
 {
     let c = at - 1;
     let a = left_of(form, arena, c);
-    let b = right_of_lem(form, arena, c);
+    let b = right_of(form, arena, c);
     let q = join_trees(form, arena, a, b);
     link_of(attach(form, arena, l, over, c, q, 0))
 }
@@ -296,7 +298,7 @@ pub fn delete(form: u32, arena: &mut [u32], l: usize, x: usize) -> usize
     }
     let c = at - 1;
     let a = left_of(form, arena, c);
-    let b = right_of_lem(form, arena, c);
+    let b = right_of(form, arena, c);
     if (a == 0) | (b == 0) {
         return link_of(attach(form, arena, l, over, x, a + b, 0));
     }
@@ -368,11 +370,11 @@ fn sink_right(form: u32, arena: &mut [u32], lo: usize, hi: usize, x: usize, n: u
     ensures { Heapified (form_of form) arena.old arena.new lo hi (run x n) lo }
 {
     let mut c = lo - 1;
-    let mut s = right_of_lem(form, arena, c);
+    let mut s = right_of(form, arena, c);
     let mut top = on_top(form, arena, s, hi, x, n);
     while top == 1 {
         c = s - 1;
-        s = right_of_lem(form, arena, c);
+        s = right_of(form, arena, c);
         top = on_top(form, arena, s, hi, x, n);
     }
     if top == 0 {
@@ -438,7 +440,7 @@ pub fn shrink(form: u32, arena: &mut [u32], l: usize, at: usize, over: usize, k:
 {
     let c = at - 1;
     let a = left_of(form, arena, c);
-    let b = right_of_lem(form, arena, c);
+    let b = right_of(form, arena, c);
     let n = length_of(form, arena, c) as usize;
     let q = heapify(form, arena, a, b, c + k, (n - k) as u32);
     link_of(attach(form, arena, l, over, c, q, 0))
@@ -519,7 +521,7 @@ pub fn touching(form: u32, arena: &[u32], root: usize, lo: usize, hi: usize) -> 
             l = left_of(form, arena, c);
         } else {
             below = l;
-            l = right_of_lem(form, arena, c);
+            l = right_of(form, arena, c);
         }
     }
     Sides {

@@ -17,7 +17,7 @@ use Rattle.words.proofs.Tests.{of_ge, within_in, within_high}
 use Rattle.words.proofs.ListLaws.{all_append, all_append_l, all_append_r}
 use Rattle.ledger.specs.Runs.{Run, run, covered, Gapped, AreRuns, shorten}
 use Rattle.ledger.proofs.RunLaws.{gapped_weaken, gapped_below, runs_are, runs_unique, runs_after_grant}
-use Rattle.stored_forms.specs.Tree.{Tree, leaf, node, inorder, tree_of, Form, length_at}
+use Rattle.stored_forms.specs.Tree.{Tree, leaf, node, inorder, tree_of, Form, length_at, left_at, right_at}
 use Rattle.stored_forms.proofs.TreeLaws.{inorder_tree_of}
 use Rattle.stored_forms.specs.Blocks.{Within, In, NotFirst, Zeros}
 use Rattle.stored_forms.proofs.NodeLaws.{Readable, in_range, covered_in, in_covered}
@@ -147,10 +147,10 @@ module _ {F : Form} (readable : Readable F F.links) where
   module _ {m : Words} where
     all_read_back : {l : ℕ} (t : Tree) → At F m l t → all (reads_back m) (inorder t) ≡ true
     all_read_back leaf p = refl
-    all_read_back (node a q b) p =
-        all_append (reads_back m) (inorder a) (q ∷ inorder b) (all_read_back a (at_left readable p refl))
+    all_read_back {l} (node a q b) p =
+        all_append (reads_back m) (inorder a) (q ∷ inorder b) (all_read_back {l = left_at F m q.start} a (at_left readable p refl))
         (and_i (reads_back m q) (all (reads_back m) (inorder b)) (rw (at_length readable p) (eqb_same q.size))
-        (all_read_back b (at_right readable p refl)))
+        (all_read_back {l = right_at F m q.start} b (at_right readable p refl)))
 
     -- the length of a run is its node's
     pub run_length : {root : ℕ} (xs : List Run) (c n : ℕ) (ys : List Run) → Lies F m root (xs ++ run c n ∷ ys)

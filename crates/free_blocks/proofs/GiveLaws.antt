@@ -12,7 +12,6 @@ use lib.Dec.{leb, ltb}
 use lib.ListN.{length, get_or}
 use Rattle.words.specs.Lists.{Words, first_that}
 use Rattle.words.specs.Counted.{within}
-use Rattle.words.specs.Places.{wiped}
 use Rattle.words.proofs.Tests.{false_of, or_l, or_r, eqb_eq, eqb_ne}
 use Rattle.words.proofs.Tests.{eqb_false, lt_of, not_lt, of_le, of_lt, within_in, within_low, within_high, within_of}
 use Rattle.words.proofs.PlaceLaws.{length_wiped, wiped_in, wiped_out}

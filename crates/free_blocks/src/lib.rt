@@ -1,5 +1,7 @@
 // Free blocks of the tree pool: cells taken from the low end of a block, and cells given back and merged with the
 // blocks they touch.
+#![tactic(auto)]
+
 ghost use Rattle.std.specs.Prelude.{List, ◌-◌};
 ghost use Rattle.ledger.specs.Runs.{Run};
 ghost use Rattle.stored_forms.specs.Tree.{form_of};

@@ -1,5 +1,7 @@
 // Requests on a sound segment pool: what an allocation, a release and a trim do, one or a list of them, and the outcomes
 // that they come to. The calls of segment_pool check the pool first.
+#![tactic(auto)]
+
 ghost use Rattle.std.specs.Prelude.{◌≡◌, true, [], ◌+◌, ◌*◌, ◌/◌, ◌%◌, ◌<◌, ◌≤◌, length};
 ghost use Rattle.ledger.specs.Records.{is_party, keepable, shortened};
 ghost use Rattle.calls.specs.Pool.{sound};

@@ -8,7 +8,6 @@ use mathlib.Core.Path.{◌≡◌, refl, sym, ap, ◌∙◌, subst}
 use mathlib.Core.Bool.{Bool, true, false, ◌||◌}
 use mathlib.Core.List.{List, [], ◌∷◌, map}
 use Rattle.words.specs.Lists.{Words, all}
-use Rattle.words.specs.Counted.{within}
 use Rattle.words.proofs.Tests.{and_i, of_lt, within_in, within_high}
 use Rattle.ledger.specs.declared.Rule.{Rule}
 use Rattle.ledger.specs.Records.{records_of, slots}
@@ -33,8 +32,8 @@ gapped_short k N (r ∷ rs) g =
 abbrev InCells : ℕ → Words → ℕ → ℕ → Type 0
 InCells p spans k n = Leads spans (k * p) ((k + n) * p)
 
-cells_lead : (p : ℕ) (spans : Words) {lo hi : ℕ} → Leading (InCells p spans) hi lo → Leads spans (lo * p) (hi * p)
-cells_lead p spans {lo} (here e) = here {k = lo * p} (ap (λ k. k * p) e)
+cells_lead : (p : ℕ) (spans : Words) {hi lo : ℕ} → Leading (InCells p spans) hi lo → Leads spans (lo * p) (hi * p)
+cells_lead p spans {hi} {lo} (here e) = here {k = lo * p} (ap (λ k. k * p) e)
 cells_lead p spans (more s x) = leads_join s (cells_lead p spans x)
 
 module _ (ρ : Rule) (unit : 0 < ρ.unit) (p : ℕ) (per : 0 < p) (W next : ℕ) (t spans : Words)

@@ -50,9 +50,9 @@ module _ {map : Words} where
 
   -- ---- cells that are led through
 
-  pub leads_cover : {lo hi : ℕ} → Leads map lo hi → CoversAll map lo hi
+  pub leads_cover : {hi lo : ℕ} → Leads map lo hi → CoversAll map lo hi
   leads_cover (here e) u a b = absurd (omega arith)
-  leads_cover {lo} {hi} (more {n = n} s x) u a b = go (λ h. leads_cover x u h b) (dec_le (lo + n) u)
+  leads_cover {hi} {lo} (more {n = n} s x) u a b = go (λ h. leads_cover x u h b) (dec_le (lo + n) u)
     where
       go : (lo + n ≤ u → Covers map u) → Dec (lo + n ≤ u) → Covers map u
       go f (yes h) = f h
@@ -81,7 +81,7 @@ module _ {map : Words} where
       same e = ap (λ n. eqb n hi) e ∙ eqb_same hi
 
 -- what is found in one map is found in another
-pub leads_keep : {map map' : Words} {lo hi : ℕ} → ((k x : ℕ) → lo ≤ k → k < hi → Next map k x → Next map' k x)
+pub leads_keep : {map map' : Words} {hi lo : ℕ} → ((k x : ℕ) → lo ≤ k → k < hi → Next map k x → Next map' k x)
     → Leads map lo hi → Leads map' lo hi
 leads_keep f (here e) = here e
 leads_keep {lo = lo} f (more {n = n} s x) =

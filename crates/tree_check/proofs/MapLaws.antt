@@ -7,7 +7,7 @@ use native.Mathlib.Numerals.{add-one}
 use native.Mathlib.Omega.{arith}
 use mathlib.Core.Path.{◌≡◌, refl, sym, ap, ◌∙◌, subst}
 use mathlib.Core.Logic.{◌≢◌}
-use mathlib.Core.Bool.{Bool, true, false, false≢true}
+use mathlib.Core.Bool.{Bool, true, false}
 use lib.Dec.{eqb}
 use lib.ListN.{length}
 use Rattle.words.specs.Lists.{Words, all, is_zero}
@@ -24,7 +24,7 @@ use Rattle.record_table.specs.Checks.{row_ok}
 use Rattle.record_table.specs.Partition.{units_of, Noted, Joins, Entered}
 use Rattle.record_table.proofs.PartitionLaws.{sum_part, held_by, no_share, valid_entered, valid_exact}
 use Rattle.record_table.proofs.EnterLaws.{enter_start, enter_next, empty_joins, noted_start, note_none}
-use Rattle.tree_check.specs.Maps.{is_entries, homes, home, Covers, Adds, Mapped}
+use Rattle.tree_check.specs.Maps.{homes, home, Covers, Adds, Mapped}
 use Rattle.tree_check.specs.Maps.{Leads, Bare, Spare, Grows, most, Led}
 use Rattle.tree_check.proofs.LeadLaws.{leads_keep}
 use Rattle.tree_check.proofs.SpanLaws.{no_units, grows_none}

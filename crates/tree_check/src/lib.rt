@@ -1,6 +1,8 @@
 // The tree pool's gate, the tests before every call: the lent lengths, and one exact test that head and lent memory are
 // the stored form of a ledger. Records and free blocks lie side by side, and have as many cells together as the arena.
 // Slices are lent on as `&*slice`, which keeps pointer and length in registers (docs/DECISIONS.md, what crosses calls).
+#![tactic(auto)]
+
 pub mod record_map;
 pub mod tree_walk;
 

@@ -7,7 +7,7 @@ ghost use Rattle.tree_check.specs.Walk.{Ready, Between, NodeFollows, Walked, Pas
 
 use crate::record_map::leads_to;
 use tree_nodes::forms::cell_count;
-use tree_nodes::{is_clear, left_of, length_of, right_of_lem};
+use tree_nodes::{is_clear, left_of, length_of, right_of};
 
 // Whether a block of z cells at cell c lies between cells k and hi, and is shorter than the limit.
 fn is_between(k: usize, hi: usize, limit: usize, c: usize, z: usize) -> bool
@@ -96,7 +96,7 @@ fn walk(
         return 2097152;
     }
     *free += z;
-    let upper = right_of_lem(form, *arena, c);
+    let upper = right_of(form, *arena, c);
     if upper == 0 {
         return c + z;
     }

@@ -1,0 +1,10 @@
+-- `tree_check::record_map::byte_at` meets its contract. Assumes nothing.
+use native.Mathlib.Omega.{arith}
+use mathlib.Core.Path.{refl}
+use Rattle.tree_check.proofs.record_map.byte_at.Goals as goal
+
+pub overflow_cast-result : goal.overflow_cast-result
+overflow_cast-result c = omega (arith, c.shared_slice_known-1.given c.args.i)
+
+pub returns : goal.returns
+returns c = (omega (arith, c.shared_slice_known-1.given c.args.i), refl)

@@ -1,0 +1,5 @@
+-- The measure of `tree_check::walk`.
+use Rattle.tree_check.proofs.tree_walk.+walk.Given as goal
+
+abbrev pub decreases-walk : goal.decreases-walk
+decreases-walk l = l.allowed

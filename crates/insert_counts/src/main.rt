@@ -1,5 +1,7 @@
 // Insertions into the free tree of an arena, by lot and as in the bench sheet's T8: the number of links that an
 // insertion says it stored is held to a count over the arena's words before and after.
+#![tactic(auto)]
+
 ghost use Rattle.std.specs.Prelude.{◌≡◌, ◌≤◌, true, length};
 ghost use Rattle.stored_forms.specs.Tree.{form_of};
 ghost use Rattle.free_tree.specs.Links.{link_of};

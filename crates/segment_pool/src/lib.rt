@@ -3,6 +3,8 @@
 // of its caller: each checks the pool first, and its promise equates all that it hands back and leaves with the
 // machine's step.
 // Slices are lent on as `&*slice`, which keeps pointer and length in registers (docs/DECISIONS.md, what crosses calls).
+#![tactic(auto)]
+
 ghost use Rattle.std.specs.Prelude.{◌≡◌, [], ◌∷◌};
 ghost use Rattle.calls.specs.Step.{format, release, find, look, trim, list, step};
 ghost use Rattle.calls.specs.Engines.{segment_engine};

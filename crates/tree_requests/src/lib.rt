@@ -1,5 +1,7 @@
 // The tree pool's cores: what a request does on a sound pool, and the outcome that it comes to. Whoever keeps a pool of
 // its own sound may use them; the calls of tree_pool check first.
+#![tactic(auto)]
+
 pub mod sizes;
 
 ghost use Rattle.std.specs.Prelude.{◌≡◌, List, [], ◌+◌, ◌*◌, ◌/◌, ◌%◌, ◌<◌, ◌≤◌, length, true};

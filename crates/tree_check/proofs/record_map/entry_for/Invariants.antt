@@ -1,4 +1,4 @@
--- The invariants and measures of the loops of `tree_check::entry_for`.
+-- The invariants and measures of the loops of `tree_check::record_map::entry_for`.
 use Prim.Native.Nat.{◌-◌, ◌<◌, ◌^◌}
 use lib.ListN.{length}
 use Rattle.tree_check.proofs.SpanLaws.{Searching}

@@ -1,4 +1,4 @@
--- The invariants and measures of the loops of `tree_check::leads_to`.
+-- The invariants and measures of the loops of `tree_check::record_map::leads_to`.
 use Prim.Native.Nat.{◌-◌}
 use Rattle.tree_check.specs.Maps.{Leads}
 use Rattle.tree_check.proofs.record_map.leads_to.Given as goal

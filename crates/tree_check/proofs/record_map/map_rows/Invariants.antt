@@ -1,4 +1,4 @@
--- The invariants and measures of the loops of `tree_check::map_rows`.
+-- The invariants and measures of the loops of `tree_check::record_map::map_rows`.
 use Prim.Native.Nat.{◌-◌}
 use mathlib.Core.Path.{◌≡◌}
 use lib.ListN.{length}

@@ -1,4 +1,4 @@
--- The invariants and measures of the loops of `tree_check::note_entry`.
+-- The invariants and measures of the loops of `tree_check::record_map::note_entry`.
 use Prim.Native.Nat.{ℕ, ◌-◌, ◌*◌, ◌%◌, ◌≤◌, ◌<◌, ◌^◌}
 use mathlib.Core.Path.{◌≡◌}
 use lib.ListN.{length}

@@ -1,4 +1,4 @@
--- The invariants and measures of the loops of `tree_check::note_span`.
+-- The invariants and measures of the loops of `tree_check::record_map::note_span`.
 use Prim.Native.Nat.{◌+◌, ◌≤◌, ◌<◌}
 use mathlib.Core.Path.{◌≡◌}
 use lib.ListN.{length}

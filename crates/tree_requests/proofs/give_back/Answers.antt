@@ -1,0 +1,84 @@
+-- `tree_requests::give_back` meets its contract: the cells that go back make the act a release. Assumes nothing.
+use native.Mathlib.Omega.{arith}
+use mathlib.Core.Path.{◌≡◌, refl, ap, ◌∙◌}
+use mathlib.Core.List.{[], ◌∷◌}
+use Prim.Native.Nat.{ℕ, ◌+◌, ◌/◌}
+use mathlib.Core.Bool.{true}
+use lib.ListN.{length}
+use Rattle.words.specs.Lists.{Words}
+use Rattle.ledger.specs.declared.Row.{Row}
+use Rattle.ledger.specs.Records.{records_of, vacate, member, settle}
+use Rattle.stored_forms.specs.Tree.{form_of}
+use Rattle.free_blocks.specs.Blocks.{Changed, Gives, Given}
+use Rattle.calls.specs.Pool.{sound}
+use Rattle.calls.specs.Step.{give}
+use Rattle.call_parts.specs.declared.Named.TheVariants.{Slot}
+use Rattle.call_parts.specs.Parts.{named_in}
+use Rattle.calls.specs.Engines.{tree_engine}
+use Rattle.call_parts.proofs.ResultLaws.{acted_by}
+use Rattle.tree_check.specs.declared.Head.{Head}
+use Rattle.tree_check.specs.Gate.{tree_pool}
+use Rattle.tree_requests.specs.Sizes.{cell_span}
+use Rattle.tree_requests.specs.declared.Outcome.{Outcome}
+use Rattle.tree_requests.specs.Outcomes.{handed}
+use Rattle.tree_requests.proofs.SizeLaws.{free_cells}
+use Rattle.tree_requests.proofs.RefusedLaws.{released}
+use Rattle.tree_requests.proofs.PlanLaws.{plan_range, plan_slot, plan_answer, plan_gives, plan_given, plan_root}
+use Rattle.tree_requests.proofs.PlanLaws.{plan_pool, release_from, release_some}
+use Rattle.tree_requests.proofs.give_back.Goals as goal
+
+add_none : (n : ℕ) → n + 0 ≡ n
+add_none n = omega arith
+
+module _ (h : Head) (a t : Words) (r : Row) (slot : ℕ) (ok : sound tree_engine (tree_pool h a t) ≡ true)
+    (found : named_in t r ≡ Slot slot) where
+  -- its first cell, behind none that are kept
+  abbrev named_cell : ℕ
+  named_cell = r.address / (form_of h.form).cell + 0
+
+  gives : let F = form_of h.form in
+      Gives F a h.root named_cell (r.address / F.cell + cell_span F r.words) (free_cells F (length a) (records_of t))
+  gives =
+      plan_gives h a t r slot ok found vacate refl named_cell (add_none _ ∙ release_from h a t r slot ok found)
+      (release_some h a t r slot ok found)
+
+  -- what the cells given back leave
+  given : (b : Words) (root : ℕ) → let F = form_of h.form in
+      Given F a b h.root named_cell (r.address / F.cell + cell_span F r.words) root
+      → Changed F a b (free_cells F (length a) (records_of t))
+      (free_cells F (length a) (settle (member r.ticket vacate ∷ []) (records_of t))) root
+  given =
+      plan_given h a t r slot ok found vacate refl named_cell (add_none _ ∙ release_from h a t r slot ok found)
+      (release_some h a t r slot ok found)
+
+pub give_tail-root-requires : goal.give_tail-root-requires
+give_tail-root-requires c = (
+  free_cells (form_of c.args.head.form) (length c.args.arena.now) (records_of c.args.table.now),
+  gives c.args.head c.args.arena.now c.args.table.now c.args.named c.args.slot c.requires.0 c.requires.1,
+)
+
+pub write_row-requires : goal.write_row-requires
+write_row-requires c = record {
+  i_bound = plan_slot c.args.head c.args.arena.now c.args.table.now c.args.named c.args.slot c.requires.0 c.requires.1;
+  record_words_len = (plan_range c.args.head c.args.arena.now c.args.table.now c.args.named c.args.slot c.requires.0 c.requires.1).fours;
+}
+
+pub effect-requires : goal.effect-requires
+effect-requires c = (
+  plan_root c.args.head c.args.arena.now c.args.table.now c.args.named c.args.slot c.requires.0 c.requires.1 vacate refl c.give_tail-root.new.arena c.give_tail-root.result
+      (given c.args.head c.args.arena.now c.args.table.now c.args.named c.args.slot c.requires.0 c.requires.1 c.give_tail-root.new.arena c.give_tail-root.result c.give_tail-root.ensures),
+  omega arith,
+)
+
+pub returns : goal.returns
+returns c =
+    let h = c.args.head in
+    let a = c.args.arena.now in
+    let t = c.args.table.now in
+    let (number, root, _) = c.effect.ensures in
+    let q = plan_pool c.args.head c.args.arena.now c.args.table.now c.args.named c.args.slot c.requires.0 c.requires.1 vacate refl c.give_tail-root.new.arena c.give_tail-root.result
+    (given c.args.head c.args.arena.now c.args.table.now c.args.named c.args.slot c.requires.0 c.requires.1 c.give_tail-root.new.arena c.give_tail-root.result c.give_tail-root.ensures)
+    c.write_row.new.table c.write_row.ensures in
+    ap (λ (o : Outcome). handed o c.give_tail-root.new.arena c.write_row.new.table [])
+    (released h c.effect.result c.give_tail-root.result number root c.args.named)
+    ∙ acted_by tree_engine (give c.args.named) (tree_pool h a t) _ _ (plan_answer c.args.head c.args.arena.now c.args.table.now c.args.named c.args.slot c.requires.0 c.requires.1 vacate refl) q

@@ -1,3 +1,5 @@
+-- `testing::all_are` is safe and ends.
+-- Assumes nothing.
 use Rattle.std.proofs.Common.{◌-◌, ◌≤◌}
 use Rattle.testing.proofs.all_are.Given as goal
 

@@ -1,3 +1,5 @@
+-- `testing::checksum` meets its contract: the sum stays below the prime.
+-- Assumes nothing.
 use Rattle.std.proofs.Common.{◌-◌, ◌<◌, ◌≤◌, length}
 use Rattle.testing.proofs.checksum.Given as goal
 

@@ -1,3 +1,5 @@
+-- `testing::first_run` is safe and ends.
+-- Assumes nothing.
 use Rattle.std.proofs.Common.{◌-◌, ◌≤◌, length}
 use Rattle.testing.proofs.first_run.Given as goal
 

@@ -1,3 +1,5 @@
+-- `testing::numbers` is safe and ends.
+-- Assumes nothing.
 use Rattle.std.proofs.Common.{◌≡◌, ◌-◌, ◌≤◌, length}
 use Rattle.testing.proofs.numbers.Given as goal
 

@@ -1,3 +1,5 @@
+-- `testing::print_words` is safe and ends.
+-- Assumes nothing.
 use Rattle.std.proofs.Common.{◌-◌, ◌≤◌, length}
 use Rattle.testing.proofs.print_words.Given as goal
 

@@ -1,3 +1,5 @@
+-- `testing::put_all` is safe and ends.
+-- Assumes nothing.
 use Rattle.std.proofs.Common.{◌≡◌, ◌-◌, ◌≤◌, length}
 use Rattle.testing.proofs.put_all.Given as goal
 

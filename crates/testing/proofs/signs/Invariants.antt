@@ -1,3 +1,5 @@
+-- `testing::signs` is safe and ends.
+-- Assumes nothing.
 use Rattle.std.proofs.Common.{◌≡◌, ◌-◌, ◌≤◌, length}
 use Rattle.testing.proofs.signs.Given as goal
 

@@ -1,3 +1,5 @@
+-- `testing::slot_of` is safe and ends.
+-- Assumes nothing.
 use Rattle.std.proofs.Common.{◌-◌, ◌≤◌}
 use Rattle.testing.proofs.slot_of.Given as goal
 

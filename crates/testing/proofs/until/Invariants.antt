@@ -1,3 +1,5 @@
+-- `testing::until` meets its contract: the place lies between the start and the length.
+-- Assumes nothing.
 use Rattle.std.proofs.Common.{◌-◌, ◌≤◌, length}
 use Rattle.testing.proofs.until.Given as goal
 

@@ -1,3 +1,5 @@
+-- `testing::write` is safe and ends.
+-- Assumes nothing.
 use Rattle.std.proofs.Common.{◌≡◌, ◌-◌, ◌≤◌, length}
 use Rattle.testing.proofs.write.Given as goal
 

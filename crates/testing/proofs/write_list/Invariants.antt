@@ -1,3 +1,5 @@
+-- `testing::write_list` is safe and ends.
+-- Assumes nothing.
 use Rattle.std.proofs.Common.{◌≡◌, ◌-◌, length}
 use Rattle.testing.proofs.write_list.Given as goal
 

@@ -1,3 +1,4 @@
+-- `word_bytes::get_word` meets its contract. Assumes nothing.
 use native.Mathlib.Omega.{arith}
 use Rattle.word_bytes.proofs.get_word.Goals as goal
 

@@ -1,3 +1,4 @@
+-- `word_bytes::get_words` meets its contract: the words as far as i are read. Assumes nothing.
 use lib.ListN.{length}
 use Rattle.word_bytes.specs.Little.{word_at}
 use Rattle.word_bytes.proofs.LittleLaws.{filled_next, filled_all}

@@ -1,3 +1,4 @@
+-- `word_bytes::get_words` meets its contract: the words as far as i are read. Assumes nothing.
 use Prim.Native.Nat.{◌≤◌, ◌-◌}
 use lib.ListN.{length}
 use Rattle.word_bytes.specs.Little.{word_at}

@@ -1,3 +1,5 @@
+-- `word_bytes::is_without` meets its contract: the flag so far and the test of what is left make the answer. Assumes
+-- nothing.
 use lib.ListN.{length}
 use Rattle.words.proofs.CountedLaws.{flag_start, flag_next, flag_end}
 use Rattle.words.proofs.ListLaws.{all_places}

@@ -1,3 +1,5 @@
+-- `word_bytes::is_without` meets its contract: the flag so far and the test of what is left make the answer. Assumes
+-- nothing.
 use Prim.Native.Nat.{◌≤◌, ◌-◌}
 use mathlib.Core.Bool.{◌&&◌}
 use lib.ListN.{length}

@@ -1,3 +1,5 @@
+-- `word_bytes::is_zero` meets its contract. Its invariant: the answer is the test of what is left from i on.
+-- Assumes nothing.
 use Prim.Native.Nat.{◌-◌, ◌≤◌}
 use mathlib.Core.Path.{◌≡◌}
 use lib.ListN.{length}

@@ -1,3 +1,4 @@
+-- `word_bytes::put_word` meets its contract. Assumes nothing.
 use lib.ListN.{length-set}
 use native.Mathlib.Numerals.{add-one}
 use Rattle.word_bytes.proofs.LittleLaws.{add_two, add_three}

@@ -1,3 +1,4 @@
+-- `word_bytes::put_words` meets its contract: the words left, set from here on, make all of them. Assumes nothing.
 use Prim.Native.Nat.{◌+◌, ◌*◌}
 use lib.Seq.{sets}
 use native.Mathlib.Nat.{add-zero}

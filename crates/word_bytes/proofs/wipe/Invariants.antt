@@ -1,3 +1,4 @@
+-- `word_bytes::wipe` meets its contract: the bytes as far as i are set. Assumes nothing.
 use Prim.Native.Nat.{◌≤◌, ◌-◌}
 use lib.ListN.{length}
 use Rattle.words.specs.Places.{wiped}

@@ -1,5 +1,5 @@
 -- `tree_nodes::four_words::put_first` meets its contract: word 0, and words 1 and 2 where a link is not 0.
--- Assumes nothing. In a need, `b3` is the place three before its own.
+-- Assumes nothing.
 use native.Mathlib.Omega.{arith}
 use mathlib.Core.Path.{◌∙◌}
 use lib.ListN.{length-set}

@@ -1,5 +1,7 @@
 // The tree pool: Stephenson's engine with the six calls of document 01, and a trim. No call asks anything of its
 // caller: each checks the pool first, and its promise equates all that it hands back and leaves with the machine's step.
+#![tactic(auto)]
+
 ghost use Rattle.std.specs.Prelude.{◌≡◌, [], ◌∷◌};
 ghost use Rattle.calls.specs.Step.{format, allocate, release, find, look, trim, list, pool_number, step};
 ghost use Rattle.calls.specs.Engines.{tree_engine};

@@ -1,5 +1,4 @@
 -- `tree_check::is_shown_other` meets its contract: by the size that it goes by. Assumes nothing.
--- In a need, `b3` is the place three before its own.
 use native.Mathlib.Omega.{arith}
 use Rattle.tree_check.proofs.is_shown_other.Goals as goal
 

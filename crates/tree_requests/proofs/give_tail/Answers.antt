@@ -1,5 +1,4 @@
 -- `tree_requests::give_tail` meets its contract: the code's numbers are those of the contract. Assumes nothing.
--- In a need, `b3` is the place three before its own.
 use Prim.Native.Nat.{ℕ, ◌+◌}
 use native.Mathlib.Nat.{div-le_self}
 use native.Mathlib.Omega.{arith}

@@ -1,4 +1,4 @@
--- `tree_requests::outcome_of_grant` meets its contract: its test is the one in `grantOutcome`. Assumes nothing.
+-- `tree_requests::outcome_of_grant` meets its contract: its test is the one in `grant_outcome`. Assumes nothing.
 use borrow.Author.Tests.{eq-eqb, ne_eqb}
 use Rattle.tree_requests.specs.Outcomes.{effect_root, effect_address}
 use Rattle.tree_requests.proofs.outcome_of_grant.Goals as goal

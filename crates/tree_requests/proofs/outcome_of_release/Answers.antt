@@ -1,4 +1,4 @@
--- `tree_requests::outcome_of_release` meets its contract: its test is the one in `releaseOutcome`. Assumes nothing.
+-- `tree_requests::outcome_of_release` meets its contract: its test is the one in `release_outcome`. Assumes nothing.
 use mathlib.Core.Path.{ap}
 use borrow.Author.Tests.{eq-eqb, ne_eqb}
 use Rattle.calls.specs.declared.Answer.{Answer}

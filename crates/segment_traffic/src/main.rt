@@ -1,6 +1,8 @@
 // Random traffic of several parties on the segment pool, held to a plain ledger whose units are words. Each holder
 // writes its ticket into all its words, and they and the control word are read again before its release. A round ends
 // with the release of all; the memory must then be as a format leaves it.
+#![tactic(auto)]
+
 use calls::Answer;
 use ledger::Row;
 use segment_check::Head;

@@ -6,7 +6,6 @@ use lib.ListN.{length}
 use native.Mathlib.Omega.{arith}
 use borrow.Author.Rules.{rules}
 use Rattle.words.specs.Lists.{is_zero, zero_at}
-use Rattle.words.proofs.Tests.{not_true, not_false}
 use Rattle.words.proofs.CountedLaws.{flag_start, every_skip, every_stop}
 use Rattle.words.proofs.ListLaws.{all_places}
 use Rattle.word_bytes.proofs.is_zero.Goals as goal
@@ -21,7 +20,7 @@ returns-then-not-is_zero_block c =
     let l = c.loop-i in
     let block = c.is_zero_block in
     every_stop _ _ _ l.i l.invariant.2 (l.i + 512) block.result (omega arith) (omega arith) block.ensures
-    (not_true block.result c.if-not-is_zero_block.true-raw)
+    c.if-not-is_zero_block.true
 
 pub loop-i-preserved : goal.loop-i-preserved
 loop-i-preserved c =
@@ -30,7 +29,7 @@ loop-i-preserved c =
       search rules,
       search rules,
       every_skip _ _ _ l.i l.invariant.2 (l.i + 512) block.result (omega arith) (omega arith) block.ensures
-          (not_false block.result c.if-not-is_zero_block.false-raw),
+          c.if-not-is_zero_block.false,
     )
 
 pub returns : goal.returns

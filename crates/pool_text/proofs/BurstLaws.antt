@@ -1,8 +1,8 @@
 -- A line out of a burst, and what the rest of the burst will have made. Assumes nothing.
 use Prim.Native.Nat.{ℕ, suc, ◌+◌, ◌-◌, ◌≤◌, ◌<◌}
 use mathlib.Core.Path.{◌≡◌, refl, sym, ap, ◌∙◌}
-use mathlib.Core.Bool.{Bool, true, false, cond}
-use mathlib.Core.List.{List, [], ◌∷◌, ◌++◌}
+use mathlib.Core.Bool.{true, false, cond}
+use mathlib.Core.List.{[], ◌++◌}
 use native.Mathlib.Numerals.{add-one}
 use native.Mathlib.Nat.{add-zero, sub-zero}
 use native.Mathlib.Omega.{arith}
@@ -11,7 +11,7 @@ use lib.ListN.{length, get_or, take, drop, length-append, drop_of_length-le}
 use lib.Seq.{sets, drop-cons, length-sets, take_at, sets-eq}
 use Rattle.text.specs.Numbers.{Bytes}
 use Rattle.text.specs.Fields.{Wrote}
-use Rattle.text.specs.Lines.{Run, run}
+use Rattle.text.specs.Lines.{run}
 use Rattle.text.specs.Rooms.{Burst, also_said, burst}
 use Rattle.text.proofs.WriteLaws.{sets_after}
 use Rattle.text.proofs.RoomLaws.{burst_open, burst_line}

@@ -1,5 +1,7 @@
 // The text program's lines on a tree pool: a burst of input bytes in, answer bytes out. It runs the pool's cores, not
 // its checked calls: who calls it has checked the pool, and a line keeps it sound.
+#![tactic(auto)]
+
 ghost use Rattle.std.specs.Prelude.{◌≡◌, true, cond, [], ◌+◌, ◌*◌, ◌≤◌, ◌<◌, eqb, leb, length, take};
 ghost use Rattle.ledger.specs.Records.{record_words, records_of, keepable};
 ghost use Rattle.calls.specs.Pool.{most_records, sound};

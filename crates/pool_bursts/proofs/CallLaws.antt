@@ -1,5 +1,5 @@
 -- The calls, from what their parts promise. Assumes nothing.
-use Prim.Native.Nat.{ℕ, ◌+◌, ◌*◌, ◌-◌, ◌≤◌, ◌<◌}
+use Prim.Native.Nat.{ℕ, ◌*◌, ◌-◌, ◌≤◌, ◌<◌}
 use mathlib.Core.Path.{◌≡◌, refl, sym, ap, ◌∙◌}
 use mathlib.Core.Logic.{◌≢◌}
 use mathlib.Core.Bool.{Bool, true, false, cond, ◌&&◌, false≢true}
@@ -18,8 +18,8 @@ use Rattle.text.specs.Fields.{Wrote}
 use Rattle.text.specs.Lines.{Served, finish}
 use Rattle.text.specs.Rooms.{Burst}
 use Rattle.word_bytes.specs.Little.{Small}
-use Rattle.session.specs.Meaning.{Standing, before, serving, serve, most_text_words, text_form}
-use Rattle.session.specs.State.{Session, session, state_bytes, standing_in, session_in, bytes_of, right_pool, is_state}
+use Rattle.session.specs.Meaning.{Standing, before, serve, most_text_words, text_form}
+use Rattle.session.specs.State.{Session, session, state_bytes, session_in, bytes_of, right_pool, is_state}
 use Rattle.session.specs.Calls.{Reply, unchanged, answering, gated, start_call, burst_done, end_done}
 use Rattle.session.proofs.GoodLaws.{right_sound}
 use Rattle.pool_text.specs.declared.Own.{Own}

@@ -1,13 +1,13 @@
 -- A state in which nothing is left but where another session's words will stand. Assumes nothing.
 use Prim.Native.Nat.{ℕ, zero, suc, ◌+◌, ◌*◌, ◌-◌, ◌≤◌}
 use mathlib.Core.Path.{◌≡◌, refl, sym, ap, ◌∙◌}
-use mathlib.Core.Bool.{Bool, true, ◌&&◌}
-use mathlib.Core.List.{List, [], ◌∷◌, ◌++◌}
+use mathlib.Core.Bool.{Bool, true}
+use mathlib.Core.List.{[], ◌∷◌, ◌++◌}
 use native.Mathlib.Nat.{sub-zero}
 use native.Mathlib.Omega.{arith}
 use lib.ListN.{length, take, drop, replicate, take-append-drop, length-replicate}
 use lib.Seq.{take_at, drop_at, drop-drop, take-nil}
-use Rattle.words.specs.Lists.{Words, all, is_zero}
+use Rattle.words.specs.Lists.{all, is_zero}
 use Rattle.words.proofs.ByPlace.{all_replicate}
 use Rattle.words.proofs.ListLaws.{all_append_l, all_append_r}
 use Rattle.words.proofs.Tests.{and_l, and_r, and_i}

@@ -1,17 +1,16 @@
 -- The state of a good session is laid out as code tests it. Assumes nothing.
-use Prim.Native.Nat.{ℕ, ◌+◌, ◌*◌, ◌-◌, ◌/◌, ◌≤◌, ◌<◌}
+use Prim.Native.Nat.{ℕ, ◌+◌, ◌*◌, ◌-◌, ◌≤◌, ◌<◌}
 use mathlib.Core.Path.{◌≡◌, refl, sym, ap, ap₂, ◌∙◌}
-use mathlib.Core.Bool.{Bool, true, false, cond, ◌&&◌, ◌||◌}
-use mathlib.Core.List.{List, [], ◌∷◌, ◌++◌, append_assoc}
+use mathlib.Core.Bool.{true, ◌&&◌}
+use mathlib.Core.List.{[], ◌∷◌, ◌++◌, append_assoc}
 use native.Mathlib.Nat.{zero-add}
 use native.Mathlib.Omega.{arith}
-use lib.Dec.{eqb, leb}
 use lib.ListN.{length, get_or, take, drop, replicate, length-append, length-drop}
 use lib.Seq.{take_at, drop_at, take_all}
 use Rattle.words.specs.Lists.{Words, all, is_zero}
 use Rattle.words.proofs.Tests.{and_i, of_le}
 use Rattle.ledger.specs.Records.{record_words, slots}
-use Rattle.calls.specs.Pool.{Pool, word_count, most_records}
+use Rattle.calls.specs.Pool.{word_count, most_records}
 use Rattle.text.specs.Numbers.{Bytes}
 use Rattle.word_bytes.specs.Little.{word_at, bytes_of_words, is_other}
 use Rattle.word_bytes.proofs.LittleLaws.{length_bytes, word_there}

@@ -1,29 +1,26 @@
 -- Bytes are the state of a good session exactly if they are laid out as one and their pool is right. Assumes nothing.
 use Prim.Native.Nat.{ℕ, zero, suc, ◌+◌, ◌*◌, ◌-◌, ◌≤◌, ◌<◌}
-use mathlib.Core.Path.{◌≡◌, refl, sym, ap, ap₂, ◌∙◌, subst}
+use mathlib.Core.Path.{◌≡◌, refl, sym, ap, ap₂, ◌∙◌}
 use mathlib.Core.Bool.{Bool, true, false, cond, ◌&&◌, ◌||◌}
-use mathlib.Core.List.{List, [], ◌∷◌, ◌++◌, append_assoc}
+use mathlib.Core.List.{[], ◌∷◌, ◌++◌}
 use native.Mathlib.Omega.{arith}
 use lib.Dec.{eqb, leb}
-use lib.ListN.{length, get_or, take, drop, replicate, length-append, length-drop, take-append-drop}
+use lib.ListN.{length, get_or, take, drop, replicate, length-drop}
 use lib.Seq.{length-take-le, take-add, drop-drop, drop-cons, drop_at}
 use Rattle.words.proofs.ByPlace.{all_replicate}
-use Rattle.words.specs.Lists.{Words, all, is_zero, list_from, same_words}
-use Rattle.words.proofs.Tests.{and_l, and_r, and_i, le_of, of_le, eqb_eq, bool_iff}
-use Rattle.words.proofs.ListLaws.{same_words_eq, same_words_same, length_list_from}
-use Rattle.ledger.specs.Records.{record_words, slots}
-use Rattle.calls.specs.Pool.{Pool, most_records}
+use Rattle.words.specs.Lists.{all, is_zero, list_from}
+use Rattle.words.proofs.Tests.{and_l, and_r, le_of, eqb_eq}
+use Rattle.ledger.specs.Records.{record_words}
+use Rattle.calls.specs.Pool.{most_records}
 use Rattle.text.specs.Numbers.{Bytes}
 use Rattle.text.proofs.FieldLaws.{part_rest}
-use Rattle.word_bytes.specs.Little.{word_of, word_at, word_bytes, bytes_of_words, is_other, Small}
-use Rattle.word_bytes.proofs.LittleLaws.{word_again, length_bytes}
-use Rattle.session.specs.Meaning.{Standing, before, serving, stopped, most_text_words}
-use Rattle.session.specs.State.{Session, session, table_from, arena_from, state_bytes, stage_of, head_of, table_in, arena_in}
-use Rattle.session.specs.State.{padded, bytes_of, pool_in, standing_in, session_in, right_pool, good, is_state}
-use Rattle.session.proofs.GoodLaws.{Good, good_parts, good_of}
-use Rattle.session.proofs.StateLaws.{state_long, session_back, is_state_lem}
+use Rattle.word_bytes.specs.Little.{word_at, word_bytes, bytes_of_words, is_other, Small}
+use Rattle.word_bytes.proofs.LittleLaws.{word_again}
+use Rattle.session.specs.Meaning.{most_text_words}
+use Rattle.session.specs.State.{table_from, arena_from}
+use Rattle.session.specs.State.{padded}
 use Rattle.pool_bursts.specs.declared.Fields.{Fields}
-use Rattle.pool_bursts.specs.Layout.{fields_in, is_sized, between, is_clear, well_formed}
+use Rattle.pool_bursts.specs.Layout.{is_sized, is_clear}
 
 -- ---- bytes had back from the words read there
 

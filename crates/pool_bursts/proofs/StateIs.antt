@@ -1,9 +1,9 @@
 -- Bytes that are laid out as a state, with a right pool, are the state of the session that is read there. Assumes
 -- nothing.
-use Prim.Native.Nat.{ℕ, ◌+◌, ◌*◌, ◌-◌, ◌/◌, ◌≤◌, ◌<◌}
+use Prim.Native.Nat.{ℕ, ◌+◌, ◌*◌, ◌-◌, ◌≤◌}
 use mathlib.Core.Path.{◌≡◌, refl, sym, ap, ap₂, ◌∙◌}
 use mathlib.Core.Bool.{Bool, true, false, cond, ◌&&◌, ◌||◌, or-false}
-use mathlib.Core.List.{List, [], ◌∷◌, ◌++◌}
+use mathlib.Core.List.{[], ◌∷◌, ◌++◌}
 use native.Mathlib.Omega.{arith}
 use lib.Dec.{eqb, leb}
 use lib.ListN.{length, take, drop, length-drop}
@@ -17,8 +17,8 @@ use Rattle.text.specs.Numbers.{Bytes}
 use Rattle.word_bytes.specs.Little.{word_at, bytes_of_words, is_other, Small}
 use Rattle.session.specs.Meaning.{Standing, before, serving, stopped, most_text_words}
 use Rattle.session.specs.State.{session, table_from, arena_from, state_bytes, stage_of, head_of, table_in, arena_in}
-use Rattle.session.specs.State.{padded, bytes_of, pool_in, standing_in, session_in, right_pool, good, is_state}
-use Rattle.session.proofs.GoodLaws.{Good, good_of, good_parts}
+use Rattle.session.specs.State.{bytes_of, pool_in, standing_in, session_in, right_pool, good, is_state}
+use Rattle.session.proofs.GoodLaws.{good_of, good_parts}
 use Rattle.pool_bursts.specs.Layout.{fields_in, is_sized, between, is_clear, well_formed}
 use Rattle.pool_bursts.proofs.FormedLaws.{state_formed}
 use Rattle.pool_bursts.proofs.LayoutLaws.{words_here, part_padded, few_kept, few_words, few_slots, sized_stage}

@@ -1,8 +1,8 @@
 -- A session's state, where code puts what is used over zeros. Assumes nothing.
-use Prim.Native.Nat.{ℕ, zero, suc, ◌+◌, ◌*◌, ◌-◌, ◌/◌, ◌≤◌}
+use Prim.Native.Nat.{ℕ, ◌+◌, ◌*◌, ◌-◌, ◌≤◌}
 use mathlib.Core.Path.{◌≡◌, refl, sym, ap, ap₂, ◌∙◌}
-use mathlib.Core.Bool.{Bool, true, ◌&&◌}
-use mathlib.Core.List.{List, [], ◌∷◌, ◌++◌, append_assoc, append-nil}
+use mathlib.Core.Bool.{true, ◌&&◌}
+use mathlib.Core.List.{[], ◌∷◌, ◌++◌, append_assoc, append-nil}
 use native.Mathlib.Nat.{sub-zero}
 use native.Mathlib.Omega.{arith}
 use lib.ListN.{length, get_or, take, drop, replicate, length-append, length-drop, length-replicate, take-append-drop}
@@ -15,13 +15,13 @@ use Rattle.calls.specs.Pool.{most_records}
 use Rattle.text.specs.Numbers.{Bytes}
 use Rattle.word_bytes.specs.Little.{bytes_of_words}
 use Rattle.word_bytes.proofs.LittleLaws.{length_bytes}
-use Rattle.session.specs.Meaning.{Standing, before, serving, stopped, most_text_words}
+use Rattle.session.specs.Meaning.{Standing, most_text_words}
 use Rattle.session.specs.State.{session, table_from, arena_from, state_bytes, stage_of, head_of, table_in, arena_in, padded, bytes_of}
 use Rattle.session.proofs.StateLaws.{length_padded}
 use Rattle.pool_text.specs.declared.Own.{Own}
 use Rattle.pool_text.specs.declared.Stage.{Stage}
 use Rattle.pool_text.specs.declared.Stage.TheVariants.{Before, Serving, Stopped}
-use Rattle.pool_text.specs.Session.{own_pool, standing_of, Lent}
+use Rattle.pool_text.specs.Session.{standing_of, Lent}
 use Rattle.pool_text.proofs.StandLaws.{arena_lies, table_lies}
 use Rattle.pool_bursts.specs.declared.Fields.{Fields}
 use Rattle.pool_bursts.specs.Layout.{is_blank, field_words}

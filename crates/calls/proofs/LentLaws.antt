@@ -152,17 +152,22 @@ pub own_table_lem : (q : Pool) (e : Event) → own_table q e ≡ true → (broug
 unfolding own_table
 own_table_lem q e h = see_all in_table q e.table h
 
+-- the head that a pool goes on with, as `after` has it
+head_after : (E : Engine) (q : Pool) (e : Event)
+    → (after E q e).head ≡ cond (accepted (outcome E q e).answer && head_returns q e) (outcome E q e).pool.head q.head
+unfolding after
+head_after E q e = refl
+
 -- "the pool keeps the head it had" after a refused call
 pub refused_keeps : (E : Engine) (q : Pool) (e : Event) → accepted (outcome E q e).answer ≡ false
     → (after E q e).head ≡ q.head
-unfolding after
-refused_keeps E q e a = rw a
+refused_keeps E q e a = rw (head_after E q e, a)
 
 -- a call that makes a head, lent the pool's table, makes the pool's, whatever head it was brought
 pub made_returns : (E : Engine) (q : Pool) (e : Event) → own_table q e ≡ true → makes_head e.call ≡ true
     → accepted (outcome E q e).answer ≡ true → (after E q e).head ≡ (outcome E q e).pool.head
-unfolding after head_returns
-made_returns E q e t f a = rw (t, f, a)
+unfolding head_returns
+made_returns E q e t f a = head_after E q e ∙ rw (t, f, a)
 
 -- the head that is handed back as the pool's: the pool brought whole; a head as it was brought
 pub whole_returns : (q : Pool) (e : Event) → is_whole q e ≡ true → head_returns q e ≡ true
@@ -201,8 +206,8 @@ outcome_is E q e = refl
 
 -- a copy, which takes no head and makes none, leaves the pool the one it had, whatever head it was brought
 pub copy_keeps : (E : Engine) (q : Pool) (e : Event) (old : Buffer) → e.call ≡ copy old → (after E q e).head ≡ q.head
-unfolding after perform
-copy_keeps E q e old is = go (accepted (outcome E q e).answer && head_returns q e) refl
+unfolding perform
+copy_keeps E q e old is = head_after E q e ∙ go (accepted (outcome E q e).answer && head_returns q e) refl
   where
     back : (x : Words) (m : Pool) → (step E (copy x) m).pool.head ≡ m.head
     back x m = by (step E (copy x) m) (way E (copy x) m)
@@ -248,8 +253,15 @@ pub record Quiet (q : Pool) (e : Event) (o : Outcome) : Type 0 where
   pub head : (accepted o.answer && head_returns q e) ≡ true → o.pool.head ≡ q.head
   pub buffers : all (all is_other) (written_by e.call) ≡ false → o.buffers ≡ buffers_of (map_call (see q) e.call)
 
-pub quiet_after : (E : Engine) (q : Pool) (e : Event) → Quiet q e (outcome E q e) → after E q e ≡ q
+-- and the words that it goes on with
+words_after : (E : Engine) (q : Pool) (e : Event) → (let o = outcome E q e in
+    after E q e ≡ with_head (after E q e).head
+    (leave_all (e.arena ∷ e.table ∷ e.index ∷ written_by e.call)
+    (o.pool.arena ∷ o.pool.table ∷ o.pool.index ∷ o.buffers) q))
 unfolding after
+words_after E q e = refl
+
+pub quiet_after : (E : Engine) (q : Pool) (e : Event) → Quiet q e (outcome E q e) → after E q e ≡ q
 quiet_after E q e k =
     let o = outcome E q e in
     let back : (l : Buffer) (x : Words) (z : Pool) → z ≡ q → x ≡ see q l → leave l x z ≡ q =
@@ -258,8 +270,9 @@ quiet_after E q e k =
     let t = back e.table o.pool.table (leave e.arena o.pool.arena q) a k.table in
     let i = back e.index o.pool.index (leave e.table o.pool.table
     (leave e.arena o.pool.arena q)) t k.index in
-    ap₂ (λ (h : Head) (z : Pool). with_head h (leave_all (written_by e.call) o.buffers z))
-    (go (accepted o.answer && head_returns q e) refl) i
+    words_after E q e
+    ∙ ap₂ (λ (h : Head) (z : Pool). with_head h (leave_all (written_by e.call) o.buffers z))
+    (head_after E q e ∙ go (accepted o.answer && head_returns q e) refl) i
     ∙ ap (λ (z : Pool). with_head q.head z) (buffers_left e.call q o.buffers k.buffers)
   where
     go : (b : Bool) → (accepted (outcome E q e).answer && head_returns q e) ≡ b
@@ -276,7 +289,7 @@ pub record Fits (q : Pool) (o : Outcome) : Type 0 where
 
 pub whole_after : (E : Engine) (q : Pool) (e : Event) → is_whole q e ≡ true → accepted (outcome E q e).answer ≡ true
     → all (all is_other) (written_by e.call) ≡ true → Fits q (outcome E q e) → after E q e ≡ (outcome E q e).pool
-unfolding after is_whole
+unfolding is_whole
 whole_after E q e w a b f =
     let o = outcome E q e in
     let q₁ = with_part in_arena o.pool.arena q in
@@ -299,7 +312,8 @@ whole_after E q e w a b f =
     ∙ e₄ in
     let took : cond (accepted o.answer && head_returns q e) o.pool.head q.head ≡ o.pool.head =
     ap₂ (λ (c d : Bool). cond (c && d) o.pool.head q.head) a (whole_returns q e w) in
-    ap₂ (λ (h : Head) (z : Pool). with_head h z) took all_left
+    words_after E q e
+    ∙ ap₂ (λ (h : Head) (z : Pool). with_head h z) (head_after E q e ∙ took) all_left
     ∙ (λ i. record {
       head = o.pool.head;
       shape = sym f.shape i;

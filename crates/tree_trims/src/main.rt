@@ -1,6 +1,8 @@
 // Trims on a tree pool of each form, every word shown. A block of three units, or of a word less, is cut to every number
 // of words, where its tail lies before a held block, before a free run, and at the arena's end; then come the numbers
 // that the names from before the trim and those after it are told.
+#![tactic(auto)]
+
 ghost use Rattle.std.specs.Prelude.{◌≤◌};
 
 use calls::Answer;

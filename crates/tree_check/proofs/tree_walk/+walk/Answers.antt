@@ -78,7 +78,7 @@ returns-then-c-next t c =
       walked = λ h. absurd (omega (arith, c.requires.ready.small));
       passes =
           not_left (readable c.args.form) c.requires.ready (omega arith) c.length_of-z.ensures c.left_of-lower.ensures refl
-          (omega arith) c.walk-next.ensures.passes c.if-c-next.true;
+          (omega arith) c.walk-next.ensures.passes (omega arith);
     }
 
 pub node_ok-requires : goal.node_ok-requires
@@ -94,7 +94,7 @@ node_ok-requires t c =
     let l : Left F a.arena.now.now a.map.now.now N c.left_of-lower.result c.length_of-z.result a.k (a.allowed - 1)
     a.free.now (a.link - 1) c.if-lower-ne0.next c.if-lower-ne0.free = elim c.if-lower-ne0.branch [
       | then-lower-ne0+else-c-next w ↦
-          called (omega arith) w.walk-next.ensures.walked w.walk-next.ensures.passes w.if-c-next.false w.next-is w.free-is
+          called (omega arith) w.walk-next.ensures.walked w.walk-next.ensures.passes (omega arith) w.next-is w.free-is
       | else-lower-ne0 w ↦
           skipped (readable a.form) c.requires.ready w.if-lower-ne0.false c.requires.k_bound.0 c.requires.k_bound.1 low
           w.next-is w.free-is
@@ -115,7 +115,7 @@ returns-then-not-node_ok t c =
     let l : Left F a.arena.now.now a.map.now.now N c.left_of-lower.result c.length_of-z.result a.k (a.allowed - 1)
     a.free.now (a.link - 1) c.if-lower-ne0.next c.if-lower-ne0.free = elim c.if-lower-ne0.branch [
       | then-lower-ne0+else-c-next w ↦
-          called (omega arith) w.walk-next.ensures.walked w.walk-next.ensures.passes w.if-c-next.false w.next-is w.free-is
+          called (omega arith) w.walk-next.ensures.walked w.walk-next.ensures.passes (omega arith) w.next-is w.free-is
       | else-lower-ne0 w ↦
           skipped (readable a.form) c.requires.ready w.if-lower-ne0.false c.requires.k_bound.0 c.requires.k_bound.1 low
           w.next-is w.free-is
@@ -141,7 +141,7 @@ overflow_add-free t c =
     let l : Left F a.arena.now.now a.map.now.now N c.left_of-lower.result c.length_of-z.result a.k (a.allowed - 1)
     a.free.now (a.link - 1) c.if-lower-ne0.next c.if-lower-ne0.free = elim c.if-lower-ne0.branch [
       | then-lower-ne0+else-c-next w ↦
-          called (omega arith) w.walk-next.ensures.walked w.walk-next.ensures.passes w.if-c-next.false w.next-is w.free-is
+          called (omega arith) w.walk-next.ensures.walked w.walk-next.ensures.passes (omega arith) w.next-is w.free-is
       | else-lower-ne0 w ↦
           skipped (readable a.form) c.requires.ready w.if-lower-ne0.false c.requires.k_bound.0 c.requires.k_bound.1 low
           w.next-is w.free-is
@@ -182,7 +182,7 @@ returns-then-upper-eq0 t c =
     let l : Left F a.arena.now.now a.map.now.now N c.left_of-lower.result c.length_of-z.result a.k (a.allowed - 1)
     a.free.now (a.link - 1) c.if-lower-ne0.next c.if-lower-ne0.free = elim c.if-lower-ne0.branch [
       | then-lower-ne0+else-c-next w ↦
-          called (omega arith) w.walk-next.ensures.walked w.walk-next.ensures.passes w.if-c-next.false w.next-is w.free-is
+          called (omega arith) w.walk-next.ensures.walked w.walk-next.ensures.passes (omega arith) w.next-is w.free-is
       | else-lower-ne0 w ↦
           skipped (readable a.form) c.requires.ready w.if-lower-ne0.false c.requires.k_bound.0 c.requires.k_bound.1 low
           w.next-is w.free-is
@@ -229,7 +229,7 @@ walk-requires t c =
     let l : Left F a.arena.now.now a.map.now.now N c.left_of-lower.result c.length_of-z.result a.k (a.allowed - 1)
     a.free.now (a.link - 1) c.if-lower-ne0.next c.if-lower-ne0.free = elim c.if-lower-ne0.branch [
       | then-lower-ne0+else-c-next w ↦
-          called (omega arith) w.walk-next.ensures.walked w.walk-next.ensures.passes w.if-c-next.false w.next-is w.free-is
+          called (omega arith) w.walk-next.ensures.walked w.walk-next.ensures.passes (omega arith) w.next-is w.free-is
       | else-lower-ne0 w ↦
           skipped (readable a.form) c.requires.ready w.if-lower-ne0.false c.requires.k_bound.0 c.requires.k_bound.1 low
           w.next-is w.free-is
@@ -251,7 +251,7 @@ returns t c =
     let l : Left F a.arena.now.now a.map.now.now N c.left_of-lower.result c.length_of-z.result a.k (a.allowed - 1)
     a.free.now (a.link - 1) c.if-lower-ne0.next c.if-lower-ne0.free = elim c.if-lower-ne0.branch [
       | then-lower-ne0+else-c-next w ↦
-          called (omega arith) w.walk-next.ensures.walked w.walk-next.ensures.passes w.if-c-next.false w.next-is w.free-is
+          called (omega arith) w.walk-next.ensures.walked w.walk-next.ensures.passes (omega arith) w.next-is w.free-is
       | else-lower-ne0 w ↦
           skipped (readable a.form) c.requires.ready w.if-lower-ne0.false c.requires.k_bound.0 c.requires.k_bound.1 low
           w.next-is w.free-is

@@ -2,6 +2,8 @@
 // take them by fours.
 // Each holder writes its ticket into all words of its cells, and they are read again before its release. A round ends
 // with the release of all; the memory must then be as a format leaves it. Several parties share the pool.
+#![tactic(auto)]
+
 use calls::Answer;
 use ledger::Row;
 use testing::{

@@ -1,6 +1,6 @@
 // The text program: standard input to standard output.
-use libc::{STDIN_FILENO, STDOUT_FILENO};
+#![tactic(auto)]
 
-fn main() {
-    text_session::run(STDIN_FILENO, STDOUT_FILENO, 65536);
+fn main(rt: HostRuntime) {
+    text_session::run(&mut rt.stdin(), &mut rt.stdout(), 65536);
 }

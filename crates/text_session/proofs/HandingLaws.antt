@@ -2,7 +2,7 @@
 use Prim.Native.Nat.{ℕ, ◌+◌, ◌-◌, ◌≤◌, ◌<◌}
 use mathlib.Core.Path.{◌≡◌, refl, sym, ap, ap₂, ◌∙◌, subst}
 use mathlib.Core.Bool.{Bool, true, false, cond}
-use mathlib.Core.List.{List, [], ◌∷◌, ◌++◌, append_assoc}
+use mathlib.Core.List.{[], ◌++◌, append_assoc}
 use native.Mathlib.Omega.{arith}
 use lib.Dec.{leb}
 use lib.ListN.{length, take, drop, length-append, take-append-drop}
@@ -16,7 +16,7 @@ use Rattle.text.proofs.CutLaw.{cut, more}
 use Rattle.text.proofs.RoomLaws.{Took, burst_took, answers_fit, progress}
 use Rattle.session.specs.Meaning.{Standing, before, serve}
 use Rattle.session.specs.State.{Session, session, state_bytes, bytes_of, session_in, good, is_state}
-use Rattle.session.specs.Calls.{Reply, start_call, burst_done, burst_call, end_done, end_call, unchanged, answering}
+use Rattle.session.specs.Calls.{Reply, start_call, burst_done, burst_call, end_call, unchanged, answering}
 use Rattle.session.specs.Bursts.{most_answer}
 use Rattle.session.proofs.LineLaws.{said_long}
 use Rattle.session.proofs.GoodLaws.{Good, good_parts, good_begun}

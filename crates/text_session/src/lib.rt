@@ -1,23 +1,27 @@
-// The text program between two file descriptors: it reads, hands over what was read as bursts, writes the answers, and
-// reads again. What a burst does is pool_bursts' promise. Of what is read and written no contract can speak.
+// The text program between a reader and a writer: it reads, hands over what was read as bursts, writes the answers, and
+// reads again. What a burst does is pool_bursts' promise. Of what is read and written no contract here speaks.
+#![tactic(auto)]
+
 ghost use Rattle.std.specs.Prelude.{◌≡◌, true, ◌≤◌, ◌<◌, eqb, length, drop, get_or};
 ghost use Rattle.session.specs.Bursts.{most_answer};
 ghost use Rattle.session.specs.Calls.{end_call};
 ghost use Rattle.text_session.specs.Handing.{Ready, after};
 
-use libc::STDERR_FILENO;
+use std::io::{Read, Write};
+
+// Standard error's number.
+const STDERR: i32 = 2;
 
 // Tells on standard error what went wrong.
 fn complain(words: &[u8]) {
-    io::write_all(STDERR_FILENO, words);
+    io::write_all(STDERR, words);
 }
 
 // Writes the first n answer bytes: whether they could be written.
-fn write_out(fd: i32, answers: &[u8], n: usize) -> bool
+fn write_out<W: Write>(output: &mut W, answers: &[u8], n: usize) -> bool
     requires { n ≤ length answers.now }
 {
-    let start = 0;
-    if io::write_all(fd, &answers[start..n]) {
+    if output.write_all(&answers[..n]).is_ok() {
         return true;
     }
     complain(b"pool: the answers could not be written\n");
@@ -43,8 +47,8 @@ struct Reached {
 }
 
 // Hands over the next piece of what was read, and writes its answers: the place after what was taken of it.
-fn serve_piece(
-    fd: i32,
+fn serve_piece<W: Write>(
+    output: &mut W,
     state: &mut [u8],
     bytes: &[u8],
     from: usize,
@@ -61,12 +65,18 @@ fn serve_piece(
     let done = pool_bursts::burst(state, &bytes[from..end], answers);
     Reached {
         from: from + done.taken,
-        written: write_out(fd, &*answers, done.written),
+        written: write_out(output, &*answers, done.written),
     }
 }
 
 // Hands over all that was read, in pieces of at most `piece` bytes, as long as answers can be written: whether they could.
-fn serve_read(fd: i32, state: &mut [u8], bytes: &[u8], piece: usize, answers: &mut [u8]) -> bool
+fn serve_read<W: Write>(
+    output: &mut W,
+    state: &mut [u8],
+    bytes: &[u8],
+    piece: usize,
+    answers: &mut [u8],
+) -> bool
     requires { Ready state.old × (most_answer ≤ length answers.old) × (0 < piece) }
     ensures ready { Ready state.new }
     ensures state_after { result ≡ true → state.new ≡ after state.old bytes.now }
@@ -76,7 +86,7 @@ fn serve_read(fd: i32, state: &mut [u8], bytes: &[u8], piece: usize, answers: &m
         written: true,
     };
     while place.written & (place.from < bytes.len()) {
-        place = serve_piece(fd, state, bytes, place.from, piece, answers);
+        place = serve_piece(output, state, bytes, place.from, piece, answers);
     }
     place.written
 }
@@ -97,9 +107,9 @@ struct AfterRead {
 }
 
 // One read, handed over: its answers are written before the next.
-fn read_once(
-    input: i32,
-    output: i32,
+fn read_once<R: Read, W: Write>(
+    input: &mut R,
+    output: &mut W,
     state: &mut [u8],
     chunk: &mut [u8],
     piece: usize,
@@ -108,17 +118,14 @@ fn read_once(
     requires { Ready state.old × (most_answer ≤ length answers.old) × (0 < piece) }
     ensures { Ready state.new }
 {
-    let got = libc::read(input, chunk);
-    let n = io::count(got, chunk);
-    if got < 0 {
+    let Ok(n) = input.read(chunk) else {
         complain(b"pool: the input could not be read\n");
         return AfterRead {
             more: false,
             fine: false,
         };
-    }
-    let start = 0;
-    let fine = serve_read(output, state, &chunk[start..n], piece, answers);
+    };
+    let fine = serve_read(output, state, &chunk[..n], piece, answers);
     AfterRead {
         more: fine & (n != 0) & !has_stopped(&*state),
         fine,
@@ -126,7 +133,7 @@ fn read_once(
 }
 
 // The end of the input: a last line without a line feed counts if not empty. Whether its answer could be written.
-fn finish(output: i32, state: &mut [u8], answers: &mut [u8]) -> bool
+fn finish<W: Write>(output: &mut W, state: &mut [u8], answers: &mut [u8]) -> bool
     requires { Ready state.old × (most_answer ≤ length answers.old) }
     ensures { state.new ≡ (end_call state.old answers.old).state }
 {
@@ -135,9 +142,9 @@ fn finish(output: i32, state: &mut [u8], answers: &mut [u8]) -> bool
 }
 
 // All reads of a session, as long as nothing fails, and its end: whether nothing failed.
-fn converse(
-    input: i32,
-    output: i32,
+fn converse<R: Read, W: Write>(
+    input: &mut R,
+    output: &mut W,
     state: &mut [u8],
     chunk: &mut [u8],
     piece: usize,
@@ -162,7 +169,7 @@ fn converse(
 
 // Serves all of the input, in pieces of at most `piece` bytes, which makes no difference to the answers. Whether nothing
 // failed.
-pub fn run(input: i32, output: i32, piece: usize) -> bool
+pub fn run<R: Read, W: Write>(input: &mut R, output: &mut W, piece: usize) -> bool
     requires { 0 < piece }
 {
     let mut state = [0u8; 36956];

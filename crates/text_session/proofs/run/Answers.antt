@@ -1,0 +1,17 @@
+-- `text_session::run` meets its contract: a start call makes a state. Assumes nothing.
+use native.Mathlib.Omega.{arith}
+use Prim.Native.Nat.{ℕ}
+use mathlib.Core.Path.{sym, ap, subst}
+use lib.ListN.{replicate, length-replicate}
+use Rattle.session.specs.Calls.{Reply}
+use Rattle.text_session.specs.Handing.{Ready}
+use Rattle.text_session.proofs.HandingLaws.{start_ready}
+use Rattle.text_session.proofs.run.Goals as goal
+
+pub converse-requires : goal.converse-requires
+converse-requires g c =
+    let left = ap (λ (r : Reply). r.state) c.start.ensures in (
+      subst Ready (sym left) (start_ready (replicate 36956 0) (length-replicate {A = ℕ} 36956 0)),
+      omega (arith, c.large_buffer-answers.ensures),
+      c.requires,
+    )

@@ -11,6 +11,8 @@
 //   allocate N         release T A W      find T A W      look T A W      trim T A W K
 //   list N K V..       a list of N words, V over and over, with K words for its answers, which start as sevens
 //   copy N T V..       an old table of N words, V over and over, copied into the first T words of the table
+#![tactic(auto)]
+
 use ledger::Row;
 use testing::{
     is, least, print, print_number, put_all, read_line, row, show, show_answer, until, word, write,

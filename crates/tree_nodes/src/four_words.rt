@@ -7,8 +7,7 @@ ghost use Rattle.tree_nodes.specs.Nodes.{cells, differ, NodePut, LeftSet, RightS
 // Sets the left link of the node at cell `c`.
 #[tactic(auto, unfolding(stored_forms::specs::Tree::form_two))]
 pub fn set_left(arena: &mut [u32], c: usize, l: usize)
-    requires c_bound { c < cells form_two arena.old }
-    requires l_bound { l < form_two.links }
+    requires { (c < cells form_two arena.old) × (l < form_two.links) }
     ensures { LeftSet form_two arena.old arena.new c l }
 {
     let i = 4 * c + 1;
@@ -18,8 +17,7 @@ pub fn set_left(arena: &mut [u32], c: usize, l: usize)
 // Sets the right link of the node at cell `c`.
 #[tactic(auto, unfolding(stored_forms::specs::Tree::form_two))]
 pub fn set_right(arena: &mut [u32], c: usize, r: usize)
-    requires c_bound { c < cells form_two arena.old }
-    requires r_bound { r < form_two.links }
+    requires { (c < cells form_two arena.old) × (r < form_two.links) }
     ensures { RightSet form_two arena.old arena.new c r }
 {
     let i = 4 * c + 2;

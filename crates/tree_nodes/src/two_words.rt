@@ -7,8 +7,7 @@ ghost use Rattle.tree_nodes.specs.Nodes.{cells, differ, NodePut, LeftSet, RightS
 // Sets the left link of the node at cell `c`.
 #[tactic(auto, unfolding(stored_forms::specs::Tree::form_one))]
 pub fn set_left(arena: &mut [u32], c: usize, l: usize)
-    requires c_bound { c < cells form_one arena.old }
-    requires l_bound { l < form_one.links }
+    requires { (c < cells form_one arena.old) × (l < form_one.links) }
     ensures { LeftSet form_one arena.old arena.new c l }
 {
     let i = 2 * c + 1;
@@ -19,8 +18,7 @@ pub fn set_left(arena: &mut [u32], c: usize, l: usize)
 // Sets the right link of the node at cell `c`.
 #[tactic(auto, unfolding(stored_forms::specs::Tree::form_one))]
 pub fn set_right(arena: &mut [u32], c: usize, r: usize)
-    requires c_bound { c < cells form_one arena.old }
-    requires r_bound { r < form_one.links }
+    requires { (c < cells form_one arena.old) × (r < form_one.links) }
     ensures { RightSet form_one arena.old arena.new c r }
 {
     let i = 2 * c + 1;

@@ -5,7 +5,8 @@ use Rattle.tree_nodes.proofs.set_right.Goals as goal
 
 pub set_right-requires : goal.set_right-requires
 set_right-requires c =
-    rw (form_two_lem c.args.form c.if-form-eq2.true) at c.requires
+    let is = form_two_lem c.args.form c.if-form-eq2.true in
+    (rw is at c.requires.c_bound, rw is at c.requires.r_bound)
 
 pub returns-then-form-eq2 : goal.returns-then-form-eq2
 returns-then-form-eq2 c =
@@ -14,7 +15,8 @@ returns-then-form-eq2 c =
 pub set_right-requires-2 : goal.set_right-requires-2
 unfolding form_one
 set_right-requires-2 c =
-    rw (form_narrow c.args.form c.if-form-eq2.false) at c.requires
+    let is = form_narrow c.args.form c.if-form-eq2.false in
+    (rw is at c.requires.c_bound, rw is at c.requires.r_bound)
 
 pub returns : goal.returns
 returns c =

@@ -3,4 +3,4 @@ use Rattle.tree_nodes.proofs.FormTwo.{four_set_left}
 use Rattle.tree_nodes.proofs.four_words.set_left.Goals as goal
 
 pub returns : goal.returns
-returns c = four_set_left c.args.arena.now c.args.c c.requires.c_bound c.args.l
+returns c = four_set_left c.args.arena.now c.args.c c.requires.0 c.args.l

@@ -14,4 +14,4 @@ unfolding form_one
 overflow_add-arena c = omega (arith, c.slice_known-1.given (2 * c.args.c + 1))
 
 pub returns : goal.returns
-returns c node = one_set_left c.args.arena.now c.args.c c.requires.c_bound c.args.l
+returns c node = one_set_left c.args.arena.now c.args.c c.requires.0 c.args.l

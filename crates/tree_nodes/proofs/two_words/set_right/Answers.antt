@@ -3,4 +3,4 @@ use Rattle.tree_nodes.proofs.FormOne.{one_set_right}
 use Rattle.tree_nodes.proofs.two_words.set_right.Goals as goal
 
 pub returns : goal.returns
-returns c node = one_set_right c.args.arena.now c.args.c c.requires.c_bound c.args.r
+returns c node = one_set_right c.args.arena.now c.args.c c.requires.0 c.args.r

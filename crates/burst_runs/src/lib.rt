@@ -2,6 +2,8 @@
 // is held to one burst with room enough: the same answers and the same state, byte for byte. Each call is held to its
 // rule: it takes all, or stops before a line whose answer does not fit, and writes nothing behind its answers. The
 // state that a text leaves is then tried with one byte spoiled.
+#![tactic(auto)]
+
 ghost use Rattle.std.specs.Prelude.{◌≤◌};
 
 use pool_bursts::Counts;

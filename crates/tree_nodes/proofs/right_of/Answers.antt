@@ -1,4 +1,4 @@
--- `tree_nodes::right_of_lem` meets its contract: word 2 of the cell, or the high half of word 1. Assumes nothing.
+-- `tree_nodes::right_of` meets its contract: word 2 of the cell, or the high half of word 1. Assumes nothing.
 use Prim.Native.Nat.{◌+◌, ◌*◌}
 use native.Mathlib.Omega.{arith}
 use mathlib.Core.Path.{sym}

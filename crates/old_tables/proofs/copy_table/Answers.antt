@@ -1,6 +1,5 @@
 -- `old_tables::copy_table` meets its contract. Assumes nothing.
 use mathlib.Core.Path.{◌∙◌, sym}
-use borrow.Author.Tests.{not-true, not-false}
 use Rattle.old_tables.specs.Copies.{copy_of}
 use Rattle.old_tables.proofs.copy_table.Goals as goal
 
@@ -8,15 +7,15 @@ pub returns-then-not-copy_suits : goal.returns-then-not-copy_suits
 unfolding copy_of
 returns-then-not-copy_suits c =
     let s = c.copy_suits in
-    sym (rw (sym s.ensures ∙ not-true s.result c.if-not-copy_suits.true-raw))
+    sym (rw (sym s.ensures ∙ c.if-not-copy_suits.true))
 
 pub copy_rows-requires : goal.copy_rows-requires
 copy_rows-requires c =
     let s = c.copy_suits in
-    sym s.ensures ∙ not-false s.result c.if-not-copy_suits.false-raw
+    sym s.ensures ∙ c.if-not-copy_suits.false
 
 pub returns : goal.returns
 unfolding copy_of
 returns c =
     let s = c.copy_suits in
-    sym (rw (sym s.ensures ∙ not-false s.result c.if-not-copy_suits.false-raw, sym c.copy_rows.ensures))
+    sym (rw (sym s.ensures ∙ c.if-not-copy_suits.false, sym c.copy_rows.ensures))

@@ -3,7 +3,6 @@ use native.Mathlib.Nat.{mul-div-le, mul-mod_right}
 use native.Mathlib.Omega.{arith}
 use mathlib.Core.Path.{◌≡◌, sym, ap, ◌∙◌}
 use mathlib.Core.Bool.{true, false≢true}
-use Rattle.words.proofs.Tests.{not_true, not_false}
 use Rattle.ledger.specs.Records.{record_at, is_empty}
 use Rattle.record_table.specs.Checks.{row_ok}
 use Rattle.record_table.proofs.CheckLaws.{row_whole}
@@ -41,7 +40,7 @@ pub returns-then-not-may_enter : goal.returns-then-not-may_enter
 returns-then-not-may_enter c =
     let a = c.args in record {
       joins = λ l. absurd (omega arith);
-      upper_bound = λ ok new. absurd (false≢true (sym (not_true c.may_enter.result c.if-not-may_enter.true-raw) ∙ c.may_enter.ensures.value
+      upper_bound = λ ok new. absurd (false≢true (sym c.if-not-may_enter.true ∙ c.may_enter.ensures.value
           (row_whole a.rule c.requires.unit_nonzero.0 a.words a.next (record_at a.table.now a.i) c.whole_units.result
           c.whole_units.ensures ∙ ok) new));
     }
@@ -51,7 +50,7 @@ returns c =
     let a = c.args in
     let whole = row_whole a.rule c.requires.unit_nonzero.0 a.words a.next (record_at a.table.now a.i) c.whole_units.result
     c.whole_units.ensures in
-    let (joins, noted) = c.may_enter.ensures.joins (not_false c.may_enter.result c.if-not-may_enter.false-raw) in
+    let (joins, noted) = c.may_enter.ensures.joins c.if-not-may_enter.false in
     let live = sym c.is_empty.ensures ∙ c.if-is_empty.false in
     let ok = sym whole ∙ joins.0 in
     let (ticket, room) = fit_row a.rule c.requires.unit_nonzero.0 a.words a.next a.r live

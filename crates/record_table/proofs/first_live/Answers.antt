@@ -19,7 +19,7 @@ pub returns-then-not-is_empty : goal.returns-then-not-is_empty
 returns-then-not-is_empty c =
     let t = c.args.table.now in
     scan_here is_live t 0 0 (scan_start is_live t 0 (omega arith))
-    (ap is_live (sym c.read_row.ensures) ∙ ap not (sym c.is_empty.ensures) ∙ c.if-not-is_empty.true-raw)
+    (ap is_live (sym c.read_row.ensures) ∙ ap not (sym c.is_empty.ensures ∙ c.if-not-is_empty.true))
 
 pub live_from-requires : goal.live_from-requires
 live_from-requires c =
@@ -29,8 +29,7 @@ pub returns : goal.returns
 returns c =
     let t = c.args.table.now in
     let some = c.if-slot_count-eq0.false in
-    let off = ap is_live (sym c.read_row.ensures) ∙ ap not (sym c.is_empty.ensures)
-    ∙ c.if-not-is_empty.false-raw in
+    let off = ap is_live (sym c.read_row.ensures) ∙ ap not (sym c.is_empty.ensures ∙ c.if-not-is_empty.false) in
     scan_on is_live t 0 1
     (scan_next is_live t 0 0 (scan_start is_live t 0 (omega arith)) (omega (arith, c.slot_count.ensures)) off)
     c.live_from.result c.live_from.ensures

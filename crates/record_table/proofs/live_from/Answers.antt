@@ -17,7 +17,7 @@ returns-then-not-is_empty c =
     let a = c.args in
     let l = c.loop-k in
     scan_here is_live a.table.now a.i l.k l.invariant.1
-    (ap is_live (sym c.read_row.ensures) ∙ ap not (sym c.is_empty.ensures) ∙ c.if-not-is_empty.true-raw)
+    (ap is_live (sym c.read_row.ensures) ∙ ap not (sym c.is_empty.ensures ∙ c.if-not-is_empty.true))
 
 pub loop-k-preserved : goal.loop-k-preserved
 loop-k-preserved c =
@@ -25,7 +25,7 @@ loop-k-preserved c =
     let l = c.loop-k in (
       l.invariant.0,
       scan_next is_live a.table.now a.i l.k l.invariant.1 (omega (arith, l.invariant.0))
-          (ap is_live (sym c.read_row.ensures) ∙ ap not (sym c.is_empty.ensures) ∙ c.if-not-is_empty.false-raw),
+          (ap is_live (sym c.read_row.ensures) ∙ ap not (sym c.is_empty.ensures ∙ c.if-not-is_empty.false)),
     )
 
 pub returns : goal.returns

@@ -1,7 +1,6 @@
 -- `record_table::may_enter` meets its contract. Assumes nothing.
 use mathlib.Core.Path.{◌≡◌, refl, sym, ap, ◌∙◌}
 use mathlib.Core.Bool.{true, false≢true}
-use Rattle.words.proofs.Tests.{not_true, not_false}
 use Rattle.ledger.specs.declared.Row.{Row}
 use Rattle.ledger.specs.Units.{span, fits}
 use Rattle.record_table.specs.Checks.{row_ok}
@@ -15,14 +14,15 @@ returns-then-not-live_fits c =
       value = λ ok new.
           let good : fits a.rule a.words a.next a.r ≡ true =
           rw c.requires.r_value at (ap (row_ok a.rule a.words a.next) c.requires.unit_nonzero.3 ∙ ok) in
-          absurd (false≢true (sym (not_true c.live_fits.result c.if-not-live_fits.true-raw) ∙ c.live_fits.ensures ∙ good));
+          absurd (false≢true (sym c.if-not-live_fits.true ∙ c.live_fits.ensures ∙ good));
     }
 
 pub is_new-requires : goal.is_new-requires
 is_new-requires c =
     let a = c.args in
-    let good = sym c.live_fits.ensures ∙ not_false c.live_fits.result c.if-not-live_fits.false-raw in
-    let (live, room) = fit_row a.rule c.requires.unit_nonzero.0 a.words a.next a.r c.requires.r_value (rw c.requires.r_value good) in
+    let good = sym c.live_fits.ensures ∙ c.if-not-live_fits.false in
+    let (live, room) = fit_row a.rule c.requires.unit_nonzero.0 a.words a.next a.r c.requires.r_value
+    (rw c.requires.r_value good) in
     record {
       i_bound = (c.requires.unit_nonzero.2, ap (λ (r : Row). r.ticket) c.requires.unit_nonzero.3, live);
       m_nonzero = c.requires.m_nonzero;
@@ -31,7 +31,7 @@ is_new-requires c =
 pub returns : goal.returns
 returns c =
     let a = c.args in
-    let good = sym c.live_fits.ensures ∙ not_false c.live_fits.result c.if-not-live_fits.false-raw in record {
+    let good = sym c.live_fits.ensures ∙ c.if-not-live_fits.false in record {
       joins = λ e. (
         live_joins a.rule a.words a.next a.table.now a.i (span a.rule a.r.words) a.r
             c.requires.unit_nonzero.3 c.requires.r_value (rw c.requires.r_value good) (sym c.is_new.ensures.value ∙ e) refl,

@@ -62,7 +62,11 @@ overflow_add-known c =
     let held = c.if-words-held.false in
     let words = c.requires.linked.1 in
     let r = c.map_rows-held.result in
-    omega (arith, cells_low (form_of c.args.head.form) c.args.arena.now c.requires.linked, cells_few c.args.head.form r _ (omega arith) c.cells_per_unit.ensures)
+    omega (
+      arith,
+      cells_low (form_of c.args.head.form) c.args.arena.now c.requires.linked,
+      cells_few c.args.head.form r _ (omega arith) c.cells_per_unit.ensures,
+    )
 
 pub leads_to-requires : goal.leads_to-requires
 leads_to-requires c =
@@ -76,5 +80,5 @@ returns c =
     let is = c.cell_count-count.ensures in
     both_say c.args.head c.args.arena.now c.requires.linked.2 c.args.table.now c.leads_to.result is
     c.cells_per_unit.ensures (c.map_rows-held.ensures.mapped c.if-words-held.false)
-    (c.walk_all-end.ensures.walked (omega (arith, is, c.if-count-end.false))) (limit_is is c.slot_count-allowed.ensures c.walk_all-end.ensures.passes)
-    c.leads_to.ensures
+    (c.walk_all-end.ensures.walked (omega (arith, is, c.if-count-end.false)))
+    (limit_is is c.slot_count-allowed.ensures c.walk_all-end.ensures.passes) c.leads_to.ensures

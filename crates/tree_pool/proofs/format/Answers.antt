@@ -41,12 +41,13 @@ returns-then-number-ne0 c =
 
 pub overflow_cast-cells : goal.overflow_cast-cells
 overflow_cast-cells c =
+    let right = fits (goal.at.overflow_cast-cells c).Else-number-ne0 in
     let W = length c.args.arena.now in
     omega (
       arith,
       c.cell_count-cells.ensures,
       div-le_self W (form_of c.args.form).cell,
-      (all_linked c.args.form c.args.arena.now (fits (goal.at.overflow_cast-cells c).Else-number-ne0).most (fits (goal.at.overflow_cast-cells c).Else-number-ne0).whole).1,
+      (all_linked c.args.form c.args.arena.now right.most right.whole).1,
     )
 
 pub put_node-requires : goal.put_node-requires

@@ -31,38 +31,46 @@ suits c =
 pub returns-then-not-is_form : goal.returns-then-not-is_form
 unfolding tree_engine
 returns-then-not-is_form c =
-    ap (same (goal.at.returns-then-not-is_form c).Start) c.refused_with.ensures
-    ∙ unknown_result tree_engine (lent (goal.at.returns-then-not-is_form c).Start) c.args.party c.args.asked.now c.args.answers.now
+    let s = (goal.at.returns-then-not-is_form c).Start in
+    let p = lent s in
+    ap (same s) c.refused_with.ensures
+    ∙ unknown_result tree_engine p c.args.party c.args.asked.now c.args.answers.now
     (sym c.is_form.ensures ∙ c.if-not-is_form.true)
 
 pub returns-then-not-list_suits : goal.returns-then-not-list_suits
 unfolding tree_engine
 returns-then-not-list_suits c =
-    ap (same (goal.at.returns-then-not-list_suits c).Start) c.refused_with-then-not-list_suits.ensures
-    ∙ unsuited_result tree_engine (lent (goal.at.returns-then-not-list_suits c).Start) c.args.party c.args.asked.now c.args.answers.now
+    let s = (goal.at.returns-then-not-list_suits c).Start in
+    let p = lent s in
+    ap (same s) c.refused_with-then-not-list_suits.ensures
+    ∙ unsuited_result tree_engine p c.args.party c.args.asked.now c.args.answers.now
     (sym c.is_form.ensures ∙ c.if-not-is_form.false)
     (sym c.list_suits.ensures ∙ c.if-not-list_suits.true)
 
 pub returns-then-number-ne0 : goal.returns-then-number-ne0
 returns-then-number-ne0 c =
-    ap (same (goal.at.returns-then-number-ne0 c).Start) c.refused_with-then-number-ne0.ensures
-    ∙ gate_result tree_engine (lent (goal.at.returns-then-number-ne0 c).Start) (pool_number tree_engine (lent (goal.at.returns-then-number-ne0 c).Start)) c.args.party c.gate_for-number.result refl
+    let s = (goal.at.returns-then-number-ne0 c).Start in
+    let p = lent s in
+    ap (same s) c.refused_with-then-number-ne0.ensures
+    ∙ gate_result tree_engine p (pool_number tree_engine p) c.args.party c.gate_for-number.result refl
     c.gate_for-number.ensures c.if-number-ne0.true
     (list c.args.party c.args.asked.now c.args.answers.now) refl (suits (goal.at.returns-then-number-ne0 c).Else-not-list_suits) refl
 
 pub serve_all-after-requires : goal.serve_all-after-requires
 serve_all-after-requires c =
+    let p = lent (goal.at.serve_all-after-requires c).Start in
     record {
-      table_value = gate_passed tree_engine (lent (goal.at.serve_all-after-requires c).Start) (pool_number tree_engine (lent (goal.at.serve_all-after-requires c).Start)) c.args.party c.gate_for-number.result refl
+      table_value = gate_passed tree_engine p (pool_number tree_engine p) c.args.party c.gate_for-number.result refl
           c.gate_for-number.ensures c.if-number-ne0.false;
       asked_len = suited_lengths c.args.asked.now c.args.answers.now (suits (goal.at.serve_all-after-requires c).Else-not-list_suits);
     }
 
 pub returns : goal.returns
 returns c =
-    let (ok, partied) = gate_passed tree_engine (lent (goal.at.returns c).Start) (pool_number tree_engine (lent (goal.at.returns c).Start)) c.args.party
+    let p = lent (goal.at.returns c).Start in
+    let (ok, partied) = gate_passed tree_engine p (pool_number tree_engine p) c.args.party
     c.gate_for-number.result refl c.gate_for-number.ensures c.if-number-ne0.false in
-    list_result tree_engine (lent (goal.at.returns c).Start) c.args.party c.args.asked.now c.args.answers.now (suits (goal.at.returns c).Else-not-list_suits) ok partied
+    list_result tree_engine p c.args.party c.args.asked.now c.args.answers.now (suits (goal.at.returns c).Else-not-list_suits) ok partied
     c.succeeded.result
     (tree_pool c.serve_all-after.result c.serve_all-after.new.arena c.serve_all-after.new.table)
     c.serve_all-after.new.answers c.succeeded.ensures c.serve_all-after.ensures

@@ -95,35 +95,71 @@ module _ (h : Head) (a t : Words) (r : Row) (slot n : ℕ) (ok : sound tree_engi
       (plan_pool h a t r slot ok found (keep n) can b root change u table)
 
 pub write_row-requires : goal.write_row-requires
-write_row-requires c = record {
-  i_bound = plan_slot c.args.head c.args.arena.now c.args.table.now c.args.named c.args.slot c.requires.0 c.requires.1;
-  record_words_len = (plan_range c.args.head c.args.arena.now c.args.table.now c.args.named c.args.slot c.requires.0 c.requires.1).fours;
-}
+write_row-requires c =
+    let h = c.args.head in
+    let a = c.args.arena.now in
+    let t = c.args.table.now in
+    let r = c.args.named in
+    let slot = c.args.slot in
+    let (ok, found, can) = c.requires in
+    record {
+      i_bound = plan_slot h a t r slot ok found;
+      record_words_len = (plan_range h a t r slot ok found).fours;
+    }
 
 pub returns-then-kept-cells_of : goal.returns-then-kept-cells_of
 returns-then-kept-cells_of c =
-    acts c.args.head c.args.arena.now c.args.table.now c.args.named c.args.slot c.args.keep c.requires.0 c.requires.1 c.requires.2
-    c.args.arena.now c.write_row.new.table c.args.head.root c.effect.result
-    (none_given c.args.head c.args.arena.now c.args.table.now c.args.named c.args.slot c.args.keep c.requires.0 c.requires.1 c.requires.2 c.cells_of-kept.result c.cells_of-kept.ensures (c.if-kept-cells_of.true ∙ c.cells_of.ensures))
-    (written c.args.head c.args.arena.now c.args.table.now c.args.named c.args.slot c.args.keep c.requires.0 c.requires.1 c.requires.2 c.write_row.ensures c.shortened.ensures) c.effect.ensures
+    let h = c.args.head in
+    let a = c.args.arena.now in
+    let t = c.args.table.now in
+    let r = c.args.named in
+    let slot = c.args.slot in
+    let (ok, found, can) = c.requires in
+    let n = c.args.keep in
+    acts h a t r slot n ok found can a c.write_row.new.table h.root c.effect.result
+    (none_given h a t r slot n ok found can c.cells_of-kept.result c.cells_of-kept.ensures
+    (c.if-kept-cells_of.true ∙ c.cells_of.ensures))
+    (written h a t r slot n ok found can c.write_row.ensures c.shortened.ensures) c.effect.ensures
 
 pub give_tail-root-requires : goal.give_tail-root-requires
-give_tail-root-requires c = (
-  free_cells (form_of c.args.head.form) (length c.args.arena.now) (records_of c.args.table.now),
-  tail_gives c.args.head c.args.arena.now c.args.table.now c.args.named c.args.slot c.args.keep c.requires.0 c.requires.1 c.requires.2 c.cells_of-kept.result c.cells_of-kept.ensures (λ e. c.if-kept-cells_of.false (e ∙ sym c.cells_of.ensures)),
-)
+give_tail-root-requires c =
+    let h = c.args.head in
+    let a = c.args.arena.now in
+    let t = c.args.table.now in
+    let r = c.args.named in
+    let slot = c.args.slot in
+    let (ok, found, can) = c.requires in (
+      free_cells (form_of h.form) (length a) (records_of t),
+      tail_gives h a t r slot c.args.keep ok found can c.cells_of-kept.result c.cells_of-kept.ensures
+          (λ e. c.if-kept-cells_of.false (e ∙ sym c.cells_of.ensures)),
+    )
 
 pub effect-requires-2 : goal.effect-requires-2
-effect-requires-2 c = (
-  plan_root c.args.head c.args.arena.now c.args.table.now c.args.named c.args.slot c.requires.0 c.requires.1 (keep c.args.keep) c.requires.2
-      c.give_tail-root.new.arena c.give_tail-root.result
-      (given c.args.head c.args.arena.now c.args.table.now c.args.named c.args.slot c.args.keep c.requires.0 c.requires.1 c.requires.2 c.cells_of-kept.result c.cells_of-kept.ensures (λ e. c.if-kept-cells_of.false (e ∙ sym c.cells_of.ensures)) c.give_tail-root.new.arena c.give_tail-root.result c.give_tail-root.ensures),
-  omega arith,
-)
+effect-requires-2 c =
+    let h = c.args.head in
+    let a = c.args.arena.now in
+    let t = c.args.table.now in
+    let r = c.args.named in
+    let slot = c.args.slot in
+    let (ok, found, can) = c.requires in
+    let n = c.args.keep in
+    let change = given h a t r slot n ok found can c.cells_of-kept.result c.cells_of-kept.ensures
+    (λ e. c.if-kept-cells_of.false (e ∙ sym c.cells_of.ensures)) c.give_tail-root.new.arena c.give_tail-root.result
+    c.give_tail-root.ensures in
+    (plan_root h a t r slot ok found (keep n) can c.give_tail-root.new.arena c.give_tail-root.result change, omega arith)
 
 pub returns : goal.returns
 returns c =
-    acts c.args.head c.args.arena.now c.args.table.now c.args.named c.args.slot c.args.keep c.requires.0 c.requires.1 c.requires.2
-    c.give_tail-root.new.arena c.write_row.new.table c.give_tail-root.result c.effect-2.result
-    (given c.args.head c.args.arena.now c.args.table.now c.args.named c.args.slot c.args.keep c.requires.0 c.requires.1 c.requires.2 c.cells_of-kept.result c.cells_of-kept.ensures (λ e. c.if-kept-cells_of.false (e ∙ sym c.cells_of.ensures)) c.give_tail-root.new.arena c.give_tail-root.result c.give_tail-root.ensures)
-    (written c.args.head c.args.arena.now c.args.table.now c.args.named c.args.slot c.args.keep c.requires.0 c.requires.1 c.requires.2 c.write_row.ensures c.shortened.ensures) c.effect-2.ensures
+    let h = c.args.head in
+    let a = c.args.arena.now in
+    let t = c.args.table.now in
+    let r = c.args.named in
+    let slot = c.args.slot in
+    let (ok, found, can) = c.requires in
+    let n = c.args.keep in
+    let change = given h a t r slot n ok found can c.cells_of-kept.result c.cells_of-kept.ensures
+    (λ e. c.if-kept-cells_of.false (e ∙ sym c.cells_of.ensures)) c.give_tail-root.new.arena c.give_tail-root.result
+    c.give_tail-root.ensures in
+    acts h a t r slot n ok found can c.give_tail-root.new.arena c.write_row.new.table c.give_tail-root.result
+    c.effect-2.result change (written h a t r slot n ok found can c.write_row.ensures c.shortened.ensures)
+    c.effect-2.ensures

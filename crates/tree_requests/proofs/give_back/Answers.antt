@@ -52,33 +52,54 @@ module _ (h : Head) (a t : Words) (r : Row) (slot : ℕ) (ok : sound tree_engine
       (release_some h a t r slot ok found)
 
 pub give_tail-root-requires : goal.give_tail-root-requires
-give_tail-root-requires c = (
-  free_cells (form_of c.args.head.form) (length c.args.arena.now) (records_of c.args.table.now),
-  gives c.args.head c.args.arena.now c.args.table.now c.args.named c.args.slot c.requires.0 c.requires.1,
-)
+give_tail-root-requires c =
+    let h = c.args.head in
+    let a = c.args.arena.now in
+    let t = c.args.table.now in
+    let r = c.args.named in
+    let slot = c.args.slot in
+    let (ok, found) = c.requires in
+    (free_cells (form_of h.form) (length a) (records_of t), gives h a t r slot ok found)
 
 pub write_row-requires : goal.write_row-requires
-write_row-requires c = record {
-  i_bound = plan_slot c.args.head c.args.arena.now c.args.table.now c.args.named c.args.slot c.requires.0 c.requires.1;
-  record_words_len = (plan_range c.args.head c.args.arena.now c.args.table.now c.args.named c.args.slot c.requires.0 c.requires.1).fours;
-}
+write_row-requires c =
+    let h = c.args.head in
+    let a = c.args.arena.now in
+    let t = c.args.table.now in
+    let r = c.args.named in
+    let slot = c.args.slot in
+    let (ok, found) = c.requires in
+    record {
+      i_bound = plan_slot h a t r slot ok found;
+      record_words_len = (plan_range h a t r slot ok found).fours;
+    }
 
 pub effect-requires : goal.effect-requires
-effect-requires c = (
-  plan_root c.args.head c.args.arena.now c.args.table.now c.args.named c.args.slot c.requires.0 c.requires.1 vacate refl c.give_tail-root.new.arena c.give_tail-root.result
-      (given c.args.head c.args.arena.now c.args.table.now c.args.named c.args.slot c.requires.0 c.requires.1 c.give_tail-root.new.arena c.give_tail-root.result c.give_tail-root.ensures),
-  omega arith,
-)
+effect-requires c =
+    let h = c.args.head in
+    let a = c.args.arena.now in
+    let t = c.args.table.now in
+    let r = c.args.named in
+    let slot = c.args.slot in
+    let (ok, found) = c.requires in
+    let b = c.give_tail-root.new.arena in
+    let root = c.give_tail-root.result in
+    let change = given h a t r slot ok found b root c.give_tail-root.ensures in
+    (plan_root h a t r slot ok found vacate refl b root change, omega arith)
 
 pub returns : goal.returns
 returns c =
     let h = c.args.head in
     let a = c.args.arena.now in
     let t = c.args.table.now in
+    let r = c.args.named in
+    let slot = c.args.slot in
+    let (ok, found) = c.requires in
+    let b = c.give_tail-root.new.arena in
     let (number, root, _) = c.effect.ensures in
-    let q = plan_pool c.args.head c.args.arena.now c.args.table.now c.args.named c.args.slot c.requires.0 c.requires.1 vacate refl c.give_tail-root.new.arena c.give_tail-root.result
-    (given c.args.head c.args.arena.now c.args.table.now c.args.named c.args.slot c.requires.0 c.requires.1 c.give_tail-root.new.arena c.give_tail-root.result c.give_tail-root.ensures)
-    c.write_row.new.table c.write_row.ensures in
-    ap (λ (o : Outcome). handed o c.give_tail-root.new.arena c.write_row.new.table [])
-    (released h c.effect.result c.give_tail-root.result number root c.args.named)
-    ∙ acted_by tree_engine (give c.args.named) (tree_pool h a t) _ _ (plan_answer c.args.head c.args.arena.now c.args.table.now c.args.named c.args.slot c.requires.0 c.requires.1 vacate refl) q
+    let change = given h a t r slot ok found b c.give_tail-root.result c.give_tail-root.ensures in
+    let q = plan_pool h a t r slot ok found vacate refl b c.give_tail-root.result change c.write_row.new.table
+    c.write_row.ensures in
+    ap (λ (o : Outcome). handed o b c.write_row.new.table [])
+    (released h c.effect.result c.give_tail-root.result number root r)
+    ∙ acted_by tree_engine (give r) (tree_pool h a t) _ _ (plan_answer h a t r slot ok found vacate refl) q

@@ -38,28 +38,31 @@ returns-then-words-limit_of c =
 pub returns-in_default : goal.returns-in_default
 unfolding tree_engine
 returns-in_default c =
+    let good = size c.args.head.form c.args.words c.limit_of.ensures c.if-words-limit_of.false in
     let p = tree_pool c.args.head c.args.arena.now c.args.table.now in
     grant_refused c.args.head c.args.arena.now c.args.table.now c.no_effect-in_default.result 3
     c.no_effect-in_default.ensures refl c.args.party c.args.words
-    (ask_three tree_engine p c.args.party c.args.words c.requires.1 (size c.args.head.form c.args.words c.limit_of.ensures c.if-words-limit_of.false)
+    (ask_three tree_engine p c.args.party c.args.words c.requires.1 good
     (empty_missing c.args.table.now (sym c.empty_slot.ensures ∙ c.in_default.is)))
 
 pub returns-then-next-eq0 : goal.returns-then-next-eq0
 unfolding tree_engine
 returns-then-next-eq0 c =
+    let good = size c.args.head.form c.args.words c.limit_of.ensures c.if-words-limit_of.false in
     let p = tree_pool c.args.head c.args.arena.now c.args.table.now in
     let found = sym c.empty_slot.ensures ∙ c.in-At.is in
     grant_refused c.args.head c.args.arena.now c.args.table.now c.no_effect-then-next-eq0.result 4
     c.no_effect-then-next-eq0.ensures refl c.args.party c.args.words
-    (ask_four tree_engine p c.args.party c.args.words c.requires.1 (size c.args.head.form c.args.words c.limit_of.ensures c.if-words-limit_of.false)
+    (ask_four tree_engine p c.args.party c.args.words c.requires.1 good
     (empty_found c.args.table.now c.in-At.slot found).1
     (eq-eqb _ _ c.if-next-eq0.true))
 
 pub overflow_cast-cells : goal.overflow_cast-cells
 overflow_cast-cells c =
+    let good = size c.args.head.form c.args.words c.limit_of.ensures c.if-words-limit_of.false in
     let f = c.args.head.form in
     let n = c.args.words in
-    let few = not_lt (form_of f).limit n (or_r (eqb n 0) (ltb (form_of f).limit n) (size c.args.head.form c.args.words c.limit_of.ensures c.if-words-limit_of.false)) in
+    let few = not_lt (form_of f).limit n (or_r (eqb n 0) (ltb (form_of f).limit n) good) in
     omega (arith, c.cells_of-cells.ensures, few_cells f n few)
 
 pub leftmost_fit-found-requires : goal.leftmost_fit-found-requires
@@ -72,16 +75,20 @@ leftmost_fit-found-requires c =
 pub returns-then-block-eq0 : goal.returns-then-block-eq0
 unfolding tree_engine
 returns-then-block-eq0 c =
+    let good = size c.args.head.form c.args.words c.limit_of.ensures c.if-words-limit_of.false in
     let h = c.args.head in
     let p = tree_pool h c.args.arena.now c.args.table.now in
+    let at = c.leftmost_fit-found.result.at in
+    let fit =
+    subst (λ (x : ℕ). LeftmostFound (form_of h.form) c.args.arena.now h.root x at) c.cells_of-cells.ensures
+    c.leftmost_fit-found.ensures.leftmost_found in
     let found = sym c.empty_slot.ensures ∙ c.in-At.is in
     grant_refused h c.args.arena.now c.args.table.now c.no_effect-then-block-eq0.result 5
     c.no_effect-then-block-eq0.ensures refl c.args.party c.args.words
-    (ask_five tree_engine p c.args.party c.args.words c.requires.1 (size c.args.head.form c.args.words c.limit_of.ensures c.if-words-limit_of.false)
+    (ask_five tree_engine p c.args.party c.args.words c.requires.1 good
     (empty_found c.args.table.now c.in-At.slot found).1 (ne_eqb _ _ c.if-next-eq0.false)
-    (none_fits h c.args.arena.now c.args.table.now c.requires.0 c.args.words
-    c.leftmost_fit-found.result.at (some_units h.form c.args.words (size c.args.head.form c.args.words c.limit_of.ensures c.if-words-limit_of.false)) (subst (λ (x : ℕ). LeftmostFound (form_of c.args.head.form) c.args.arena.now c.args.head.root x
-    c.leftmost_fit-found.result.at) c.cells_of-cells.ensures c.leftmost_fit-found.ensures.leftmost_found) c.if-block-eq0.true))
+    (none_fits h c.args.arena.now c.args.table.now c.requires.0 c.args.words at (some_units h.form c.args.words good) fit
+    c.if-block-eq0.true))
 
 pub place-requires : goal.place-requires
 place-requires c =

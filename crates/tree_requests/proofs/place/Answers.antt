@@ -43,56 +43,102 @@ module _ (h : Head) (a t : Words) (party n slot block father : ℕ) (f : Grantab
 
 pub take_cells-root-requires : goal.take_cells-root-requires
 take_cells-root-requires c =
-    subst
-    (λ (x : ℕ). Takeable (form_of c.args.head.form) c.args.arena.now c.args.head.root c.args.block
-    c.args.father x)
-    (sym c.requires.cells_value)
-    (place_takes c.args.head c.args.arena.now c.args.table.now c.args.party c.args.words c.args.slot c.args.block c.args.father c.requires.grantable)
+    let h = c.args.head in
+    let a = c.args.arena.now in
+    let t = c.args.table.now in
+    let n = c.args.words in
+    let block = c.args.block in
+    let father = c.args.father in
+    subst (λ (x : ℕ). Takeable (form_of h.form) a h.root block father x) (sym c.requires.cells_value)
+    (place_takes h a t c.args.party n c.args.slot block father c.requires.grantable)
 
 pub first_word-address-requires : goal.first_word-address-requires
 first_word-address-requires c =
-    omega (arith, inside c.args.head c.args.arena.now c.args.table.now c.args.party c.args.words c.args.slot c.args.block c.args.father c.requires.grantable, few c.args.head c.args.arena.now c.args.table.now c.args.party c.args.words c.args.slot c.args.block c.args.father c.requires.grantable, div-le_self (length c.args.arena.now) (form_of c.args.head.form).cell)
+    let h = c.args.head in
+    let a = c.args.arena.now in
+    let t = c.args.table.now in
+    let n = c.args.words in
+    let block = c.args.block in
+    let father = c.args.father in
+    omega (
+      arith,
+      inside h a t c.args.party n c.args.slot block father c.requires.grantable,
+      few h a t c.args.party n c.args.slot block father c.requires.grantable,
+      div-le_self (length a) (form_of h.form).cell,
+    )
 
 pub overflow_cast-address : goal.overflow_cast-address
 overflow_cast-address c =
-    omega (arith, c.first_word-address.ensures, first_low c.args.head c.args.arena.now c.args.table.now c.args.party c.args.words c.args.slot c.args.block c.args.father c.requires.grantable, few c.args.head c.args.arena.now c.args.table.now c.args.party c.args.words c.args.slot c.args.block c.args.father c.requires.grantable)
+    let h = c.args.head in
+    let a = c.args.arena.now in
+    let t = c.args.table.now in
+    let n = c.args.words in
+    let block = c.args.block in
+    let father = c.args.father in
+    omega (
+      arith,
+      c.first_word-address.ensures,
+      first_low h a t c.args.party n c.args.slot block father c.requires.grantable,
+      few h a t c.args.party n c.args.slot block father c.requires.grantable,
+    )
 
 pub write_row-requires : goal.write_row-requires
-write_row-requires c = record {
-  i_bound = place_slot c.args.head c.args.arena.now c.args.table.now c.args.party c.args.words c.args.slot c.args.block c.args.father c.requires.grantable;
-  record_words_len = (range c.args.head c.args.arena.now c.args.table.now c.args.party c.args.words c.args.slot c.args.block c.args.father c.requires.grantable).fours;
-}
+write_row-requires c =
+    let h = c.args.head in
+    let a = c.args.arena.now in
+    let t = c.args.table.now in
+    let n = c.args.words in
+    let block = c.args.block in
+    let father = c.args.father in
+    record {
+      i_bound = place_slot h a t c.args.party n c.args.slot block father c.requires.grantable;
+      record_words_len = (range h a t c.args.party n c.args.slot block father c.requires.grantable).fours;
+    }
 
 pub effect-requires : goal.effect-requires
-effect-requires c = (
-  place_root c.args.head c.args.arena.now c.args.table.now c.args.party c.args.words c.args.slot c.args.block c.args.father c.requires.grantable
-      c.take_cells-root.new.arena c.args.table.now c.take_cells-root.result
-      (subst
-      (λ (x : ℕ). Taken (form_of c.args.head.form) c.args.arena.now c.take_cells-root.new.arena c.args.head.root
-      c.args.block c.args.father x c.take_cells-root.result)
-      c.requires.cells_value c.take_cells-root.ensures),
-  omega (arith, c.first_word-address.ensures, first_low c.args.head c.args.arena.now c.args.table.now c.args.party c.args.words c.args.slot c.args.block c.args.father c.requires.grantable, few c.args.head c.args.arena.now c.args.table.now c.args.party c.args.words c.args.slot c.args.block c.args.father c.requires.grantable),
-)
+effect-requires c =
+    let h = c.args.head in
+    let a = c.args.arena.now in
+    let t = c.args.table.now in
+    let n = c.args.words in
+    let block = c.args.block in
+    let father = c.args.father in
+    let b = c.take_cells-root.new.arena in
+    let link = c.take_cells-root.result in
+    let taken =
+    subst (λ (x : ℕ). Taken (form_of h.form) a b h.root block father x link) c.requires.cells_value
+    c.take_cells-root.ensures in (
+      place_root h a t c.args.party n c.args.slot block father c.requires.grantable b t link taken,
+      omega (
+        arith,
+        c.first_word-address.ensures,
+        first_low h a t c.args.party n c.args.slot block father c.requires.grantable,
+        few h a t c.args.party n c.args.slot block father c.requires.grantable,
+      ),
+    )
 
 pub returns : goal.returns
 returns c =
     let h = c.args.head in
     let a = c.args.arena.now in
-    let u = c.args.table.now in
-    let x = c.args.party in
+    let t = c.args.table.now in
     let n = c.args.words in
+    let block = c.args.block in
+    let father = c.args.father in
+    let b = c.take_cells-root.new.arena in
+    let link = c.take_cells-root.result in
+    let taken =
+    subst (λ (x : ℕ). Taken (form_of h.form) a b h.root block father x link) c.requires.cells_value
+    c.take_cells-root.ensures in
+    let u = c.write_row.new.table in
+    let x = c.args.party in
     let e = c.first_word-address.ensures in
     let (number, root, address) = c.effect.ensures in
-    let q = place_pool h a u x n c.args.slot c.args.block c.args.father c.requires.grantable
-    c.take_cells-root.new.arena c.write_row.new.table c.take_cells-root.result
-    (subst
-    (λ (x : ℕ). Taken (form_of c.args.head.form) c.args.arena.now c.take_cells-root.new.arena c.args.head.root
-    c.args.block c.args.father x c.take_cells-root.result)
-    c.requires.cells_value c.take_cells-root.ensures)
+    let q = place_pool h a t c.args.party n c.args.slot block father c.requires.grantable b u link taken
     (c.write_row.ensures
-    ∙ ap (λ (y : ℕ). table_of (set (records_of u) c.args.slot (row h.next y n x))) e) in
-    ap (λ (o : Outcome). handed o c.take_cells-root.new.arena c.write_row.new.table [])
-    (granted h c.effect.result c.take_cells-root.result number root n c.first_word-address.result address)
-    ∙ acted_by tree_engine (ask x n) (tree_pool h a u) _ _
+    ∙ ap (λ (y : ℕ). table_of (set (records_of t) c.args.slot (row h.next y n x))) e) in
+    ap (λ (o : Outcome). handed o b u [])
+    (granted h c.effect.result link number root n c.first_word-address.result address)
+    ∙ acted_by tree_engine (ask x n) (tree_pool h a t) _ _
     (ap (λ (y : ℕ). success (row h.next y n x)) e
-    ∙ place_answer h a u x n c.args.slot c.args.block c.args.father c.requires.grantable) q
+    ∙ place_answer h a t c.args.party n c.args.slot block father c.requires.grantable) q

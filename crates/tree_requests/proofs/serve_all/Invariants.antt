@@ -13,7 +13,8 @@ abbrev pub invariant-loop-i : goal.invariant-loop-i
 invariant-loop-i l =
     (length l.arena ≡ length l.initial.arena) × (length l.table ≡ length l.initial.table) × (4 * l.i ≤ length l.asked)
     × (sound tree_engine (tree_pool l.after l.arena l.table) ≡ true)
-    × Running tree_engine (tree_pool l.initial.after l.initial.arena l.initial.table) l.party l.asked l.initial.answers l.i (tree_pool l.after l.arena l.table) l.answers
+    × Running tree_engine (tree_pool l.initial.after l.initial.arena l.initial.table) l.party l.asked l.initial.answers l.i
+    (tree_pool l.after l.arena l.table) l.answers
 
 abbrev pub decreases-loop-i : goal.decreases-loop-i
 decreases-loop-i l = length l.asked / 4 - l.i

@@ -11,7 +11,8 @@ use Rattle.tree_requests.proofs.trim.Goals as goal
 
 pub no_effect-requires : goal.no_effect-requires
 no_effect-requires c =
-    refused_few (tree_pool c.args.head c.args.arena.now c.args.table.now) c.args.named c.in-Refused.n (sym c.named_slot.ensures ∙ c.in-Refused.is)
+    refused_few (tree_pool c.args.head c.args.arena.now c.args.table.now) c.args.named c.in-Refused.n
+    (sym c.named_slot.ensures ∙ c.in-Refused.is)
 
 pub returns-then-not-can_keep : goal.returns-then-not-can_keep
 returns-then-not-can_keep c =

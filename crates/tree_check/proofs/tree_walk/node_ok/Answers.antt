@@ -33,7 +33,8 @@ pub returns : goal.returns
 returns c =
     -- no free block touches the one before
     let low = c.requires.0 in
-    let apart : earliest c.args.k ≤ c.args.c = elim c.if-c-k.branch [ then-c-k+else-k-ne0 w ↦ omega arith | else-c-k w ↦ omega arith ] in (
+    let apart : earliest c.args.k ≤ c.args.c =
+    elim c.if-c-k.branch [ then-c-k+else-k-ne0 w ↦ omega arith | else-c-k w ↦ omega arith ] in (
       (λ e. record {
         apart = apart;
         led = c.leads_to.ensures.0 c.if-not-leads_to.false;

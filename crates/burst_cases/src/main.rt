@@ -13,6 +13,8 @@
 //   save               keeps the buffer
 //   back               brings back what was kept
 //   cut TEXT           the text in one burst and in many cuttings
+#![tactic(auto)]
+
 use burst_runs::{NOTHING, UNTOUCHED, fill, is_untouched, put};
 use pool_bursts::Counts;
 use testing::{byte, is, least, print, print_number, read_line, until, word};

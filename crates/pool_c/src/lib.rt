@@ -1,5 +1,7 @@
 // The calls of both pools and of the text program for C, as include/lingfurrow.h declares them. Each makes one call of
 // its pool, and its promise is the pool's: an equation with the machine's step on all inputs.
+#![tactic(auto)]
+
 ghost use Rattle.std.specs.Prelude.{◌≡◌, [], ◌∷◌};
 ghost use Rattle.ledger.specs.Records.{row};
 ghost use Rattle.calls.specs.Step.{format, allocate, release, find, trim, list, step};

@@ -1,0 +1,11 @@
+use mathlib.Core.Path.{◌∙◌}
+use mathlib.Core.List.{[]}
+use Rattle.pool_c.proofs.OutcomeLaws.{same_handed}
+use Rattle.pool_c.proofs.lf_segment_trim.Goals as goal
+
+pub returns : goal.returns
+returns c =
+    let m = c.trim-done.new in
+    same_handed _ m.arena m.table m.index []
+    c.c_segment_outcome.ensures
+    ∙ c.trim-done.ensures

@@ -1,54 +1,51 @@
 // Runs the text program on each case of data/, case00.txt and on, twice: once on all bytes that a read brings, and once
 // on one byte after another. The answers must be the same, and those that stdout has. Then the case is handed over in
 // bursts.
+#![tactic(auto)]
+
 mod bursts;
 
 ghost use Rattle.std.specs.Prelude.{◌<◌};
 
-use libc::STDOUT_FILENO;
+use std::alloc::{AllocError, Global};
+use std::{fs, io};
 
 // The name of a case's file.
-fn name_of(n: usize) -> [u8; 10] {
-    let tens = 48 + (n / 10 % 10) as u8;
-    let ones = 48 + (n % 10) as u8;
-    [99, 97, 115, 101, tens, ones, 46, 116, 120, 116]
+fn name_of(alloc: Global, n: usize) -> Result<String, AllocError> {
+    format!(in alloc; "case{:02}.txt", n % 100)
 }
 
 // A heading: the case's number, and what is done with it.
-fn show_heading(name: [u8; 10], after: &[u8]) {
-    io::write_all(STDOUT_FILENO, b"== ");
-    let number = [name[4], name[5]];
-    io::write_all(STDOUT_FILENO, &number);
-    io::write_all(STDOUT_FILENO, after);
+fn show_heading(rt: &HostRuntime, n: usize, after: &str) -> io::Result<()> {
+    print!(rt; "== {:02}{after}", n % 100)
 }
 
 // Runs a case under a heading; answers whether it is there.
-fn run_case(n: usize, after: &[u8], piece: usize) -> bool
+fn run_case(rt: &HostRuntime, n: usize, after: &str, piece: usize) -> io::Result<bool>
     requires { 0 < piece }
 {
-    let name = name_of(n);
-    let fd = os::open_read(&name);
-    if fd < 0 {
-        return false;
-    }
-    show_heading(name, after);
-    text_session::run(fd, STDOUT_FILENO, piece);
-    libc::close(fd);
-    true
+    let name = name_of(rt.alloc(), n)?;
+    let Ok(mut file) = fs::open(rt, &name) else {
+        return Ok(false);
+    };
+    show_heading(rt, n, after)?;
+    text_session::run(&mut file, &mut rt.stdout(), piece);
+    Ok(true)
 }
 
 // The case in bursts, in a line.
-fn run_bursts(n: usize) {
-    let name = name_of(n);
-    show_heading(name, b" in bursts: ");
-    bursts::run_case(&name);
+fn run_bursts(rt: &HostRuntime, n: usize) -> io::Result<()> {
+    let name = name_of(rt.alloc(), n)?;
+    show_heading(rt, n, " in bursts: ")?;
+    bursts::run_case(rt, name.as_str())
 }
 
-fn main() {
+fn main(rt: HostRuntime) -> io::Result<()> {
     let mut n = 0;
-    while n < 100 && run_case(n, b"\n", 65536) {
-        run_case(n, b" by bytes\n", 1);
-        run_bursts(n);
+    while n < 100 && run_case(&rt, n, "\n", 65536)? {
+        run_case(&rt, n, " by bytes\n", 1)?;
+        run_bursts(&rt, n)?;
         n += 1;
     }
+    Ok(())
 }

@@ -18,7 +18,6 @@ use Rattle.pool_text.specs.declared.Own.{Own}
 use Rattle.pool_text.specs.Session.{own_pool}
 use Rattle.pool_text.proofs.StandLaws.{arena_lies, table_lies, own_sound, became_served}
 use Rattle.pool_text.proofs.try_request.Goals as goal
-use Rattle.pool_text.proofs.try_request.Goals.{then-room-lt35+else-room-request_length, else-room-lt35}
 
 -- what a line is answered, by its request
 said-is : (o : Own) (a t : Words) (line : Bytes) (q : LineRequest) → q ≡ request_of line
@@ -62,10 +61,7 @@ put_fitting-requires c =
     let same = ap (λ (x : Result). length (answer_line x.answer)) c.serve_front-done.ensures in
     let said = answer c.args.own c.args.arena.now c.args.table.now c.request_of-request.result in
     let fits : length (answer_line said) ≤ length c.args.out.now - c.args.at =
-    elim c.if-room-lt35.branch [
-      | then-room-lt35+else-room-request_length w ↦ omega (arith, w.request_length.ensures, w.if-room-request_length.false)
-      | else-room-lt35 w ↦ omega (arith, answer_long said, w.if-room-lt35.false)
-    ] in
+    grind (arith, answer_long said) in
     omega (arith, same, fits, c.requires.1)
 
 pub returns : goal.returns
@@ -81,10 +77,7 @@ returns c =
     let same = said-is o a t line q.result q.ensures in
     let said = answer o a t q.result in
     let fits : length (answer_line said) ≤ length out - c.args.at =
-    elim c.if-room-lt35.branch [
-      | then-room-lt35+else-room-request_length w ↦ omega (arith, w.request_length.ensures, w.if-room-request_length.false)
-      | else-room-lt35 w ↦ omega (arith, answer_long said, w.if-room-lt35.false)
-    ] in (
+    grind (arith, answer_long said) in (
       sym (of_le _ (length out - c.args.at) (omega (arith, fits, same))),
       (λ e. became_served o a t r.new.arena r.new.table line q.result r.result q.ensures r.ensures
           out p.new.out c.args.at p.result c.requires.0 r.auto.arena r.auto.table p.ensures),

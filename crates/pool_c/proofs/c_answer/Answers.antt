@@ -1,3 +1,4 @@
+-- `pool_c::c_answer` meets its contract: both halves are the answer's. Assumes nothing.
 use mathlib.Core.Path.{ap₂}
 use Rattle.calls.specs.declared.Answer.{Answer}
 use Rattle.pool_c.specs.declared.Told.{Told}

@@ -1,3 +1,4 @@
+-- `pool_c::c_segment_allocation` meets its contract: the answer is the pool's, field by field. Assumes nothing.
 use mathlib.Core.Path.{ap}
 use Rattle.calls.specs.declared.Answer.{Answer}
 use Rattle.pool_c.proofs.c_segment_allocation.Goals as goal

@@ -1,3 +1,4 @@
+-- `pool_c::c_tree_outcome` meets its contract: head and answer are the pool's, field by field. Assumes nothing.
 use Prim.Native.Nat.{ℕ}
 use mathlib.Core.Path.{ap₂}
 use Rattle.calls.specs.declared.Answer.{Answer}

@@ -1,3 +1,4 @@
+-- `pool_c::lf_segment_trim` meets its contract: the pool's promise, through the struct for C. Assumes nothing.
 use mathlib.Core.Path.{◌∙◌}
 use mathlib.Core.List.{[]}
 use Rattle.pool_c.proofs.OutcomeLaws.{same_handed}

@@ -1,3 +1,4 @@
+-- `pool_c::lf_session_burst` meets its contract: the burst, in a struct of C. Assumes nothing.
 use mathlib.Core.Path.{◌∙◌, ap}
 use Rattle.pool_bursts.specs.declared.Counts.{Counts}
 use Rattle.pool_bursts.specs.Calls.{replied}

@@ -1,3 +1,4 @@
+-- `pool_c::lf_tree_find` meets its contract: the pool's promise, through the struct for C. Assumes nothing.
 use mathlib.Core.Path.{◌∙◌}
 use Rattle.pool_c.proofs.lf_tree_find.Goals as goal
 

@@ -1,3 +1,4 @@
+-- `pool_c::lf_tree_list` meets its contract: the pool's promise, through the struct for C. Assumes nothing.
 use mathlib.Core.Path.{ap, ◌∙◌}
 use mathlib.Core.List.{[], ◌∷◌}
 use Rattle.tree_requests.specs.declared.Outcome.{Outcome}

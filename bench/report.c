@@ -40,7 +40,7 @@ void print_conditions(FILE *to, effort e)
     line_of("/proc/cpuinfo", "model name", processor, sizeof processor);
     line_of("/proc/loadavg", "", load, sizeof load);
     print_sampling(to, e);
-    fputs("- Release builds for plain x86-64 on both sides: the archive of rt staticlib; the twins with -O3. Functions "
+    fputs("- Release builds for plain x86-64 on both sides: the archive of rt lib; the twins with -O3. Functions "
           "begin at multiples of 64 bytes in both, since where a loop lies decided up to a fifth.\n"
           "- Buffers were not cleared first: every byte was 0xa5 before format, and holders wrote every word of their "
           "blocks. Caches are warm.\n"

@@ -1,3 +1,5 @@
+-- `text::put_number` meets its contract: one digit, or two, or the digits of a hundredth and then the last two. The
+-- measure is the number. Assumes nothing.
 use Prim.Native.Nat.{◌/◌}
 use native.Mathlib.Omega.{arith}
 use mathlib.Core.Path.{◌∙◌, refl}

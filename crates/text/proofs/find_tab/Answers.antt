@@ -1,3 +1,4 @@
+-- `text::find_tab` meets its contract: no byte before the place is a tab. Assumes nothing.
 use native.Mathlib.Omega.{arith}
 use borrow.Author.Rules.{rules}
 use Rattle.text.proofs.FieldLaws.{tab_here, tab_on, tab_end}

@@ -1,3 +1,4 @@
+-- `text::four_of` meets its contract: a number and a triple, or a bad one among them. Assumes nothing.
 use Rattle.text.proofs.FieldLaws.{four_is}
 use Rattle.text.proofs.four_of.Goals as goal
 

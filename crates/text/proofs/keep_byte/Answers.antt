@@ -1,3 +1,4 @@
+-- `text::keep_byte` meets its contract: a line of 65 bytes stays, a shorter one grows. Assumes nothing.
 use mathlib.Core.Path.{refl}
 use native.Mathlib.Omega.{arith}
 use borrow.Author.Rules.{rules}

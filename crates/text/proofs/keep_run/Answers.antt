@@ -1,3 +1,4 @@
+-- `text::keep_run` meets its contract: the kept line, run on from here, is the whole run. Assumes nothing.
 use Prim.Native.Nat.{◌+◌}
 use mathlib.Core.Path.{◌∙◌, sym, ap, refl}
 use lib.ListN.{drop}

@@ -1,3 +1,4 @@
+-- `text::put_bytes` meets its contract: the bytes left, set from here on, make all of them. Assumes nothing.
 use Prim.Native.Nat.{◌+◌}
 use native.Mathlib.Nat.{add-zero}
 use lib.Seq.{sets}

@@ -1,3 +1,4 @@
+-- `text::put_field` meets its contract: a tab, then the digits. Assumes nothing.
 use mathlib.Core.List.{[], ◌∷◌}
 use Rattle.text.specs.Numbers.{decimal_of}
 use Rattle.text.proofs.WriteLaws.{wrote_then}

@@ -1,3 +1,4 @@
+-- `text::put_fields` meets its contract: the fields left, set from here on, make all of them. Assumes nothing.
 use native.Mathlib.Omega.{arith}
 use mathlib.Core.Path.{◌∙◌, sym, ap, refl}
 use lib.ListN.{length}

@@ -1,3 +1,4 @@
+-- `text::put_line` meets its contract: a letter, the fields, a line feed. Assumes nothing.
 use native.Mathlib.Omega.{arith}
 use mathlib.Core.List.{[], ◌∷◌, ◌++◌}
 use Rattle.text.specs.Fields.{fields_of, line_of}

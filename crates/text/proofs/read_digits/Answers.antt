@@ -1,3 +1,4 @@
+-- `text::read_digits` meets its contract: at each byte the value so far, read on, is the value of all. Assumes nothing.
 use mathlib.Core.Path.{sym, ◌∙◌}
 use borrow.Author.Rules.{rules}
 use Rattle.text.proofs.NumberLaws.{value_low, value_high, value_large, value_on, value_end}

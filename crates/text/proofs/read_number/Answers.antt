@@ -1,3 +1,4 @@
+-- `text::read_number` meets its contract: no empty field, no leading zero, then the digits. Assumes nothing.
 use borrow.Author.Tests.{eq-eqb, ne_eqb}
 use Rattle.text.specs.Numbers.{value_of}
 use Rattle.text.proofs.read_number.Goals as goal

@@ -1,3 +1,4 @@
+-- `text::read_pair` meets its contract: the numbers before and after the first tab. Assumes nothing.
 use Rattle.text.proofs.FieldLaws.{no_pair, pair_is}
 use Rattle.text.proofs.read_pair.Goals as goal
 

@@ -1,3 +1,4 @@
+-- `text::read_quad` meets its contract: the number before the first tab, and the triple after it. Assumes nothing.
 use Rattle.text.proofs.FieldLaws.{no_quad, quad_is}
 use Rattle.text.proofs.read_quad.Goals as goal
 

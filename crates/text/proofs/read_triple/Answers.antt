@@ -1,3 +1,4 @@
+-- `text::read_triple` meets its contract: the number before the first tab, and the pair after it. Assumes nothing.
 use Rattle.text.proofs.FieldLaws.{no_triple, triple_is}
 use Rattle.text.proofs.read_triple.Goals as goal
 

@@ -1,3 +1,4 @@
+-- `text::three_of` meets its contract: a number and a pair, or a bad one among them. Assumes nothing.
 use Rattle.text.proofs.FieldLaws.{three_is}
 use Rattle.text.proofs.three_of.Goals as goal
 

@@ -1,3 +1,4 @@
+-- `text::two_of` meets its contract: two numbers, or a bad one among them. Assumes nothing.
 use Rattle.text.proofs.FieldLaws.{two_is}
 use Rattle.text.proofs.two_of.Goals as goal
 

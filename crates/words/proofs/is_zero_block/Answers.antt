@@ -1,3 +1,5 @@
+-- `words::is_zero_block` meets its contract. Its invariant: the bits so far and the test of what is left make the answer.
+-- Assumes nothing.
 use mathlib.Core.Path.{refl}
 use borrow.Author.Rules.{rules}
 use Rattle.words.proofs.CountedLaws.{flag_next, flag_end}

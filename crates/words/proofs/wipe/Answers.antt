@@ -1,3 +1,4 @@
+-- `words::wipe` meets its contract. Assumes nothing.
 use mathlib.Core.Path.{◌∙◌}
 use Rattle.words.proofs.PlaceLaws.{wiped_all}
 use Rattle.words.proofs.wipe.Goals as goal

@@ -1,3 +1,5 @@
+-- `words::wipe_part_signed` meets its contract. The invariant: the words from lo up to i are set.
+-- Assumes nothing.
 use borrow.Author.Rules.{rules}
 use Rattle.words.proofs.PlaceLaws.{wipe_start, wipe_next, wipe_end}
 use Rattle.words.proofs.wipe_part_signed.Goals as goal

@@ -1,3 +1,4 @@
+-- `words::wipe_signed` meets its contract. Assumes nothing.
 use mathlib.Core.Path.{◌∙◌}
 use lib.IntN.{pos}
 use Rattle.words.proofs.PlaceLaws.{wiped_all}

@@ -7,7 +7,7 @@ use Rattle.text.specs.Numbers.{Bytes}
 abbrev pub most_bytes : ℕ
 most_bytes = 64
 
--- the unfinished line with one byte more; of a line that is over_long the first 65 bytes are kept
+-- the unfinished line with one byte more; of a line that is over-long the first 65 bytes are kept
 unfoldable pub keep : Bytes → ℕ → Bytes
 keep k b = cond (ltb most_bytes (length k)) k (k ++ b ∷ [])
 

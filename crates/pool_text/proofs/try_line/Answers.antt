@@ -30,14 +30,17 @@ try_request-requires c =
 pub returns-in-Before : goal.returns-in-Before
 unfolding serve
 returns-in-Before c =
+    let a = c.args in
     let r = c.try_first in
-    subst (tries c.args.arena.now c.args.table.now c.args.line.now c.args.out.now c.args.at r.result r.new.arena r.new.table r.new.out) (sym c.in-Before.is) r.ensures
+    subst (tries a.arena.now a.table.now a.line.now a.out.now a.at r.result r.new.arena r.new.table r.new.out)
+    (sym c.in-Before.is) r.ensures
 
 pub returns-in-Serving : goal.returns-in-Serving
 returns-in-Serving c =
+    let a = c.args in
     let r = c.try_request in
-    subst (tries c.args.arena.now c.args.table.now c.args.line.now c.args.out.now c.args.at r.result r.new.arena r.new.table r.new.out) (sym c.in-Serving.is)
-    r.ensures
+    subst (tries a.arena.now a.table.now a.line.now a.out.now a.at r.result r.new.arena r.new.table r.new.out)
+    (sym c.in-Serving.is) r.ensures
 
 pub returns-in-Stopped : goal.returns-in-Stopped
 unfolding serve
@@ -45,7 +48,8 @@ returns-in-Stopped c =
     let a = c.args.arena.now in
     let t = c.args.table.now in
     let out = c.args.out.now in
-    subst (tries c.args.arena.now c.args.table.now c.args.line.now c.args.out.now c.args.at (record { stage = Stopped; at = c.args.at; done = true }) a t out) (sym c.in-Stopped.is) (
+    let stopped : Tried = record { stage = Stopped; at = c.args.at; done = true } in
+    subst (tries a t c.args.line.now out c.args.at stopped a t out) (sym c.in-Stopped.is) (
       sym (of_le 0 (length out - c.args.at) (omega arith)),
       (λ e. ((c.requires.0.0, c.requires.0.1, refl), refl, (omega arith, refl))),
       (λ e. absurd (true≢false e)),

@@ -1,7 +1,6 @@
 -- `segment_check::gate_number` meets its contract, by the test that led to each number. Assumes nothing.
 use mathlib.Core.Bool.{true}
 use mathlib.Core.Path.{◌≡◌, ◌∙◌, refl, sym}
-use Rattle.words.proofs.Tests.{not_true, not_false}
 use Rattle.calls.specs.Pool.{Pool, lengths}
 use Rattle.calls.specs.Engines.{segment_engine}
 use Rattle.calls.proofs.GateLaws.{is_eight, is_one, is_zero}
@@ -13,7 +12,7 @@ pub returns-then-not-right_lengths : goal.returns-then-not-right_lengths
 unfolding segment_engine
 returns-then-not-right_lengths c =
     let a = c.args in
-    let bad = sym (c.right_lengths.ensures a.head) ∙ not_true _ c.if-not-right_lengths.true-raw in
+    let bad = sym (c.right_lengths.ensures a.head) ∙ c.if-not-right_lengths.true in
     is_eight segment_engine (segment_pool a.s a.head a.arena.now a.table.now a.index.now) refl bad
 
 -- the lengths are right
@@ -25,7 +24,7 @@ lent c =
 right : (c : Else-not-right_lengths) → lengths segment_engine (lent c) ≡ true
 right c =
     let a = c.args in
-    sym (c.right_lengths.ensures a.head) ∙ not_false _ c.if-not-right_lengths.false-raw
+    sym (c.right_lengths.ensures a.head) ∙ c.if-not-right_lengths.false
 
 pub is_stored-requires : goal.is_stored-requires
 is_stored-requires c = right (goal.at.is_stored-requires c).Else-not-right_lengths
@@ -33,11 +32,11 @@ is_stored-requires c = right (goal.at.is_stored-requires c).Else-not-right_lengt
 pub returns-then-not-is_stored : goal.returns-then-not-is_stored
 returns-then-not-is_stored c =
     let lengths-right = right (goal.at.returns-then-not-is_stored c).Else-not-right_lengths in
-    let bad = sym c.is_stored.ensures ∙ not_true _ c.if-not-is_stored.true-raw in
+    let bad = sym c.is_stored.ensures ∙ c.if-not-is_stored.true in
     is_one segment_engine (lent (goal.at.returns-then-not-is_stored c).Else-not-right_lengths) lengths-right bad
 
 pub returns : goal.returns
 returns c =
     let lengths-right = right (goal.at.returns c).Else-not-right_lengths in
-    let good = sym c.is_stored.ensures ∙ not_false _ c.if-not-is_stored.false-raw in
+    let good = sym c.is_stored.ensures ∙ c.if-not-is_stored.false in
     is_zero segment_engine (lent (goal.at.returns c).Else-not-right_lengths) lengths-right good

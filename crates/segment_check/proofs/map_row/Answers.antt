@@ -12,7 +12,6 @@ use Rattle.record_table.specs.Partition.{Joins}
 use Rattle.stored_forms.specs.Segments.{segment_rule}
 use lib.IntN.{ℤ, pos, nat_abs}
 use lib.ListN.{length, get_or}
-use Rattle.words.proofs.Tests.{not_true, not_false}
 use Rattle.ledger.specs.declared.Row.{Row}
 use Rattle.segment_index.specs.Control.{free_size}
 use Rattle.segment_index.proofs.SignLaws.{abs_neg, free_neg}
@@ -77,7 +76,7 @@ returns-then-not-is_held c =
           g.right in
           let same = ap (λ (q : Row). q.address - 1) c.read_row-r.ensures in
           let is = ap (λ k. get_or a.v.now k (pos 0)) same ∙ word in
-          absurd (true≢false (sym (c.is_held.ensures.value is) ∙ not_true c.is_held.result c.if-not-is_held.true-raw)),
+          absurd (true≢false (sym (c.is_held.ensures.value is) ∙ c.if-not-is_held.true)),
     )
 
 pub put_bit-requires : goal.put_bit-requires
@@ -93,7 +92,7 @@ returns c =
     let (few, long, below, some, wide, noted, heads, sets) = c.requires in
     let u = c.enter_row-u.result in
     let (joins, next) = c.enter_row-u.ensures.joins c.if-words-u.false in
-    let word = c.is_held.ensures.pos_value (not_false c.is_held.result c.if-not-is_held.false-raw) in (
+    let word = c.is_held.ensures.pos_value c.if-not-is_held.false in (
       λ l. joined_live a.v.now a.next a.table.now a.i u joins a.map.now c.put_bit.new.map
           c.enter_row-u.new.seen a.m (c.read_row-r.result.address - 1) next heads sets
           c.if-u-eq0.false (ap (λ (q : Row). q.address - 1) c.read_row-r.ensures)

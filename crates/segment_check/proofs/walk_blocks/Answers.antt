@@ -7,7 +7,6 @@ use mathlib.Core.Path.{◌≡◌, ◌∙◌, sym, ap}
 use mathlib.Core.Logic.{◌≢◌}
 use lib.IntN.{pos, nat_abs}
 use lib.ListN.{length, get_or}
-use Rattle.words.proofs.Tests.{not_true, not_false}
 use Rattle.stored_forms.specs.Segments.{largest}
 use Rattle.segment_index.specs.Control.{free_size}
 use Rattle.segment_blocks.proofs.ScanLaws.{come_start, come_on, come_end, leaf_on}
@@ -95,12 +94,12 @@ returns-then-not-is_free_block c =
           let block = kept_free a.v.now a.map.now k n K c.loop-at.at (c.loop-at.invariant.3 k scan).0.scan
           below c.loop-at.sum c.free_at-f.result c.loop-at.last (c.loop-at.invariant.4 k n K scan d)
           (omega (arith, c.if-f-eq0.false)) c.free_at-f.ensures in
-          absurd (true≢false (sym (c.is_free_block.ensures.1 block) ∙ not_true _ c.if-not-is_free_block.true-raw)),
+          absurd (true≢false (sym (c.is_free_block.ensures.1 block) ∙ c.if-not-is_free_block.true)),
     )
 
 pub overflow_cast-f : goal.overflow_cast-f
 overflow_cast-f c =
-    let here = c.is_free_block.ensures.0 (not_false _ c.if-not-is_free_block.false-raw) in
+    let here = c.is_free_block.ensures.0 c.if-not-is_free_block.false in
     omega (arith, here.inside, c.requires.0)
 
 pub larger-most-requires-else-f-eq0 : goal.larger-most-requires-else-f-eq0
@@ -108,10 +107,10 @@ larger-most-requires-else-f-eq0 c = omega arith
 
 pub overflow_add-sum : goal.overflow_add-sum
 overflow_add-sum c =
-    omega (arith, (c.is_free_block.ensures.0 (not_false _ c.if-not-is_free_block.false-raw)).inside, c.requires.0, c.loop-at.invariant.1)
+    omega (arith, (c.is_free_block.ensures.0 c.if-not-is_free_block.false).inside, c.requires.0, c.loop-at.invariant.1)
 
 pub overflow_add-at-else-f-eq0 : goal.overflow_add-at-else-f-eq0
-overflow_add-at-else-f-eq0 c = omega (arith, (c.is_free_block.ensures.0 (not_false _ c.if-not-is_free_block.false-raw)).inside, c.requires.0)
+overflow_add-at-else-f-eq0 c = omega (arith, (c.is_free_block.ensures.0 c.if-not-is_free_block.false).inside, c.requires.0)
 
 pub loop-at-smaller : goal.loop-at-smaller
 loop-at-smaller c =
@@ -122,7 +121,7 @@ loop-at-preserved c =
     let a = c.args in
     let n = c.free_at-f.result in
     let z = get_or a.v.now c.loop-at.at (pos 0) in
-    let here = c.is_free_block.ensures.0 (not_false _ c.if-not-is_free_block.false-raw) in
+    let here = c.is_free_block.ensures.0 c.if-not-is_free_block.false in
     let below = c.loop-at-test.true in
     let (inside, few, adjoining, scans, leads) = c.loop-at.invariant in
     let is : n ≡ free_size z = c.free_at-f.ensures in

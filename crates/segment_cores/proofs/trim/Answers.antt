@@ -43,12 +43,18 @@ overflow_add-e-2 c =
 
 pub reindex-requires : goal.reindex-requires
 reindex-requires c =
-    let (L, M, T) = c.requires in
-    (controls L _, controls M _, trim_touches L M _ _ _ _ _ _ _ T _ (above L M _ _ _ _ _ _ _ _ T c.free_above-y.ensures) _ (stores _ _ _ _ _ _ _ c.put_held.ensures c.merge.ensures))
+    let (L, M, T) = c.requires in (
+      controls L _,
+      controls M _,
+      trim_touches L M _ _ _ _ _ _ _ T _ (above L M _ _ _ _ _ _ _ _ T c.free_above-y.ensures) _
+          (stores _ _ _ _ _ _ _ c.put_held.ensures c.merge.ensures),
+    )
 
 pub returns : goal.returns
 returns c =
     λ L M T.
-    let touched = trim_touches L M _ _ _ _ _ _ _ T _ (above L M _ _ _ _ _ _ _ _ T c.free_above-y.ensures) _ (stores _ _ _ _ _ _ _ c.put_held.ensures c.merge.ensures) in
-    trim_becomes L M _ _ _ _ _ _ _ T _ (above L M _ _ _ _ _ _ _ _ T c.free_above-y.ensures) _ (stores _ _ _ _ _ _ _ c.put_held.ensures c.merge.ensures) _
+    let touched = trim_touches L M _ _ _ _ _ _ _ T _ (above L M _ _ _ _ _ _ _ _ T c.free_above-y.ensures) _
+    (stores _ _ _ _ _ _ _ c.put_held.ensures c.merge.ensures) in
+    trim_becomes L M _ _ _ _ _ _ _ T _ (above L M _ _ _ _ _ _ _ _ T c.free_above-y.ensures) _
+    (stores _ _ _ _ _ _ _ c.put_held.ensures c.merge.ensures) _
     (c.reindex.ensures (controls L _) (controls M _) touched)

@@ -1,7 +1,6 @@
 -- `segment_pool::list` meets its contract: row 8 of the list, the gate, then all requests. Assumes nothing.
 use mathlib.Core.Path.{◌∙◌, sym, ap, refl}
 use mathlib.Core.List.{[], ◌∷◌}
-use Rattle.words.proofs.Tests.{not_true, not_false}
 use Rattle.calls.specs.Pool.{Pool}
 use Rattle.calls.specs.Engines.{segment_engine}
 use Rattle.segment_check.specs.Gate.{segment_pool}
@@ -29,11 +28,11 @@ unfolding segment_engine
 returns-then-not-list_suits c =
     ap (same (goal.at.returns-then-not-list_suits c).Start) c.refused_with.ensures
     ∙ unsuited_result segment_engine (pool (goal.at.returns-then-not-list_suits c).Start) c.args.party c.args.asked.now c.args.answers.now refl
-    (sym c.list_suits.ensures ∙ not_true c.list_suits.result c.if-not-list_suits.true-raw)
+    (sym c.list_suits.ensures ∙ c.if-not-list_suits.true)
 
 pub returns-then-number-ne0 : goal.returns-then-number-ne0
 returns-then-number-ne0 c =
-    let suits = sym c.list_suits.ensures ∙ not_false c.list_suits.result c.if-not-list_suits.false-raw in
+    let suits = sym c.list_suits.ensures ∙ c.if-not-list_suits.false in
     ap (same (goal.at.returns-then-number-ne0 c).Start) c.refused_with-then-number-ne0.ensures
     ∙ gate_result segment_engine (pool (goal.at.returns-then-number-ne0 c).Start) c.gate_number-gate.result c.args.party c.with_party-number.result
     c.gate_number-gate.ensures c.with_party-number.ensures c.if-number-ne0.true
@@ -41,7 +40,7 @@ returns-then-number-ne0 c =
 
 pub serve_all-after-requires : goal.serve_all-after-requires
 serve_all-after-requires c =
-    let suits = sym c.list_suits.ensures ∙ not_false c.list_suits.result c.if-not-list_suits.false-raw in record {
+    let suits = sym c.list_suits.ensures ∙ c.if-not-list_suits.false in record {
       index_value = gate_passed segment_engine (pool (goal.at.serve_all-after-requires c).Start) c.gate_number-gate.result c.args.party c.with_party-number.result
           c.gate_number-gate.ensures c.with_party-number.ensures c.if-number-ne0.false;
       asked_len = suited_lengths c.args.asked.now c.args.answers.now suits;
@@ -49,7 +48,7 @@ serve_all-after-requires c =
 
 pub returns : goal.returns
 returns c =
-    let suits = sym c.list_suits.ensures ∙ not_false c.list_suits.result c.if-not-list_suits.false-raw in
+    let suits = sym c.list_suits.ensures ∙ c.if-not-list_suits.false in
     let (ok, party) = gate_passed segment_engine (pool (goal.at.returns c).Start) c.gate_number-gate.result c.args.party c.with_party-number.result
     c.gate_number-gate.ensures c.with_party-number.ensures c.if-number-ne0.false in
     list_result segment_engine (pool (goal.at.returns c).Start) c.args.party c.args.asked.now c.args.answers.now suits ok party c.succeeded.result

@@ -1,6 +1,6 @@
 -- `segment_requests::trim` meets its contract: the rows 6 and 7, then 2, then the cut. Assumes nothing.
 use mathlib.Core.Path.{◌∙◌, sym, refl}
-use Rattle.words.proofs.Tests.{eqb_ne, not_true, not_false}
+use Rattle.words.proofs.Tests.{eqb_ne}
 use Rattle.ledger.specs.Records.{shortened}
 use Rattle.calls.specs.Pool.{Pool}
 use Rattle.calls.specs.Step.{cut}
@@ -22,13 +22,13 @@ returns-then-not-can_keep c =
     named_refusal c.args.head c.args.s c.args.arena.now c.args.table.now c.args.index.now
     (cut r c.args.keep) (shortened c.args.keep r) 2 refl
     (cut_two segment_engine (pool (goal.at.returns-then-not-can_keep c).Start) r c.args.keep _ e
-    (sym c.can_keep.ensures ∙ not_true c.can_keep.result c.if-not-can_keep.true-raw))
+    (sym c.can_keep.ensures ∙ c.if-not-can_keep.true))
 
 pub cut_back-requires : goal.cut_back-requires
 cut_back-requires c = (
   c.requires,
   sym c.named_slot.ensures ∙ c.in-Slot.is,
-  sym c.can_keep.ensures ∙ not_false c.can_keep.result c.if-not-can_keep.false-raw,
+  sym c.can_keep.ensures ∙ c.if-not-can_keep.false,
 )
 
 pub returns-in-Refused : goal.returns-in-Refused

@@ -9,11 +9,6 @@ returns-then-not-copy_suits c =
     let s = c.copy_suits in
     sym (rw (sym s.ensures ∙ c.if-not-copy_suits.true))
 
-pub copy_rows-requires : goal.copy_rows-requires
-copy_rows-requires c =
-    let s = c.copy_suits in
-    sym s.ensures ∙ c.if-not-copy_suits.false
-
 pub returns : goal.returns
 unfolding copy_of
 returns c =

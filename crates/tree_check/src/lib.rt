@@ -6,7 +6,7 @@
 pub mod record_map;
 pub mod tree_walk;
 
-ghost use Rattle.std.specs.Prelude.{◌≡◌, true, ◌<◌, ◌≤◌, length};
+ghost use Rattle.std.specs.Prelude.{◌≡◌, true, ◌<◌, ◌≤◌, length, replicate};
 ghost use Rattle.words.specs.Lists.{all, is_zero};
 ghost use Rattle.words.specs.Flags.{Says};
 ghost use Rattle.ledger.specs.Records.{slots};
@@ -76,106 +76,28 @@ fn is_shown_over(
     leads_to(map, end, count) & (known == count)
 }
 
-// Map and residues are wiped whole on every call, so that a small pool gets small ones. At most 64 cells:
-fn is_shown_tiny(head: Head, arena: &[u32], table: &[u32]) -> bool
-    requires { Linked (form_of head.form) arena.now
-        × (cells (form_of head.form) arena.now ≤ 64) × (slots table.now ≤ 256) }
+// The same by a map of MAP bytes, with a byte for each cell or, if MAP is 769 or 6,145, with entries: 64 places where a
+// search may begin and room behind them for 32 records that crowd the last, or 512 places and room for 256. Both are
+// wiped whole on every call, so that a small pool gets small ones.
+fn is_shown_in<const MAP: usize, const SEEN: usize>(
+    head: Head,
+    arena: &[u32],
+    table: &[u32],
+) -> bool
+    requires linked { Linked (form_of head.form) arena.now }
+    requires few { (slots table.now ≤ 256) × (slots table.now ≤ most (replicate MAP 0)) }
+    requires roomy { Roomy (replicate MAP 0) (cells (form_of head.form) arena.now) }
+    requires sizes { (MAP ≤ 8192) × (0 < SEEN) × (SEEN ≤ 2048) }
     ensures { Says result (Shown head arena.now table.now) }
 {
-    let mut map: [u8; 64] = [0; 64];
-    let mut seen: [u8; 64] = [0; 64];
-    is_shown_over(head, &*arena, &*table, &mut map, &mut seen, 64)
+    let mut map: [u8; MAP] = [0; MAP];
+    let mut seen: [u8; SEEN] = [0; SEEN];
+    is_shown_over(head, &*arena, &*table, &mut map, &mut seen, SEEN)
 }
 
-// At most 512 cells.
-fn is_shown_small(head: Head, arena: &[u32], table: &[u32]) -> bool
-    requires { Linked (form_of head.form) arena.now
-        × (cells (form_of head.form) arena.now ≤ 512) × (slots table.now ≤ 256) }
-    ensures { Says result (Shown head arena.now table.now) }
-{
-    let mut map: [u8; 512] = [0; 512];
-    let mut seen: [u8; 128] = [0; 128];
-    is_shown_over(head, &*arena, &*table, &mut map, &mut seen, 128)
-}
-
-// At most 1,024 cells.
-fn is_shown_modest(head: Head, arena: &[u32], table: &[u32]) -> bool
-    requires { Linked (form_of head.form) arena.now
-        × (cells (form_of head.form) arena.now ≤ 1024) × (slots table.now ≤ 256) }
-    ensures { Says result (Shown head arena.now table.now) }
-{
-    let mut map: [u8; 1024] = [0; 1024];
-    let mut seen: [u8; 128] = [0; 128];
-    is_shown_over(head, &*arena, &*table, &mut map, &mut seen, 128)
-}
-
-// At most 32 records, by entries: 64 places where a search may begin, and room behind them for 32 records that crowd
-// the last.
-fn is_shown_sparse(head: Head, arena: &[u32], table: &[u32]) -> bool
-    requires { Linked (form_of head.form) arena.now × (slots table.now ≤ 32) }
-    ensures { Says result (Shown head arena.now table.now) }
-{
-    let mut map: [u8; 769] = [0; 769];
-    let mut seen: [u8; 128] = [0; 128];
-    is_shown_over(head, &*arena, &*table, &mut map, &mut seen, 128)
-}
-
-// At most 2,048 cells.
-fn is_shown_middle(head: Head, arena: &[u32], table: &[u32]) -> bool
-    requires { Linked (form_of head.form) arena.now
-        × (cells (form_of head.form) arena.now ≤ 2048) × (slots table.now ≤ 256) }
-    ensures { Says result (Shown head arena.now table.now) }
-{
-    let mut map: [u8; 2048] = [0; 2048];
-    let mut seen: [u8; 128] = [0; 128];
-    is_shown_over(head, &*arena, &*table, &mut map, &mut seen, 128)
-}
-
-// As many, with many records.
-fn is_shown_busy(head: Head, arena: &[u32], table: &[u32]) -> bool
-    requires { Linked (form_of head.form) arena.now
-        × (cells (form_of head.form) arena.now ≤ 2048) × (slots table.now ≤ 256) }
-    ensures { Says result (Shown head arena.now table.now) }
-{
-    let mut map: [u8; 2048] = [0; 2048];
-    let mut seen: [u8; 2048] = [0; 2048];
-    is_shown_over(head, &*arena, &*table, &mut map, &mut seen, 2048)
-}
-
-// At most 4,096 cells.
-fn is_shown_wide(head: Head, arena: &[u32], table: &[u32]) -> bool
-    requires { Linked (form_of head.form) arena.now
-        × (cells (form_of head.form) arena.now ≤ 4096) × (slots table.now ≤ 256) }
-    ensures { Says result (Shown head arena.now table.now) }
-{
-    let mut map: [u8; 4096] = [0; 4096];
-    let mut seen: [u8; 2048] = [0; 2048];
-    is_shown_over(head, &*arena, &*table, &mut map, &mut seen, 2048)
-}
-
-// At most 8,192 cells.
-fn is_shown_large(head: Head, arena: &[u32], table: &[u32]) -> bool
-    requires { Linked (form_of head.form) arena.now
-        × (cells (form_of head.form) arena.now ≤ 8192) × (slots table.now ≤ 256) }
-    ensures { Says result (Shown head arena.now table.now) }
-{
-    let mut map: [u8; 8192] = [0; 8192];
-    let mut seen: [u8; 2048] = [0; 2048];
-    is_shown_over(head, &*arena, &*table, &mut map, &mut seen, 2048)
-}
-
-// Any number of cells, by entries: 512 places where a search may begin, and room for 256 records behind them.
-fn is_shown_vast(head: Head, arena: &[u32], table: &[u32]) -> bool
-    requires { Linked (form_of head.form) arena.now × (slots table.now ≤ 256) }
-    ensures { Says result (Shown head arena.now table.now) }
-{
-    let mut map: [u8; 6145] = [0; 6145];
-    let mut seen: [u8; 2048] = [0; 2048];
-    is_shown_over(head, &*arena, &*table, &mut map, &mut seen, 2048)
-}
-
-// Pools of more than 512 cells or 16 records. It stands at two places of its caller, so that the compiler keeps it a
-// call and its maps out of the frame of small pools.
+// Pools of more than 512 cells or 16 records. It stays a call, so that its maps are out of the frame of small pools.
+#[inline(never)]
+#[tactic(auto, unfolding(crate::specs::Maps::homes))]
 fn is_shown_other(head: Head, arena: &[u32], table: &[u32]) -> bool
     requires { Linked (form_of head.form) arena.now × (slots table.now ≤ 256) }
     ensures { Says result (Shown head arena.now table.now) }
@@ -184,23 +106,23 @@ fn is_shown_other(head: Head, arena: &[u32], table: &[u32]) -> bool
     let count = cell_count(head.form, arena.len());
     if count <= 2048 {
         if 16 < slots {
-            return is_shown_busy(head, &*arena, &*table);
+            return is_shown_in::<2048, 2048>(head, &*arena, &*table);
         }
         if count <= 1024 {
-            return is_shown_modest(head, &*arena, &*table);
+            return is_shown_in::<1024, 128>(head, &*arena, &*table);
         }
-        return is_shown_middle(head, &*arena, &*table);
+        return is_shown_in::<2048, 128>(head, &*arena, &*table);
     }
     if slots <= 32 {
-        return is_shown_sparse(head, &*arena, &*table);
+        return is_shown_in::<769, 128>(head, &*arena, &*table);
     }
     if count <= 4096 {
-        return is_shown_wide(head, &*arena, &*table);
+        return is_shown_in::<4096, 2048>(head, &*arena, &*table);
     }
     if count <= 8192 {
-        return is_shown_large(head, &*arena, &*table);
+        return is_shown_in::<8192, 2048>(head, &*arena, &*table);
     }
-    is_shown_vast(head, &*arena, &*table)
+    is_shown_in::<6145, 2048>(head, &*arena, &*table)
 }
 
 // Whether the table holds a valid ledger, and the arena the tree of its free runs.
@@ -208,17 +130,14 @@ fn is_shown(head: Head, arena: &[u32], table: &[u32]) -> bool
     requires { Linked (form_of head.form) arena.now × (slots table.now ≤ 256) }
     ensures { Says result (Shown head arena.now table.now) }
 {
-    if 16 < slot_count(&*table) {
+    let count = cell_count(head.form, arena.len());
+    if (16 < slot_count(&*table)) | (512 < count) {
         return is_shown_other(head, &*arena, &*table);
     }
-    let count = cell_count(head.form, arena.len());
     if count <= 64 {
-        return is_shown_tiny(head, &*arena, &*table);
+        return is_shown_in::<64, 64>(head, &*arena, &*table);
     }
-    if count <= 512 {
-        return is_shown_small(head, &*arena, &*table);
-    }
-    is_shown_other(head, &*arena, &*table)
+    is_shown_in::<512, 128>(head, &*arena, &*table)
 }
 
 // ---- the gate

@@ -134,14 +134,6 @@ four_cell m c h =
     three : suc (suc (suc (4 * c))) ≡ 4 * c + 3
     three = omega arith
 
-module _ (f : ℕ) (m : Words) where
-  pub cells_two : f ≢ 2 → cells (form_of f) m ≡ length m / 2
-  cells_two e = ap (λ (F : Form). length m / F.cell) (form_narrow f e)
-
-  pub cells_four : f ≡ 2 → cells (form_of f) m ≡ length m / 4
-  unfolding form_two
-  cells_four e = ap (λ (F : Form). length m / F.cell) (form_two_lem f e)
-
 module _ (m : Words) (c : ℕ) (inside : c < length m / 4) where
   pub four_length : length_at form_two m c ≡ get_or m (4 * c) 0
   unfolding form_two

@@ -1,41 +1,9 @@
 // Nodes written in four words: length, left link, right link and 0 (02, ticket 3).
-ghost use Rattle.std.specs.Prelude.{◌≡◌, suc, ◌+◌, ◌*◌, ◌<◌, length, get_or, set};
+ghost use Rattle.std.specs.Prelude.{◌≡◌, ◌<◌, length, get_or, set};
 ghost use Rattle.stored_forms.specs.Tree.{form_two};
-ghost use Rattle.stored_forms.specs.Blocks.{Zeros};
-ghost use Rattle.tree_nodes.specs.Nodes.{cells, differ, NodePut, LeftSet, RightSet};
+ghost use Rattle.tree_nodes.specs.Nodes.{differ};
 
-// Sets the left link of the node at cell `c`.
-#[tactic(auto, unfolding(stored_forms::specs::Tree::form_two))]
-pub fn set_left(arena: &mut [u32], c: usize, l: usize)
-    requires { (c < cells form_two arena.old) × (l < form_two.links) }
-    ensures { LeftSet form_two arena.old arena.new c l }
-{
-    let i = 4 * c + 1;
-    arena[i] = l as u32;
-}
-
-// Sets the right link of the node at cell `c`.
-#[tactic(auto, unfolding(stored_forms::specs::Tree::form_two))]
-pub fn set_right(arena: &mut [u32], c: usize, r: usize)
-    requires { (c < cells form_two arena.old) × (r < form_two.links) }
-    ensures { RightSet form_two arena.old arena.new c r }
-{
-    let i = 4 * c + 2;
-    arena[i] = r as u32;
-}
-
-// Writes the node of a block of `n` cells at cell `c`.
-#[tactic(auto, unfolding(stored_forms::specs::Tree::form_two))]
-pub fn put_node(arena: &mut [u32], c: usize, n: u32, l: usize, r: usize)
-    requires c_bound { c < cells form_two arena.old }
-    requires l_bound { (l < form_two.links) × (r < form_two.links) }
-    ensures { NodePut form_two arena.old arena.new c n l r }
-{
-    arena[4 * c + 3] = 0;
-    arena[4 * c] = n;
-    arena[4 * c + 1] = l as u32;
-    arena[4 * c + 2] = r as u32;
-}
+use crate::layout::Layout;
 
 // Writes the link `l` to word `i`, which is zero, if it is not 0. Returns 1 if it was written, else 0.
 #[tactic(auto, unfolding(stored_forms::specs::Tree::form_two))]
@@ -50,16 +18,54 @@ fn put_link(arena: &mut [u32], i: usize, l: usize) -> u64
     1
 }
 
-// Writes the node at cell `c`, whose words are zero: the links only if they are not 0. Returns how many are not.
-pub fn put_first(arena: &mut [u32], c: usize, n: u32, l: usize, r: usize) -> u64
-    requires c_bound { c < cells form_two arena.old }
-    requires l_bound { (l < form_two.links) × (r < form_two.links) }
-    requires zeros { Zeros arena.old (form_two.cell * c) (form_two.cell * suc c) }
-    ensures node_put { NodePut form_two arena.old arena.new c n l r }
-    ensures value { result ≡ differ 0 l + differ 0 r }
-{
-    arena[4 * c] = n;
-    let left = put_link(arena, 4 * c + 1, l);
-    let right = put_link(arena, 4 * c + 2, r);
-    left + right
+// The layout of form 2.
+pub struct FourWords;
+
+#[tactic(auto, unfolding(stored_forms::specs::Tree::form_two))]
+impl Layout for FourWords {
+    ghost form = { form_two };
+
+    fn length(arena: &[u32], c: usize) -> u32 {
+        arena[4 * c]
+    }
+
+    fn left(arena: &[u32], c: usize) -> usize {
+        arena[4 * c + 1] as usize
+    }
+
+    fn right(arena: &[u32], c: usize) -> usize {
+        arena[4 * c + 2] as usize
+    }
+
+    fn is_clear(arena: &[u32], c: usize, z: usize) -> bool {
+        words::is_zero_part(arena, 4 * c + 3, 4 * (c + z))
+    }
+
+    fn set_left(arena: &mut [u32], c: usize, l: usize) {
+        let i = 4 * c + 1;
+        arena[i] = l as u32;
+    }
+
+    fn set_right(arena: &mut [u32], c: usize, r: usize) {
+        let i = 4 * c + 2;
+        arena[i] = r as u32;
+    }
+
+    fn put_node(arena: &mut [u32], c: usize, n: u32, l: usize, r: usize) {
+        arena[4 * c + 3] = 0;
+        arena[4 * c] = n;
+        arena[4 * c + 1] = l as u32;
+        arena[4 * c + 2] = r as u32;
+    }
+
+    fn put_first(arena: &mut [u32], c: usize, n: u32, l: usize, r: usize) -> u64 {
+        arena[4 * c] = n;
+        let left = put_link(arena, 4 * c + 1, l);
+        let right = put_link(arena, 4 * c + 2, r);
+        left + right
+    }
+
+    fn wipe(arena: &mut [u32], lo: usize, hi: usize) {
+        words::wipe_part(arena, 4 * lo, 4 * hi);
+    }
 }

@@ -4,6 +4,7 @@
 
 pub mod forms;
 pub mod four_words;
+pub mod layout;
 pub mod two_words;
 
 ghost use Rattle.std.specs.Prelude.{◌≡◌, suc, ◌+◌, ◌*◌, ◌≤◌, ◌<◌};
@@ -13,15 +14,19 @@ ghost use Rattle.stored_forms.specs.Blocks.{Zeros};
 ghost use Rattle.tree_nodes.specs.Nodes.{count_base, cells, differ, NodeOnly, NodePut, LeftSet, RightSet};
 ghost use Rattle.tree_nodes.specs.Nodes.{NodeCleared, wiped_cells};
 
+use four_words::FourWords;
+use layout::Layout;
+use two_words::TwoWords;
+
 // The length of the node at cell `c`.
 pub fn length_of(form: u32, arena: &[u32], c: usize) -> u32
     requires { c < cells (form_of form) arena.now }
     ensures { result ≡ length_at (form_of form) arena.now c }
 {
     if form == 2 {
-        return arena[4 * c];
+        return FourWords::length(arena, c);
     }
-    arena[2 * c]
+    TwoWords::length(arena, c)
 }
 
 // The left link of the node at cell `c`.
@@ -30,9 +35,9 @@ pub fn left_of(form: u32, arena: &[u32], c: usize) -> usize
     ensures { result ≡ left_at (form_of form) arena.now c }
 {
     if form == 2 {
-        return arena[4 * c + 1] as usize;
+        return FourWords::left(arena, c);
     }
-    (arena[2 * c + 1] % 65536) as usize
+    TwoWords::left(arena, c)
 }
 
 // The right link of the node at cell `c`.
@@ -41,9 +46,9 @@ pub fn right_of(form: u32, arena: &[u32], c: usize) -> usize
     ensures { result ≡ right_at (form_of form) arena.now c }
 {
     if form == 2 {
-        return arena[4 * c + 2] as usize;
+        return FourWords::right(arena, c);
     }
-    (arena[2 * c + 1] / 65536) as usize
+    TwoWords::right(arena, c)
 }
 
 // Whether the block of `z` cells from cell `c` on has nothing but a node: no word is set that a node of the form leaves
@@ -53,9 +58,9 @@ pub fn is_clear(form: u32, arena: &[u32], c: usize, z: usize) -> bool
     ensures { Says result (NodeOnly (form_of form) arena.now c z) }
 {
     if form == 2 {
-        return words::is_zero_part(arena, 4 * c + 3, 4 * (c + z));
+        return FourWords::is_clear(arena, c, z);
     }
-    words::is_zero_part(arena, 2 * c + 2, 2 * (c + z))
+    TwoWords::is_clear(arena, c, z)
 }
 
 // Sets the left link of the node at cell `c`.
@@ -65,10 +70,10 @@ pub fn set_left(form: u32, arena: &mut [u32], c: usize, l: usize)
     ensures { LeftSet (form_of form) arena.old arena.new c l }
 {
     if form == 2 {
-        four_words::set_left(arena, c, l);
+        FourWords::set_left(arena, c, l);
         return;
     }
-    two_words::set_left(arena, c, l);
+    TwoWords::set_left(arena, c, l);
 }
 
 // Sets the right link of the node at cell `c`.
@@ -78,10 +83,10 @@ pub fn set_right(form: u32, arena: &mut [u32], c: usize, r: usize)
     ensures { RightSet (form_of form) arena.old arena.new c r }
 {
     if form == 2 {
-        four_words::set_right(arena, c, r);
+        FourWords::set_right(arena, c, r);
         return;
     }
-    two_words::set_right(arena, c, r);
+    TwoWords::set_right(arena, c, r);
 }
 
 // Writes the node of a block of `n` cells at cell `c`.
@@ -91,10 +96,10 @@ pub fn put_node(form: u32, arena: &mut [u32], c: usize, n: u32, l: usize, r: usi
     ensures { NodePut (form_of form) arena.old arena.new c n l r }
 {
     if form == 2 {
-        four_words::put_node(arena, c, n, l, r);
+        FourWords::put_node(arena, c, n, l, r);
         return;
     }
-    two_words::put_node(arena, c, n, l, r);
+    TwoWords::put_node(arena, c, n, l, r);
 }
 
 // Clears the node at cell `c`: the words of a node of no cells with no links are zero.
@@ -111,10 +116,10 @@ pub fn wipe_cells(form: u32, arena: &mut [u32], lo: usize, hi: usize)
     ensures { arena.new ≡ wiped_cells (form_of form) lo hi arena.old }
 {
     if form == 2 {
-        words::wipe_part(arena, 4 * lo, 4 * hi);
+        FourWords::wipe(arena, lo, hi);
         return;
     }
-    words::wipe_part(arena, 2 * lo, 2 * hi);
+    TwoWords::wipe(arena, lo, hi);
 }
 
 // ---- links stored and counted, for an insertion: it stores a link by these three alone
@@ -149,7 +154,7 @@ pub fn put_first(form: u32, arena: &mut [u32], c: usize, n: u32, l: usize, r: us
     ensures value { result ≡ differ 0 l + differ 0 r }
 {
     if form == 2 {
-        return four_words::put_first(arena, c, n, l, r);
+        return FourWords::put_first(arena, c, n, l, r);
     }
-    two_words::put_first(arena, c, n, l, r)
+    TwoWords::put_first(arena, c, n, l, r)
 }

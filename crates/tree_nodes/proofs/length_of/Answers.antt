@@ -1,43 +1,18 @@
--- `tree_nodes::length_of` meets its contract: word 0 of the cell. Assumes nothing.
-use native.Mathlib.Omega.{arith}
-use mathlib.Core.Path.{sym}
+-- `tree_nodes::length_of` meets its contract: by the form. Assumes nothing.
 use Rattle.stored_forms.specs.Tree.{form_one}
-use Rattle.tree_nodes.proofs.FormLaws.{form_narrow, form_two_lem, cells_two, cells_four, four_length}
-use Rattle.tree_nodes.proofs.FormOne.{one_length}
+use Rattle.tree_nodes.proofs.FormLaws.{form_two_lem, form_narrow}
 use Rattle.tree_nodes.proofs.length_of.Goals as goal
 
-pub overflow_mul-result : goal.overflow_mul-result
-overflow_mul-result c = let a = c.args in omega (arith, cells_four a.form a.arena.now c.if-form-eq2.true)
-
-pub offset_bounds-arena-c : goal.offset_bounds-arena-c
-offset_bounds-arena-c c = let a = c.args in omega (arith, cells_four a.form a.arena.now c.if-form-eq2.true)
-
-pub bounds-arena-c : goal.bounds-arena-c
-bounds-arena-c c =
-    let a = c.args in
-    omega (arith, cells_four a.form a.arena.now c.if-form-eq2.true)
+pub length-requires : goal.length-requires
+length-requires c = rw (form_two_lem c.args.form c.if-form-eq2.true) at c.requires
 
 pub returns-then-form-eq2 : goal.returns-then-form-eq2
-returns-then-form-eq2 c =
-    let a = c.args in
-    let is = form_two_lem a.form c.if-form-eq2.true in
-    let count = cells_four a.form a.arena.now c.if-form-eq2.true in
-    rw is (sym (four_length a.arena.now a.c (omega arith)))
+returns-then-form-eq2 c = rw (form_two_lem c.args.form c.if-form-eq2.true) c.length.ensures
 
-pub overflow_mul-result-2 : goal.overflow_mul-result-2
-overflow_mul-result-2 c = let a = c.args in omega (arith, cells_two a.form a.arena.now c.if-form-eq2.false)
-
-pub offset_bounds-arena-c-2 : goal.offset_bounds-arena-c-2
-offset_bounds-arena-c-2 c = let a = c.args in omega (arith, cells_two a.form a.arena.now c.if-form-eq2.false)
-
-pub bounds-arena-c-2 : goal.bounds-arena-c-2
-bounds-arena-c-2 c =
-    let a = c.args in
-    omega (arith, cells_two a.form a.arena.now c.if-form-eq2.false)
+pub length-requires-2 : goal.length-requires-2
+unfolding form_one
+length-requires-2 c = rw (form_narrow c.args.form c.if-form-eq2.false) at c.requires
 
 pub returns : goal.returns
 unfolding form_one
-returns c =
-    let a = c.args in
-    let is = form_narrow a.form c.if-form-eq2.false in
-    rw is (sym (one_length a.arena.now a.c))
+returns c = rw (form_narrow c.args.form c.if-form-eq2.false) c.length-2.ensures

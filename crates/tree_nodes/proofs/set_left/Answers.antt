@@ -6,7 +6,7 @@ use Rattle.tree_nodes.proofs.set_left.Goals as goal
 pub set_left-requires : goal.set_left-requires
 set_left-requires c =
     let is = form_two_lem c.args.form c.if-form-eq2.true in
-    (rw is at c.requires.c_bound, rw is at c.requires.l_bound)
+    record { c_bound = rw is at c.requires.c_bound; l_bound = rw is at c.requires.l_bound }
 
 pub returns-then-form-eq2 : goal.returns-then-form-eq2
 returns-then-form-eq2 c =
@@ -16,7 +16,7 @@ pub set_left-requires-2 : goal.set_left-requires-2
 unfolding form_one
 set_left-requires-2 c =
     let is = form_narrow c.args.form c.if-form-eq2.false in
-    (rw is at c.requires.c_bound, rw is at c.requires.l_bound)
+    record { c_bound = rw is at c.requires.c_bound; l_bound = rw is at c.requires.l_bound }
 
 pub returns : goal.returns
 returns c =

@@ -1,6 +1,0 @@
--- `tree_nodes::four_words::set_right` meets its contract: word 2 of the cell. Assumes nothing.
-use Rattle.tree_nodes.proofs.FormTwo.{four_set_right}
-use Rattle.tree_nodes.proofs.four_words.set_right.Goals as goal
-
-pub returns : goal.returns
-returns c = four_set_right c.args.arena.now c.args.c c.requires.0 c.args.r

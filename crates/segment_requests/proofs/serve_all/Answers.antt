@@ -1,13 +1,13 @@
 -- `segment_requests::serve_all` meets its contract: before request i, pool and answers are those of the first i
 -- requests. Assumes nothing.
 use native.Mathlib.Omega.{arith}
-use mathlib.Core.Path.{◌∙◌, ap₂, refl}
+use mathlib.Core.Path.{◌∙◌, ap₂}
 use Rattle.words.specs.Lists.{Words}
 use Rattle.calls.specs.Pool.{Pool}
 use Rattle.calls.specs.Engines.{segment_engine}
 use Rattle.segment_check.specs.Gate.{segment_pool}
 use Rattle.call_parts.specs.Parts.{request_at}
-use Rattle.call_parts.proofs.ListLaws.{list_start, list_next, list_end}
+use Rattle.call_parts.proofs.ListLaws.{list_next, list_end}
 use Rattle.calls.proofs.Engines.{segment_laws}
 use Rattle.call_parts.proofs.ResultLaws.{acted_sound}
 use Rattle.segment_requests.proofs.serve_all.Goals as goal
@@ -16,29 +16,6 @@ use Rattle.segment_requests.proofs.serve_all.Goals.{Start}
 abbrev pool : Start → Pool
 pool s =
     segment_pool s.args.s s.args.head s.args.arena.now s.args.table.now s.args.index.now
-
-pub loop-i-init : goal.loop-i-init
-loop-i-init c = (
-  refl,
-  refl,
-  refl,
-  omega arith,
-  c.requires.index_value.0,
-  list_start segment_engine (pool (goal.at.loop-i-init c).Start) c.args.party c.args.asked.now c.args.answers.now,
-)
-
-pub serve_at-after-requires : goal.serve_at-after-requires
-serve_at-after-requires c =
-    record {
-      index_value = (c.loop-i.invariant.4, c.requires.index_value.1);
-      i_in_bounds = (omega arith, omega (arith, c.loop-i.invariant.5.size, c.requires.asked_len.1));
-    }
-
-pub overflow_add-i : goal.overflow_add-i
-overflow_add-i c = omega arith
-
-pub loop-i-smaller : goal.loop-i-smaller
-loop-i-smaller c = omega arith
 
 pub loop-i-preserved : goal.loop-i-preserved
 loop-i-preserved c =
@@ -58,18 +35,6 @@ loop-i-preserved c =
           c.serve_at-after.new.answers (omega arith) (omega (arith, v.size, c.requires.asked_len.1)) e
           c.serve_at-after.ensures.answers_after v,
     )
-
-pub shape_of-arena : goal.shape_of-arena
-shape_of-arena c = c.loop-i.invariant.0
-
-pub shape_of-table : goal.shape_of-table
-shape_of-table c = c.loop-i.invariant.1
-
-pub shape_of-index : goal.shape_of-index
-shape_of-index c = c.loop-i.invariant.2
-
-pub shape_of-answers : goal.shape_of-answers
-shape_of-answers c = c.loop-i.invariant.5.size
 
 pub returns : goal.returns
 returns c =

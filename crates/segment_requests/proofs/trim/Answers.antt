@@ -24,13 +24,6 @@ returns-then-not-can_keep c =
     (cut_two segment_engine (pool (goal.at.returns-then-not-can_keep c).Start) r c.args.keep _ e
     (sym c.can_keep.ensures ∙ c.if-not-can_keep.true))
 
-pub cut_back-requires : goal.cut_back-requires
-cut_back-requires c = (
-  c.requires,
-  sym c.named_slot.ensures ∙ c.in-Slot.is,
-  sym c.can_keep.ensures ∙ c.if-not-can_keep.false,
-)
-
 pub returns-in-Refused : goal.returns-in-Refused
 returns-in-Refused c =
     let r = c.args.named in

@@ -14,10 +14,6 @@ abbrev pool : Start → Pool
 pool s =
     segment_pool s.args.s s.args.head s.args.arena.now s.args.table.now s.args.index.now
 
-pub give_back-requires : goal.give_back-requires
-give_back-requires c =
-    (c.requires, sym c.named_slot.ensures ∙ c.in-Slot.is)
-
 pub returns-in-Refused : goal.returns-in-Refused
 returns-in-Refused c =
     let e = sym c.named_slot.ensures ∙ c.in-Refused.is in
@@ -25,6 +21,3 @@ returns-in-Refused c =
     named_refusal c.args.head c.args.s c.args.arena.now c.args.table.now c.args.index.now
     (give c.args.named) c.args.named x (eqb_ne x 0 (named_refused c.args.table.now c.args.named x e))
     (give_refused segment_engine (pool (goal.at.returns-in-Refused c).Start) c.args.named x e)
-
-pub returns-in-Slot : goal.returns-in-Slot
-returns-in-Slot c = c.give_back.ensures

@@ -1,5 +1,6 @@
 -- The laws over any engine, the three demands, the claims on restarts, on freeing early and on parties, and their
 -- instances.
+pub mod RefusalLaws
 pub mod StoreLaws
 pub mod ActLaws
 pub mod GateLaws

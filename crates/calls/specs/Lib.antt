@@ -2,6 +2,7 @@
 -- and the places of a search.
 pub mod Pool
 pub mod Step
+pub mod Refusals
 pub mod Engines
 pub mod Search
 pub mod Lent

@@ -2,7 +2,7 @@
 #![tactic(auto)]
 
 // A record: ticket, address in words, words asked, party.
-#[derive(Clone, Copy)]
+#[derive(Clone, Copy, PartialEq, Eq)]
 pub struct Row {
     pub ticket: u32,
     pub address: u32,
@@ -11,7 +11,7 @@ pub struct Row {
 }
 
 // The unit rule: words to a unit, and words of a block before its address.
-#[derive(Clone, Copy)]
+#[derive(Clone, Copy, PartialEq, Eq)]
 pub struct Rule {
     pub unit: u32,
     pub lead: u32,

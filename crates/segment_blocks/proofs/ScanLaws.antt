@@ -15,7 +15,7 @@ use Rattle.stored_forms.specs.declared.Steps.{Steps}
 use Rattle.stored_forms.specs.Search.{block_count, steps, one_more, scan}
 use Rattle.stored_forms.proofs.SearchLaws.{count_few, count_one, count_add}
 use Rattle.segment_index.proofs.RangeLaws.{begins_weight, largest_on}
-use Rattle.segment_blocks.specs.Blocks.{Scan, Seeking, FirstFit, Chain, EndsAt, Reaches}
+use Rattle.segment_blocks.specs.Blocks.{Scan, Seeking, FirstFit, Reaches}
 
 -- one block on, where the code read its size as m
 module _ (v : List ℤ) (c : ℕ → ℤ) (at : ℕ) (S : Scan v c at) (h : at < length v) where
@@ -29,10 +29,10 @@ module _ (v : List ℤ) (c : ℕ → ℤ) (at : ℕ) (S : Scan v c at) (h : at <
     scan_size : m ≡ nat_abs (c at)
     scan_size = is ∙ ap nat_abs word
 
-    pub scan_grows : 0 < m
+    scan_grows : 0 < m
     scan_grows = omega (arith, scan_size, S.begins h)
 
-    pub scan_fits : at + m ≤ length v
+    scan_fits : at + m ≤ length v
     scan_fits = omega (arith, scan_size, S.blocks.fits at h)
 
     scan_quiet : (u : ℕ) → at < u → u < at + m → c u ≡ pos 0
@@ -151,44 +151,6 @@ pub record Nearing (v : List ℤ) (c : ℕ → ℤ) (p at next : ℕ) : Type 0 w
   pub inside : at < p
   pub is : next ≡ at + nat_abs (c at)
   pub reach : next ≤ p
-
-module _ (v : List ℤ) (c : ℕ → ℤ) (from p : ℕ) (K : Chain v c from p) where
-  -- a block that begins below p ends at p or before
-  module _ (at : ℕ) (S : Scan v c at) (l : at < p) (m : ℕ) (is : m ≡ nat_abs (get_or v at (pos 0))) where
-    pub near_step : Nearing v c p at (at + m)
-    near_step = record {
-      scan = S;
-      inside = l;
-      is = ap (λ n. at + n) size;
-      reach = go (dec_lt p (at + m));
-    }
-      where
-        inside : at < length v
-        inside = omega (arith, K.inside)
-
-        size : m ≡ nat_abs (c at)
-        size = scan_size v c at S inside m is
-
-        go : Dec (p < at + m) → at + m ≤ p
-        go (yes b) = absurd (omega (arith, ap nat_abs (S.blocks.quiet at p l (omega (arith, size))), K.last))
-        go (no b) = omega arith
-
-  pub near_scan : (at next : ℕ) → Nearing v c p at next → next < p → Scan v c next
-  near_scan at next N l = record {
-    blocks = N.scan.blocks;
-    inside = omega (arith, K.inside);
-    begins = λ h.
-        rw N.is (N.scan.blocks.next at inside (N.scan.begins inside) (omega (arith, N.is)));
-  }
-    where
-      inside : at < length v
-      inside = omega (arith, N.inside, K.inside)
-
-  pub near_end : (at next : ℕ) → Nearing v c p at next → p ≤ next → EndsAt c p at
-  near_end at next N h = record {
-    begins = N.scan.begins (omega (arith, N.inside, K.inside));
-    ends = omega (arith, N.is, N.reach);
-  }
 
 -- ---- the leaf of a segment
 

@@ -10,7 +10,7 @@ ghost use Rattle.segment_blocks.specs.Blocks.{Scan, Seeking, FirstFit, Chain, En
 ghost use Rattle.segment_blocks.specs.Upkeep.{OneBlock, Ready, Refreshed, RefreshedIf, Touched, first_from};
 
 use segment_index::{
-    Segments, index_word, larger, lesser, raise, raise_most, segment_of, size_at, weight_at,
+    Segments, index_word, raise, raise_most, segment_of, size_at, weight_at,
 };
 use stored_forms::Steps;
 use words::wipe_part;
@@ -62,7 +62,7 @@ fn sweep(v: &[i32], from: usize, hi: usize) -> Swept
     let mut most: u32 = 0;
     let mut at = from;
     while at < hi {
-        most = larger(most, weight_at(v, at));
+        most = most.max(weight_at(v, at));
         at += size_at(v, at);
     }
     Swept { most, next: at }
@@ -94,7 +94,7 @@ fn refresh_segment(v: &[i32], t: &mut [u32], segments: Segments, k: usize, from:
     let s = segments.count;
     let g = segments.size;
     let w = v.len();
-    let hi = lesser((k + 1) * g, w);
+    let hi = ((k + 1) * g).min(w);
     let leaf = leaf_from(v, from, hi);
     let first = first_from(from, hi, w);
     raise(t, s, s + k, leaf);
@@ -137,7 +137,7 @@ pub fn reindex(
     let ka = segment_of(a, g);
     let kp = segment_of(p, g);
     let ke = segment_of(e, g);
-    let from = lesser(index_word(t, 2 * s + ka), a);
+    let from = index_word(t, 2 * s + ka).min(a);
     refresh_segment(v, t, segments, ka, from);
     refresh_if(kp != ka, v, t, segments, kp, end);
     refresh_if((0 < y) & ((ke != ka) & (ke != kp)), v, t, segments, ke, end);
@@ -155,7 +155,7 @@ pub fn reindex_grant(v: &[i32], t: &mut [u32], segments: Segments, p: usize, e: 
     let s = segments.count;
     let g = segments.size;
     let kp = segment_of(p, g);
-    let from = lesser(index_word(t, 2 * s + kp), p);
+    let from = index_word(t, 2 * s + kp).min(p);
     refresh_segment(v, t, segments, kp, from);
     let ke = segment_of(e, g);
     refresh_if((0 < y) & (ke != kp), v, t, segments, ke, e);

@@ -23,7 +23,7 @@ ghost use Rattle.segment_check.specs.Adjoining.{Walks, WalksAll, Heads, Sets, Go
 use ledger::Rule;
 use record_table::{read_row, slot_count};
 use segment_index::{
-    Segments, free_at, is_held, is_segments, larger, lesser, segments_of, size_at,
+    Segments, free_at, is_held, is_segments, segments_of, size_at,
 };
 use words::is_zero_part_signed;
 
@@ -128,14 +128,14 @@ fn walk_blocks(v: &[i32], map: &[u64], from: usize, hi: usize, free: usize, afte
             if n == 0 {
                 return nowhere(v.len());
             }
-            most = larger(most, 1);
+            most = most.max(1);
             last = false;
             at += n;
         } else {
             if !is_free_block(v, at, f, last) {
                 return nowhere(v.len());
             }
-            most = larger(most, f as u32);
+            most = most.max(f as u32);
             sum += f;
             last = true;
             at += f;
@@ -167,7 +167,7 @@ fn walk_segments(v: &[i32], map: &[u64], t: &[u32], segments: Segments) -> usize
     let mut after = false;
     let mut k: usize = 0;
     while k < s {
-        let hi = lesser((k + 1) * g, w);
+        let hi = ((k + 1) * g).min(w);
         let first = t[2 * s + k] as usize;
         if at < hi {
             let walk = walk_blocks(&*v, &*map, at, hi, free, after);
@@ -194,7 +194,7 @@ fn node_right(t: &[u32], i: usize) -> bool
     requires { (0 < i) × (2 * i + 1 < length t.now) }
     ensures { result ≡ node_right t.now i }
 {
-    t[i] == larger(t[2 * i], t[2 * i + 1])
+    t[i] == t[2 * i].max(t[2 * i + 1])
 }
 
 fn nodes_right(t: &[u32], s: usize) -> bool

@@ -1,7 +1,7 @@
 -- The climb to the last leaf before another that is not 0, step by step. Assumes nothing.
 use Prim.Native.Nat.{ℕ, zero, suc, ◌+◌, ◌-◌, ◌*◌, ◌/◌, ◌^◌, ◌≤◌, ◌<◌}
 use native.Mathlib.Decide.{dec_lt, ℕ_discrete}
-use native.Mathlib.Nat.{pow-suc, add-mul, one-mul, mul-one, mul-le-mul_left, mul-le-mul_right}
+use native.Mathlib.Nat.{pow-suc, add-mul, one-mul, mul-one, mul-le-mul_right}
 use native.Mathlib.Numerals.{add-one}
 use native.Mathlib.Omega.{arith}
 use mathlib.Core.Logic.{◌≢◌}
@@ -30,20 +30,6 @@ pred_mul j x p =
     sym (ap (λ (n : ℕ). n * x) e ∙ rw (add-mul (j - 1) 1 x, one-mul x))
 
 module _ (d : ℕ) (t : Words) (i : ℕ) (L : Later d t i) where
-  pub up_start : Up d t i 0 i
-  up_start =
-      let e : d - 0 ≡ d = omega arith in
-      record {
-        level = omega arith;
-        from = rw e (omega (arith, L.after));
-        upto = rw e L.inside;
-        reach = omega (arith, mul-one i);
-        empty = λ k a b. absurd (none k a b);
-      }
-    where
-      none : (k : ℕ) → i * 2 ^ 0 ≤ k → k < i → ⊥
-      none k a b = omega (arith, mul-one i)
-
   module _ (h j : ℕ) (U : Up d t i h j) where
     -- j is not the first of its level: there the leaf would be the first one
     later : 2 ^ (d - h) < j
@@ -55,7 +41,7 @@ module _ (d : ℕ) (t : Words) (i : ℕ) (L : Later d t i) where
             let s : j * 2 ^ h ≡ 2 ^ d = rw e (split d h U.level) in
             absurd (omega (arith, U.empty (2 ^ d) (omega arith) L.after, L.first))
 
-    pub up_two : 1 < j
+    up_two : 1 < j
     up_two = omega (arith, later, pow_pos (d - h))
 
     low_end : (j - 1) * 2 ^ h + 2 ^ h ≡ j * 2 ^ h
@@ -64,20 +50,8 @@ module _ (d : ℕ) (t : Words) (i : ℕ) (L : Later d t i) where
     last_leaf : (j - 1) * 2 ^ h + 2 ^ h ≤ 2 * 2 ^ d
     last_leaf = omega (arith, low_end, U.reach, L.inside)
 
-    pub up_inside : j - 1 < length t
-    up_inside =
-        omega (
-          arith,
-          U.upto,
-          L.heap.long,
-          up_two,
-          mul-le-mul_left (2 ^ (d - h)) (pow_pos h),
-          split d h U.level,
-          mul-one (2 ^ (d - h)),
-        )
-
     -- there is room above
-    pub up_room : get_or t (j - 1) 0 ≡ 0 → h < d
+    up_room : get_or t (j - 1) 0 ≡ 0 → h < d
     up_room z = go (ℕ_discrete h d)
       where
         go : Dec (h ≡ d) → h < d

@@ -15,11 +15,7 @@ ghost use Rattle.segment_index.specs.Climb.{Later, Above, Under};
 pub fn size_of(v: i32) -> u32
     ensures { result ≡ nat_abs v }
 {
-    if v < 0 {
-        (-(v as i64)) as u32
-    } else {
-        v as u32
-    }
+    v.unsigned_abs()
 }
 
 // What a control word counts for in a leaf of the index: a held block counts 1.
@@ -36,36 +32,19 @@ fn free_size(v: i32) -> u32
     if 0 < v { size_of(v) } else { 0 }
 }
 
-// The same size with the other sign.
-fn negated(v: i32) -> i32
-    requires { nat_abs v < 2 ^ 31 }
-    ensures { result ≡ neg_ℤ v }
-{
-    -v
-}
-
-fn free_word(n: u32) -> i32
-    requires { n < 2 ^ 31 }
-    ensures { result ≡ pos n }
-{
-    n as i32
-}
-
 // The size of the block that begins at a word.
 pub fn size_at(v: &[i32], at: usize) -> usize
     requires { at < length v.now }
     ensures { result ≡ nat_abs (get_or v.now at (pos 0)) }
 {
-    let z = v[at];
-    size_of(z) as usize
+    size_of(v[at]) as usize
 }
 
 pub fn weight_at(v: &[i32], at: usize) -> u32
     requires { at < length v.now }
     ensures { result ≡ weight (get_or v.now at (pos 0)) }
 {
-    let z = v[at];
-    weight_of(z)
+    weight_of(v[at])
 }
 
 // The size of the free block that begins at a word, 0 where none does.
@@ -73,8 +52,7 @@ pub fn free_at(v: &[i32], at: usize) -> usize
     requires { at < length v.now }
     ensures { result ≡ free_size (get_or v.now at (pos 0)) }
 {
-    let z = v[at];
-    free_size(z) as usize
+    free_size(v[at]) as usize
 }
 
 // A free block of n words begins here.
@@ -82,8 +60,7 @@ pub fn put_free(v: &mut [i32], at: usize, n: usize)
     requires { (at < length v.old) × (n < 2 ^ 31) }
     ensures { v.new ≡ set v.old at (pos n) }
 {
-    let f = free_word(n as u32);
-    v[at] = f;
+    v[at] = n as i32;
 }
 
 // A held block of n words begins here: a free one's control word, negated.
@@ -91,8 +68,7 @@ pub fn put_held(v: &mut [i32], at: usize, n: usize)
     requires { (at < length v.old) × (n < 2 ^ 31) }
     ensures { v.new ≡ set v.old at (neg_ℤ (pos n)) }
 {
-    let h = negated(free_word(n as u32));
-    v[at] = h;
+    v[at] = -(n as i32);
 }
 
 // Whether a held block of n words begins here, by one comparison.
@@ -101,8 +77,7 @@ pub fn is_held(v: &[i32], at: usize, n: usize) -> bool
     ensures pos_value { result ≡ true → get_or v.now at (pos 0) ≡ neg_ℤ (pos n) }
     ensures value { get_or v.now at (pos 0) ≡ neg_ℤ (pos n) → result ≡ true }
 {
-    let h = negated(free_word(n as u32));
-    v[at] == h
+    v[at] == -(n as i32)
 }
 
 // Whether s is a number of segments: a power of two, 1 to 256.
@@ -172,31 +147,17 @@ pub fn segment_of(at: usize, g: usize) -> usize
     (at as u32 / g as u32) as usize
 }
 
-pub fn larger(a: u32, b: u32) -> u32
-    ensures { result ≡ max a b }
-{
-    if a < b { b } else { a }
-}
-
-pub fn lesser(a: usize, b: usize) -> usize
-    ensures { result ≡ min a b }
-{
-    if a < b { a } else { b }
-}
-
 // The lowest leaf that is at least n, where the root is: down the tree, left where the left word is large enough.
 pub fn descend(t: &[u32], d: u32, n: u32) -> usize
     requires { (d ≤ depth) × (Heap (2 ^ d) t.now) × (n ≤ get_or t.now 1 0) }
     ensures { LowestLeaf (2 ^ d) t.now n result }
 {
     let mut i: usize = 1;
-    let mut left = d;
-    while 0 < left {
+    for _ in 0..d {
         i = 2 * i;
         if t[i] < n {
             i += 1;
         }
-        left -= 1;
     }
     i
 }
@@ -218,7 +179,7 @@ pub fn raise(t: &mut [u32], s: usize, at: usize, v: u32)
     let mut i = at;
     let mut most = v;
     while 1 < i {
-        most = larger(most, t[beside(i)]);
+        most = most.max(t[beside(i)]);
         i = i / 2;
         t[i] = most;
     }
@@ -270,13 +231,11 @@ fn last_under(t: &[u32], n: Node) -> usize
         → LastIn t.now (n.at * 2 ^ n.height) (n.at * 2 ^ n.height + 2 ^ n.height) result }
 {
     let mut j = n.at;
-    let mut h = n.height;
-    while 0 < h {
+    for _ in 0..n.height {
         j = 2 * j + 1;
         if t[j] == 0 {
             j -= 1;
         }
-        h -= 1;
     }
     j
 }

@@ -8,13 +8,8 @@ overflow_mul-k c =
     let (f, r) = c.requires in
     omega (arith, sizes_top _ _ _ r.facing.sizes c.args.k r.facing.is)
 
-pub leaf_from-leaf-requires : goal.leaf_from-leaf-requires
-leaf_from-leaf-requires c =
-    let (f, r) = c.requires in
-    (f, r.facing.scan, omega (arith, c.lesser-hi.ensures))
-
 pub returns : goal.returns
 returns c =
     λ f k.
-    refreshed _ f _ _ _ _ _ k _ c.lesser-hi.ensures _ _ _ (c.leaf_from-leaf.ensures f k.facing.scan)
+    refreshed _ f _ _ _ _ _ k _ c.min-hi.ensures _ _ _ (c.leaf_from-leaf.ensures f k.facing.scan)
     c.first_from-first.ensures c.raise.ensures

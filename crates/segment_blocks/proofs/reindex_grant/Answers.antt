@@ -2,21 +2,11 @@
 -- Assumes nothing.
 use native.Mathlib.Omega.{arith}
 use Rattle.segment_blocks.proofs.TouchLaws.{was_long, a_segment, ready_a, ready_rest, reindexed_grant}
-use Rattle.segment_blocks.proofs.UpkeepLaws.{sizes_few, sizes_narrow}
+use Rattle.segment_blocks.proofs.UpkeepLaws.{sizes_narrow}
 use Rattle.segment_blocks.proofs.reindex_grant.Goals as goal
 
 pub segment_of-kp-requires : goal.segment_of-kp-requires
 segment_of-kp-requires c = let (b, f, x) = c.requires in sizes_narrow _ _ _ x.sizes _ (omega arith)
-
-pub overflow_mul-s : goal.overflow_mul-s
-overflow_mul-s c =
-    let (b, f, x) = c.requires in
-    omega (arith, sizes_few _ _ _ x.sizes)
-
-pub overflow_add-s : goal.overflow_add-s
-overflow_add-s c =
-    let (b, f, x) = c.requires in
-    omega (arith, sizes_few _ _ _ x.sizes, a_segment x c.segment_of-kp.ensures)
 
 pub index_word-requires : goal.index_word-requires
 index_word-requires c =
@@ -26,7 +16,7 @@ index_word-requires c =
 pub refresh_segment-requires : goal.refresh_segment-requires
 refresh_segment-requires c =
     let (b, f, x) = c.requires in
-    (f, rw (c.lesser-from.ensures, c.index_word.ensures) (ready_a x c.segment_of-kp.ensures))
+    (f, rw (c.min-from.ensures, c.index_word.ensures) (ready_a x c.segment_of-kp.ensures))
 
 pub segment_of-ke-requires : goal.segment_of-ke-requires
 segment_of-ke-requires c =
@@ -38,7 +28,7 @@ refresh_if-requires c =
     let (b, f, x) = c.requires in
     let ip = c.segment_of-kp.ensures in
     let ie = c.segment_of-ke.ensures in
-    let first = c.refresh_segment.ensures f (rw (c.lesser-from.ensures, c.index_word.ensures) (ready_a x ip)) in
+    let first = c.refresh_segment.ensures f (rw (c.min-from.ensures, c.index_word.ensures) (ready_a x ip)) in
     λ on. (f, ready_rest x ip ie first on)
 
 pub returns : goal.returns
@@ -46,6 +36,6 @@ returns c =
     let ip = c.segment_of-kp.ensures in
     let ie = c.segment_of-ke.ensures in
     λ b f x.
-    let first = c.refresh_segment.ensures f (rw (c.lesser-from.ensures, c.index_word.ensures) (ready_a x ip)) in
+    let first = c.refresh_segment.ensures f (rw (c.min-from.ensures, c.index_word.ensures) (ready_a x ip)) in
     let second = c.refresh_if.ensures f (ready_rest x ip ie first) in
     reindexed_grant x ip ie first second

@@ -4,4 +4,4 @@ use lib.Dec.{eqb}
 use Rattle.segment_check.proofs.node_right.Goals as goal
 
 pub returns : goal.returns
-returns c = ap (eqb _) c.larger.ensures
+returns c = ap (eqb _) c.max.ensures

@@ -41,9 +41,6 @@ returns-then-n-eq0 c =
           absurd (omega (arith, c.held_size-n.ensures.1 _ block, c.if-n-eq0.true)),
     )
 
-pub larger-most-requires : goal.larger-most-requires
-larger-most-requires c = omega arith
-
 -- the block of a turn, seen from its end
 pub overflow_add-at : goal.overflow_add-at
 overflow_add-at c = omega (arith, (c.held_size-n.ensures.0 (omega (arith, c.if-n-eq0.false))).inside, c.requires.0)
@@ -68,7 +65,7 @@ loop-at-preserved-then-f-eq0 c =
       λ k scan.
           let (come, inv) = scans k scan in (
             come_on _ k _ _ _ _ come c.requires.2 below here.size,
-            rw c.larger-most.ensures
+            rw c.max-most.ensures
                 (leaf_on _ k _ _ _ come.scan c.requires.2 below here.size _ _ _ inv
                 (held_weight z none (omega (arith, here.size)))),
           ),
@@ -102,9 +99,6 @@ overflow_cast-f c =
     let here = c.is_free_block.ensures.0 c.if-not-is_free_block.false in
     omega (arith, here.inside, c.requires.0)
 
-pub larger-most-requires-else-f-eq0 : goal.larger-most-requires-else-f-eq0
-larger-most-requires-else-f-eq0 c = omega arith
-
 pub overflow_add-sum : goal.overflow_add-sum
 overflow_add-sum c =
     omega (arith, (c.is_free_block.ensures.0 c.if-not-is_free_block.false).inside, c.requires.0, c.loop-at.invariant.1)
@@ -134,7 +128,7 @@ loop-at-preserved c =
       λ k scan.
           let (come, inv) = scans k scan in (
             come_on _ k _ _ _ _ come c.requires.2 below size,
-            rw c.larger-most-else-f-eq0.ensures
+            rw c.max-most-else-f-eq0.ensures
                 (leaf_on _ k _ _ _ come.scan c.requires.2 below size _ _ _ inv (is ∙ free_weight z free)),
           ),
       λ k u K scan d.

@@ -26,9 +26,6 @@ pub overflow_mul-k : goal.overflow_mul-k
 overflow_mul-k c =
     omega (arith, sizes_top _ _ _ c.requires.0 c.loop-k.k c.loop-k-test.true)
 
-pub lesser-hi-requires : goal.lesser-hi-requires
-lesser-hi-requires c = tt
-
 pub overflow_mul-first : goal.overflow_mul-first
 overflow_mul-first c = omega arith
 
@@ -48,7 +45,7 @@ overflow_cast-first c =
 pub walk_blocks-walk-requires : goal.walk_blocks-walk-requires
 walk_blocks-walk-requires c =
     let (is, upto, m, leads) = c.loop-k.invariant in
-    (c.requires.0.most, c.requires.2, omega (arith, c.lesser-hi.ensures), m.inside, m.few, m.adjoining)
+    (c.requires.0.most, c.requires.2, omega (arith, c.min-hi.ensures), m.inside, m.few, m.adjoining)
 
 pub overflow_add-s : goal.overflow_add-s
 overflow_add-s c = omega arith
@@ -67,15 +64,15 @@ returns-then-first-at c =
     let a = c.args in
     let (is, upto, m, leads) = c.loop-k.invariant in
     let w = length a.v.now in
-    let hi : c.lesser-hi.result ≡ min ((c.loop-k.k + 1) * a.segments.size) w = rw is at c.lesser-hi.ensures in (
+    let hi : c.min-hi.result ≡ min ((c.loop-k.k + 1) * a.segments.size) w = rw is at c.min-hi.ensures in (
       λ h. absurd (omega arith),
       λ f n K z G right.
           let (inside, led) = c.walk_blocks-walk.ensures.1 f n K (m.right f G).0.scan (leads f n K z G) in
           let two = match_two a.v.now a.map.now a.t.now _ _ c.loop-k.k c.loop-k.at
-          c.loop-k.free c.lesser-hi.result c.walk_blocks-walk.result.next c.walk_blocks-walk.result.free
+          c.loop-k.free c.min-hi.result c.walk_blocks-walk.result.next c.walk_blocks-walk.result.free
           c.walk_blocks-walk.result.most c.loop-k.after c.walk_blocks-walk.result.after m c.loop-k-test.true hi
           (c.walk_blocks-walk.ensures.0 inside) f G right in
-          let no = walked_two a.t.now a.segments.count c.loop-k.k c.loop-k.at c.lesser-hi.result w
+          let no = walked_two a.t.now a.segments.count c.loop-k.k c.loop-k.at c.min-hi.result w
           c.walk_blocks-walk.result.most c.walk_blocks-walk.result.next c.if-at-hi.true inside two in
           absurd (true≢false (sym c.if-first-at.true ∙ rw is no)),
     )
@@ -92,13 +89,13 @@ loop-k-preserved-then-at-hi c =
     let (is, upto, m, leads) = c.loop-k.invariant in
     let here = c.loop-k-test.true in
     let w = length a.v.now in
-    let (inside, right) = two_walked a.t.now a.segments.count c.loop-k.k c.loop-k.at c.lesser-hi.result w
+    let (inside, right) = two_walked a.t.now a.segments.count c.loop-k.k c.loop-k.at c.min-hi.result w
     c.walk_blocks-walk.result.most c.walk_blocks-walk.result.next c.if-at-hi.true c.if-first-at.false in
-    let hi : c.lesser-hi.result ≡ min ((c.loop-k.k + 1) * a.segments.size) w = rw is at c.lesser-hi.ensures in (
+    let hi : c.min-hi.result ≡ min ((c.loop-k.k + 1) * a.segments.size) w = rw is at c.min-hi.ensures in (
       is,
       omega arith,
       match_on a.v.now a.map.now a.t.now _ _ c.loop-k.k c.loop-k.at c.loop-k.free
-          c.lesser-hi.result c.walk_blocks-walk.result.next c.walk_blocks-walk.result.free c.walk_blocks-walk.result.most
+          c.min-hi.result c.walk_blocks-walk.result.next c.walk_blocks-walk.result.free c.walk_blocks-walk.result.most
           c.loop-k.after c.walk_blocks-walk.result.after m here hi inside (c.walk_blocks-walk.ensures.0 inside) right,
       λ f n K z G. (c.walk_blocks-walk.ensures.1 f n K (m.right f G).0.scan (leads f n K z G)).1,
     )
@@ -121,15 +118,15 @@ returns-then-first-w c =
     let (is, upto, m, leads) = c.loop-k.invariant in
     let w = length a.v.now in
     let past = c.if-at-hi.false in
-    let hi : c.lesser-hi.result ≡ min ((c.loop-k.k + 1) * a.segments.size) w = rw is at c.lesser-hi.ensures in
-    let walked = walked_none a.v.now a.map.now c.loop-k.at c.lesser-hi.result c.loop-k.free
+    let hi : c.min-hi.result ≡ min ((c.loop-k.k + 1) * a.segments.size) w = rw is at c.min-hi.ensures in
+    let walked = walked_none a.v.now a.map.now c.loop-k.at c.min-hi.result c.loop-k.free
     c.loop-k.after m.adjoining m.few past in (
       λ h. absurd (omega arith),
       λ f n K z G right.
           let two = match_two a.v.now a.map.now a.t.now _ _ c.loop-k.k c.loop-k.at
-          c.loop-k.free c.lesser-hi.result c.loop-k.at c.loop-k.free 0 c.loop-k.after c.loop-k.after m
+          c.loop-k.free c.min-hi.result c.loop-k.at c.loop-k.free 0 c.loop-k.after c.loop-k.after m
           c.loop-k-test.true hi walked f G right in
-          let no = none_two a.t.now a.segments.count c.loop-k.k c.loop-k.at c.lesser-hi.result w past
+          let no = none_two a.t.now a.segments.count c.loop-k.k c.loop-k.at c.min-hi.result w past
           two in
           absurd (true≢false (sym c.if-first-w.true ∙ rw is no)),
     )
@@ -147,15 +144,15 @@ loop-k-preserved c =
     let here = c.loop-k-test.true in
     let w = length a.v.now in
     let past = c.if-at-hi.false in
-    let hi : c.lesser-hi.result ≡ min ((c.loop-k.k + 1) * a.segments.size) w = rw is at c.lesser-hi.ensures in
-    let right = two_none a.t.now a.segments.count c.loop-k.k c.loop-k.at c.lesser-hi.result w past
+    let hi : c.min-hi.result ≡ min ((c.loop-k.k + 1) * a.segments.size) w = rw is at c.min-hi.ensures in
+    let right = two_none a.t.now a.segments.count c.loop-k.k c.loop-k.at c.min-hi.result w past
     c.if-first-w.false in
-    let walked = walked_none a.v.now a.map.now c.loop-k.at c.lesser-hi.result c.loop-k.free
+    let walked = walked_none a.v.now a.map.now c.loop-k.at c.min-hi.result c.loop-k.free
     c.loop-k.after m.adjoining m.few past in (
       is,
       omega arith,
       match_on a.v.now a.map.now a.t.now _ _ c.loop-k.k c.loop-k.at c.loop-k.free
-          c.lesser-hi.result c.loop-k.at c.loop-k.free 0
+          c.min-hi.result c.loop-k.at c.loop-k.free 0
           c.loop-k.after c.loop-k.after m here hi m.inside walked right,
       leads,
     )

@@ -61,14 +61,14 @@ module _ {map : Words} where
           let units = s.units in
           (s.place, omega arith, omega arith)
 
-  -- the next search, where there is something to lead through
-  pub leads_step : {k hi n : ℕ} → k < hi → ((x : ℕ) → Next map k x → n ≡ x) → Leads map k hi
-      → Leads map (k + n) hi × (0 < n)
-  leads_step h one (here e) = absurd (omega arith)
-  leads_step {k} {hi} h one (more {n = x} s y) =
-      let is = one x s in
-      let some = s.some in
-      (subst (λ j. Leads map (k + j) hi) (sym is) y, omega arith)
+  -- there is a next search, where there is something to lead through
+  pub leads_none : {k hi : ℕ} → k < hi → ((n : ℕ) → Next map k n → ⊥) → Leads map k hi → ⊥
+  leads_none h none (here e) = omega arith
+  leads_none h none (more {n = n} s y) = none n s
+
+  pub leads_step : {k hi n : ℕ} → k < hi → Next map k n → Leads map k hi → Leads map (k + n) hi
+  leads_step h s (here e) = absurd (omega arith)
+  leads_step {k} {hi} h s (more x y) = subst (λ j. Leads map (k + j) hi) (next_one x s) y
 
   -- ---- a loop that has come from lo to k
 

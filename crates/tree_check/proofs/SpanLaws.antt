@@ -1,6 +1,7 @@
 -- The spans of a map: noted in a byte or in an entry, and read again. Assumes nothing.
 use Prim.Native.Nat.{ℕ, zero, suc, ◌+◌, ◌-◌, ◌*◌, ◌/◌, ◌%◌, ◌≤◌, ◌<◌}
 use native.Mathlib.Decide.{dec_lt, ℕ_discrete}
+use native.Mathlib.Numerals.{unary_clauses}
 use native.Mathlib.Omega.{arith}
 use mathlib.Core.Path.{◌≡◌, refl, sym, ap, ◌∙◌, subst}
 use mathlib.Core.Logic.{◌≢◌}
@@ -8,13 +9,15 @@ use mathlib.Core.Bool.{Bool, true, false, false≢true}
 use mathlib.Core.List.{[], ◌∷◌}
 use lib.ListN.{length, get_or, set, length-set}
 use lib.Seq.{get_or-set_same, get_or-set_other}
+use borrow.Rule.Slice.PartMut.{put_mid}
+use Rattle.std.specs.Int.{w32, to_le_bytes}
 use Rattle.words.specs.Lists.{Words, all, is_zero}
 use Rattle.words.proofs.Tests.{eqb_eq}
 use Rattle.words.proofs.ListLaws.{zeros_at}
 use Rattle.tree_check.specs.Maps.{four_at, is_entries, first_at, cells_at, Covers, Adds}
 use Rattle.record_table.specs.Leads.{here, more}
-use Rattle.tree_check.specs.Maps.{home, Next, Leads, Bare, Spare, Grows, FourPut}
-use Rattle.tree_check.proofs.LeadLaws.{byte_next, byte_found, next_one}
+use Rattle.tree_check.specs.Maps.{home, Reaches, Next, Leads, Bare, Spare, Grows, FourPut}
+use Rattle.tree_check.proofs.LeadLaws.{byte_next, byte_found}
 
 -- ---- no span
 
@@ -190,6 +193,24 @@ module _ (map : Words) (i x : ℕ) (room : i + 3 < length map) (small : x < 4294
         long = simp length-set;
       }
 
+-- a copy of four bytes over four places writes one after another
+four_cells : (map : Words) (i a b c d : ℕ) → i + 3 < length map
+    → put_mid i 4 map (a ∷ b ∷ c ∷ d ∷ []) ≡ set (set (set (set map i a) (i + 1) b) (i + 2) c) (i + 3) d
+four_cells [] i a b c d h = absurd (omega arith)
+four_cells (w ∷ []) zero a b c d h = absurd (omega arith)
+four_cells (w ∷ x ∷ []) zero a b c d h = absurd (omega arith)
+four_cells (w ∷ x ∷ y ∷ []) zero a b c d h = absurd (omega arith)
+four_cells (w ∷ x ∷ y ∷ z ∷ map) zero a b c d h = refl
+four_cells (w ∷ map) (suc i) a b c d h =
+    simp unary_clauses (ap (λ m. w ∷ m) (simp unary_clauses at (four_cells map i a b c d (omega arith))))
+
+pub four_copied : (map : Words) (i x k : ℕ) (ys : Words) → i + 3 < length map → x < 4294967296 → k ≡ 4
+    → ys ≡ to_le_bytes w32 x → FourPut map (put_mid i k map ys) i x
+four_copied map i x k ys room small e is =
+    let top : x / 16777216 % 256 ≡ x / 16777216 = omega arith in
+    rw (e, is, four_cells map i (x % 256) (x / 256 % 256) (x / 65536 % 256) (x / 16777216 % 256) room, top)
+    (four_put map i x room small)
+
 pub entry_put : {map one two : Words} {i lo n : ℕ} → FourPut map one i lo → FourPut one two (i + 4) n
     → EntryPut map two i lo n
 entry_put {map} {one} {two} {i} x y = record {
@@ -305,20 +326,19 @@ module _ {map map' : Words} {i lo n : ℕ} (put : EntryPut map map' i lo n) (som
     }
 
 -- the search for a place goes on
-pub entry_met : (map : Words) (lo i : ℕ) → is_entries map ≡ true → i % 8 ≡ 0
-    → ((q : ℕ) → home (length map) lo ≤ q → 8 * q < i → 0 < cells_at map q) → 0 < four_at map (i + 4)
-    → (q : ℕ) → home (length map) lo ≤ q → 8 * q < i + 8 → 0 < cells_at map q
-entry_met map lo i entries whole met full q l h = go (dec_lt (8 * q) i)
+pub entry_met : (map : Words) (lo p : ℕ) → is_entries map ≡ true
+    → ((q : ℕ) → home (length map) lo ≤ q → q < p → 0 < cells_at map q) → 0 < four_at map (8 * p + 4)
+    → (q : ℕ) → home (length map) lo ≤ q → q < p + 1 → 0 < cells_at map q
+entry_met map lo p entries met full q l h = go (dec_lt q p)
   where
-    go : Dec (8 * q < i) → 0 < cells_at map q
+    go : Dec (q < p) → 0 < cells_at map q
     go (yes g) = met q l g
-    go (no g) = let at : 8 * q ≡ i = omega arith in rw (entries, at) full
+    go (no g) = let at : q ≡ p = omega arith in rw (entries, at) full
 
 -- nothing is written where all places from the first on are taken
-pub entry_full : (map : Words) (lo n i : ℕ) → length map ≤ i + 7 → is_entries map ≡ true
-    → ((q : ℕ) → home (length map) lo ≤ q → 8 * q < i → 0 < cells_at map q) → Grows map map lo n
-entry_full map lo n i end entries met =
-    let size = eqb_eq (length map % 8) 1 entries in
+pub entry_full : (map : Words) (lo n p : ℕ) → length map / 8 ≤ p
+    → ((q : ℕ) → home (length map) lo ≤ q → q < p → 0 < cells_at map q) → is_entries map ≡ true → Grows map map lo n
+entry_full map lo n p end met entries =
     let none : (p : ℕ) → Spare map lo p → ⊥ =
     λ p spare.
     let (l, h, bare) = spare entries in
@@ -347,81 +367,44 @@ get_d_past [] k h = refl
 get_d_past (x ∷ l) zero h = absurd (omega arith)
 get_d_past (x ∷ l) (suc k) h = get_d_past l k (omega arith)
 
--- a search in entries has come to the one at byte i
-pub record Searching (map : Words) (k i : ℕ) : Type 0 where
-  pub whole : i % 8 ≡ 0
-  pub begin : 8 * home (length map) k ≤ i
-  pub met : (q : ℕ) → home (length map) k ≤ q → 8 * q < i → (0 < cells_at map q) × (first_at map q ≢ k)
-
-pub search_start : (map : Words) (k h : ℕ) → h ≡ home (length map) k → Searching map k (8 * h)
-search_start map k h e =
-    record { whole = omega arith; begin = omega arith; met = λ q l h. absurd (omega arith) }
-
-module _ {map : Words} {k i : ℕ} (entries : is_entries map ≡ true) (s : Searching map k i) where
-  pub search_more : 0 < four_at map (i + 4) → four_at map i ≢ k → Searching map k (i + 8)
-  search_more some unlike =
-      let whole = s.whole in
-      let begin = s.begin in
-      record { whole = omega arith; begin = omega arith; met = λ q l h. go q l h (dec_lt (8 * q) i) }
+-- a search in entries has come to place p
+module _ (map : Words) (k p : ℕ) (entries : is_entries map ≡ true) (s : Reaches map k p) where
+  pub search_more : 0 < four_at map (8 * p + 4) → four_at map (8 * p) ≢ k → Reaches map k (p + 1)
+  search_more some unlike = (omega (arith, s.0), λ q l h. go q l h (dec_lt q p))
     where
-      go : (q : ℕ) → home (length map) k ≤ q → 8 * q < i + 8 → Dec (8 * q < i)
-          → (0 < cells_at map q) × (first_at map q ≢ k)
-      go q l h (yes g) = s.met q l g
-      go q l h (no g) =
-          let whole = s.whole in
-          let at : 8 * q ≡ i = omega arith in
-          (rw (entries, at) some, rw (entries, at) unlike)
+      go : (q : ℕ) → home (length map) k ≤ q → q < p + 1 → Dec (q < p) → (0 < cells_at map q) × (first_at map q ≢ k)
+      go q l h (yes g) = s.1 q l g
+      go q l h (no g) = let at : q ≡ p = omega arith in (rw (entries, at) some, rw (entries, at) unlike)
 
-  pub search_found : (n : ℕ) → 0 < n → four_at map i ≡ k → n ≡ four_at map (i + 4) → Next map k n
-  search_found n some first units =
-      let whole = s.whole in
-      let begin = s.begin in
-      let place : 8 * (i / 8) ≡ i = omega arith in
-      record {
-        place = i / 8;
-        is = rw (entries, place) first;
-        units = rw (entries, place) (sym units);
-        some = some;
-        reached = λ e. (omega arith, λ q l h. s.met q l (omega arith));
-      }
+  pub search_found : (n : ℕ) → 0 < n → four_at map (8 * p) ≡ k → n ≡ four_at map (8 * p + 4) → Next map k n
+  search_found n some first units = record {
+    place = p;
+    is = rw entries first;
+    units = rw entries (sym units);
+    some = some;
+    reached = λ e. s;
+  }
 
   -- an empty entry, or the end
-  pub search_none : (x : ℕ) → Next map k x → (i + 7 < length map → four_at map (i + 4) ≡ 0) → ⊥
-  search_none x f empty =
-      let units : four_at map (8 * f.place + 4) ≡ x = rw entries at f.units in
-      let some = f.some in
-      let (low, before) = f.reached entries in
-      go low before units some (dec_lt (8 * f.place) i) (dec_lt i (8 * f.place)) (dec_lt (i + 7) (length map))
+  pub search_none : (p < length map / 8 → four_at map (8 * p + 4) ≡ 0) → (x : ℕ) → Next map k x → ⊥
+  search_none empty x f =
+      go (f.reached entries) (rw entries at f.units) f.some (dec_lt f.place p) (dec_lt p f.place)
+      (dec_lt p (length map / 8))
     where
-      go : home (length map) k ≤ f.place
-          → ((q : ℕ) → home (length map) k ≤ q → q < f.place → (0 < cells_at map q) × (first_at map q ≢ k))
-          → four_at map (8 * f.place + 4) ≡ x → 0 < x → Dec (8 * f.place < i) → Dec (i < 8 * f.place)
-          → Dec (i + 7 < length map) → ⊥
-      go low before units some (yes l) d e = (s.met f.place low l).1 f.is
-      go low before units some (no l) (no g) (yes e) =
-          let at : i ≡ 8 * f.place = omega (arith, s.whole) in
-          let zero : four_at map (8 * f.place + 4) ≡ 0 = ap (λ j. four_at map (j + 4)) (sym at) ∙ empty e in
+      go : Reaches map k f.place → four_at map (8 * f.place + 4) ≡ x → 0 < x → Dec (f.place < p) → Dec (p < f.place)
+          → Dec (p < length map / 8) → ⊥
+      go r units some (yes l) d e = (s.1 f.place r.0 l).1 f.is
+      go r units some (no l) (no g) (yes e) =
+          let at : f.place ≡ p = omega arith in
+          let zero : four_at map (8 * f.place + 4) ≡ 0 = ap (λ j. four_at map (8 * j + 4)) at ∙ empty e in
           omega arith
-      go low before units some (no l) (yes g) (yes e) =
-          let whole = s.whole in
-          let begin = s.begin in
-          let place : 8 * (i / 8) ≡ i = omega arith in
-          let full : 0 < four_at map (i + 4) = rw (entries, place) at (before (i / 8) (omega arith) (omega arith)).0 in
+      go r units some (no l) (yes g) (yes e) =
+          let full : 0 < four_at map (8 * p + 4) = rw entries at (r.1 p s.0 g).0 in
           omega (arith, empty e)
-      go low before units some (no l) d (no e) =
+      go r units some (no l) d (no e) =
           let size = eqb_eq (length map % 8) 1 entries in
-          let whole = s.whole in
-          let past : length map ≤ 8 * f.place + 4 = omega arith in
-          let b = get_d_past map (8 * f.place + 4) past in
-          let b' = get_d_past map (8 * f.place + 4 + 1) (omega arith) in
-          let b'' = get_d_past map (8 * f.place + 4 + 2) (omega arith) in
-          let b''' = get_d_past map (8 * f.place + 4 + 3) (omega arith) in
+          let at0 = get_d_past map (8 * f.place + 4) (omega arith) in
+          let at1 = get_d_past map (8 * f.place + 4 + 1) (omega arith) in
+          let at2 = get_d_past map (8 * f.place + 4 + 2) (omega arith) in
+          let at3 = get_d_past map (8 * f.place + 4 + 3) (omega arith) in
           omega arith
-
-  -- an entry that begins with cell k says how many cells it has, and none if it is empty
-  pub search_told : (n : ℕ) → four_at map i ≡ k → n ≡ four_at map (i + 4) → (x : ℕ) → Next map k x → n ≡ x
-  search_told n first units x f = go (dec_lt 0 n)
-    where
-      go : Dec (0 < n) → n ≡ x
-      go (yes some) = next_one (search_found n some first units) f
-      go (no none) = absurd (search_none x f (λ e. omega arith))

@@ -1,6 +1,6 @@
 -- The map of a table's records: spans of cells that are held, each in its place; and what the whole test says. 01, "Stored
 -- form of the tree pool". Assumes nothing.
-use Rattle.std.specs.Prelude.{ℕ, ◌+◌, ◌-◌, ◌*◌, ◌/◌, ◌%◌, ◌≤◌, ◌<◌, ◌≡◌, ◌≢◌, Bool, true, false, cond, eqb, length, get_or}
+use Rattle.std.specs.Prelude.{ℕ, ◌+◌, ◌-◌, ◌*◌, ◌/◌, ◌%◌, ◌≤◌, ◌<◌, ◌≡◌, ◌≢◌, Bool, true, false, cond, eqb, length, get_or, Option, MatchOption}
 use Rattle.words.specs.Lists.{Words}
 use Rattle.ledger.specs.declared.Rule.{Rule}
 use Rattle.ledger.specs.Records.{record_at, records_of, slots, is_live}
@@ -60,6 +60,10 @@ pub record Next (map : Words) (k n : ℕ) : Type 0 where
   pub units : cells_at map place ≡ n
   pub some : 0 < n
   pub reached : is_entries map ≡ true → Reaches map k place
+
+-- what a search for the span from cell k on answers
+abbrev pub Found : Words → ℕ → Option ℕ → Type 0
+Found map k found = MatchOption found ((n : ℕ) → Next map k n → ⊥) (λ n. (n < 4294967296) × Next map k n)
 
 -- searches lead from cell lo to cell hi
 abbrev pub Leads : Words → ℕ → ℕ → Type 0

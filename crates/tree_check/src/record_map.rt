@@ -7,7 +7,7 @@ ghost use Rattle.words.specs.Flags.{Says};
 ghost use Rattle.ledger.specs.Records.{slots, records_of};
 ghost use Rattle.ledger.specs.Units.{first, valid};
 ghost use Rattle.stored_forms.specs.Tree.{form_of, form_rule, cells_per_unit};
-ghost use Rattle.tree_check.specs.Maps.{four_at, is_entries, home, Next, Leads, Roomy, Grows, FourPut, most};
+ghost use Rattle.tree_check.specs.Maps.{four_at, is_entries, home, Found, Leads, Roomy, Grows, FourPut, most};
 ghost use Rattle.tree_check.specs.Maps.{Mapped};
 
 use ledger::{Row, Rule};
@@ -26,15 +26,12 @@ fn byte_at(map: &[u8], i: usize) -> usize
     map[i] as usize
 }
 
-// Four bytes as one number.
+// Four bytes as one number, the lowest first.
 fn four_at(map: &[u8], i: usize) -> usize
     requires { i + 3 < length map.now }
     ensures { (result < 4294967296) × (result ≡ four_at map.now i) }
 {
-    byte_at(map, i)
-        + 256 * byte_at(map, i + 1)
-        + 65536 * byte_at(map, i + 2)
-        + 16777216 * byte_at(map, i + 3)
+    u32::from_le_bytes([map[i], map[i + 1], map[i + 2], map[i + 3]]) as usize
 }
 
 // Writes a number in four bytes.
@@ -42,10 +39,7 @@ fn put_four(map: &mut [u8], i: usize, x: usize)
     requires { (i + 3 < length map.old) × (x < 4294967296) }
     ensures { FourPut map.old map.new i x }
 {
-    map[i] = (x % 256) as u8;
-    map[i + 1] = (x / 256 % 256) as u8;
-    map[i + 2] = (x / 65536 % 256) as u8;
-    map[i + 3] = (x / 16777216) as u8;
+    map[i..i + 4].copy_from_slice(&(x as u32).to_le_bytes());
 }
 
 // The place where the search for cell k begins, in a map of so many bytes.
@@ -59,24 +53,22 @@ fn home_of(bytes: usize, k: usize) -> usize
     k * 2654435761 % 4294967296 / 8388608
 }
 
-// The cells of an entry for the record from cell k on, 0 if there is none. The search begins at the home of cell k, and
-// ends at an empty entry.
-fn entry_for(map: &[u8], k: usize) -> usize
+// The cells of the entry for the record from cell k on. The search begins at the home of cell k, and ends at an empty
+// entry.
+fn entry_for(map: &[u8], k: usize) -> Option<usize>
     requires { (is_entries map.now ≡ true) × (k < 4294967296) }
-    ensures upper_bound { (result < 4294967296) × (0 < result → Next map.now k result) }
-    ensures by_index { (x : ℕ) → Next map.now k x → result ≡ x }
+    ensures { Found map.now k result }
 {
-    let mut i = 8 * home_of(map.len(), k);
-    while i + 7 < map.len() {
-        if four_at(map, i) == k {
-            return four_at(map, i + 4);
+    for place in home_of(map.len(), k)..map.len() / 8 {
+        let n = four_at(map, 8 * place + 4);
+        if n == 0 {
+            return None;
         }
-        if four_at(map, i + 4) == 0 {
-            return 0;
+        if four_at(map, 8 * place) == k {
+            return Some(n);
         }
-        i += 8;
     }
-    0
+    None
 }
 
 // Writes an entry for n cells from cell lo on, where the first empty one is. Should all be taken, nothing is written.
@@ -84,29 +76,29 @@ fn note_entry(map: &mut [u8], lo: usize, n: usize)
     requires { (lo < 4294967296) × (0 < n) × (n < 4294967296) × (is_entries map.old ≡ true) }
     ensures { Grows map.old map.new lo n }
 {
-    let mut i = 8 * home_of(map.len(), lo);
-    while i + 7 < map.len() {
-        if four_at(&*map, i + 4) == 0 {
-            put_four(&mut *map, i, lo);
-            put_four(&mut *map, i + 4, n);
+    for place in home_of(map.len(), lo)..map.len() / 8 {
+        if four_at(&*map, 8 * place + 4) == 0 {
+            put_four(&mut *map, 8 * place, lo);
+            put_four(&mut *map, 8 * place + 4, n);
             return;
         }
-        i += 8;
     }
 }
 
 // ---- either map
 
-// How many cells from cell k on the map knows to be held, 0 if of none.
-fn span_at(map: &[u8], k: usize) -> usize
+// How many cells from cell k on the map knows to be held.
+fn span_at(map: &[u8], k: usize) -> Option<usize>
     requires { (k < 4294967296) × Roomy map.now (k + 1) }
-    ensures upper_bound { (result < 4294967296) × (0 < result → Next map.now k result) }
-    ensures by_index { (x : ℕ) → Next map.now k x → result ≡ x }
+    ensures { Found map.now k result }
 {
     if map.len() % 8 == 1 {
         return entry_for(&*map, k);
     }
-    byte_at(&*map, k)
+    match byte_at(&*map, k) {
+        0 => None,
+        n => Some(n),
+    }
 }
 
 // Whether records lead from cell lo to cell hi, without a cell left over.
@@ -116,10 +108,9 @@ pub fn leads_to(map: &[u8], lo: usize, hi: usize) -> bool
 {
     let mut k = lo;
     while k < hi {
-        let n = span_at(map, k);
-        if n == 0 {
+        let Some(n) = span_at(map, k) else {
             return false;
-        }
+        };
         k += n;
     }
     k == hi

@@ -29,7 +29,9 @@ use Rattle.record_table.proofs.PartitionLaws.{valid_exact}
 use Rattle.tree_check.specs.declared.Head.{Head}
 use Rattle.tree_check.specs.Maps.{Leads, CoversAll, Mapped, Shown}
 use Rattle.words.specs.Flags.{Says}
-use Rattle.tree_check.specs.Walk.{Linked, Walked, Apart, ends, LiesAt, Passes}
+use Rattle.std.specs.Prelude.{Option, Some}
+use Rattle.std.proofs.lemmas.Option.{some_pair_parts}
+use Rattle.tree_check.specs.Walk.{Linked, Walked, Apart, ends, LiesAt, Meets}
 use Rattle.record_table.proofs.LeadLaws.{leads_up}
 use Rattle.tree_check.proofs.LeadLaws.{leads_cover}
 use Rattle.tree_check.proofs.GapLaws.{gapped_wider}
@@ -127,12 +129,14 @@ module _ (h : Head) (m : Words) where
           let same = length-map rs (scaled p) in
           rw order (omega (arith, length_records t))
 
-      module _ {end sum : ℕ} (pass : Passes F m spans N h.root (N + 1) 0 (slots t + 1) 0 end sum) where
-        met : (end ≡ ends 0 blocks) × (sum ≡ 0 + total blocks)
-        met = let order = inorder_tree_of blocks in rw order at (pass.meets (tree_of blocks) lies few_nodes)
+      -- so the walk meets it
+      pub tree_met : (met : Option (ℕ × ℕ)) → Meets F m spans N h.root (N + 1) (slots t + 1) met
+          → met ≡ Some (ends 0 blocks, total blocks)
+      tree_met met meets = let order = inorder_tree_of blocks in rw order at (meets (tree_of blocks) lies few_nodes)
 
-        pub end_low : end ≤ N
-        end_low = let up = leads_up runs_apart.1 in omega (arith, met.0)
+      module _ (end sum : ℕ) (meets : Meets F m spans N h.root (N + 1) (slots t + 1) (Some (end, sum))) where
+        met : (end ≡ ends 0 blocks) × (sum ≡ total blocks)
+        met = some_pair_parts end _ sum _ (tree_met (Some (end, sum)) meets)
 
         end_leads : Leads spans end N
         end_leads = subst (λ k. Leads spans k N) (sym met.0) runs_apart.1
@@ -152,14 +156,14 @@ module _ (h : Head) (m : Words) where
     -- what the last two tests say, together, of the cells as they were counted
     pub both_say : {limit : ℕ} {spans : Words} {held end sum n q : ℕ} (b : Bool) → n ≡ N → q ≡ p
         → Mapped ρ p (length m) h.next t held spans → Walked F m spans N h.root limit 0 0 end sum
-        → Passes F m spans N h.root (N + 1) 0 (slots t + 1) 0 end sum → Says b (Leads spans end n)
+        → Meets F m spans N h.root (N + 1) (slots t + 1) (Some (end, sum)) → Says b (Leads spans end n)
         → Says (b && eqb (sum + held * q) n) (Shown h m t)
-    both_say {limit} {spans} {held} {end} {sum} {n} {q} b is pers mapped x pass says =
+    both_say {limit} {spans} {held} {end} {sum} {n} {q} b is pers mapped x meets says =
         rw (is, pers) (
           (λ e. blocks_stored mapped x (leads_cover (behind.0 (and_l b (eqb known N) e)))
               (eqb_eq known N (and_r b (eqb known N) e))),
-          λ shown. and_i b (eqb known N) (behind.1 (end_leads spans held mapped shown pass))
-              (ap (λ k. eqb k N) (end_exact spans held mapped shown pass) ∙ eqb_same N),
+          λ shown. and_i b (eqb known N) (behind.1 (end_leads spans held mapped shown end sum meets))
+              (ap (λ k. eqb k N) (end_exact spans held mapped shown end sum meets) ∙ eqb_same N),
         )
       where
         known : ℕ
@@ -177,11 +181,9 @@ pub cells_few : (f held q : ℕ) → held ≤ 1048576 → q ≡ cells_per_unit (
 cells_few f held q low e = mul-le-mul {n₂ = 1048576} {m₂ = 4} low (rw e (few_cells f))
 
 -- limits that were counted
-pub limit_is : {F : Form} {m map : Words} {N l k before next free x y u v : ℕ} → x ≡ y → u ≡ v
-    → Passes F m map N l (x + 1) k (u + 1) before next free → Passes F m map N l (y + 1) k (v + 1) before next free
-limit_is {F} {m} {map} {N} {l} {k} {before} {next} {free} {x} {y} {u} {v} e d p =
-    subst (λ n. Passes F m map N l (n + 1) k (v + 1) before next free) e
-    (subst (λ j. Passes F m map N l (x + 1) k (j + 1) before next free) d p)
+pub limit_is : (F : Form) (m map : Words) (N l : ℕ) {x y u v : ℕ} → x ≡ y → u ≡ v → (met : Option (ℕ × ℕ))
+    → Meets F m map N l (x + 1) (u + 1) met → Meets F m map N l (y + 1) (v + 1) met
+limit_is F m map N l e d met meets = rw (sym e, sym d) meets
 
 -- an arena has no more cells than words
 pub cells_low : (F : Form) (m : Words) → Linked F m → cells F m ≤ 1048576

@@ -1,6 +1,6 @@
 -- A walk of the free tree, on any memory: where it finds nothing wrong, the nodes met from left to right are free
 -- blocks, and records lie side by side from each to the next. 01, "Stored form of the tree pool". Assumes nothing.
-use Rattle.std.specs.Prelude.{ℕ, ◌+◌, ◌%◌, ◌≤◌, ◌<◌, min, ◌≡◌, Bool, true, false, List, [], ◌∷◌, ltb, length}
+use Rattle.std.specs.Prelude.{ℕ, ◌+◌, ◌%◌, ◌≤◌, ◌<◌, min, ◌≡◌, Bool, true, false, List, [], ◌∷◌, ltb, length, Option, Some}
 use Rattle.words.specs.Lists.{Words, all}
 use Rattle.ledger.specs.Runs.{Run, Gapped, covered}
 use Rattle.stored_forms.specs.Tree.{Tree, link, inorder, Heaped, Form}
@@ -82,3 +82,9 @@ pub record LiesAt (F : Form) (m map : Words) (N l limit k : ℕ) (t : Tree) : Ty
 pub record Passes (F : Form) (m map : Words) (N l limit k allowed before next free : ℕ) : Type 0 where
   pub meets : (t : Tree) → LiesAt F m map N l limit k t → length (inorder t) ≤ allowed
       → (next ≡ ends k (inorder t)) × (free ≡ before + total (inorder t))
+
+-- what the walk of the whole tree at the link l, of no more nodes than are allowed, answers where such a tree lies
+abbrev pub Meets : Form → Words → Words → ℕ → ℕ → ℕ → ℕ → Option (ℕ × ℕ) → Type 0
+Meets F m map N l limit allowed met =
+    (t : Tree) → LiesAt F m map N l limit 0 t → length (inorder t) ≤ allowed
+    → met ≡ Some (ends 0 (inorder t), total (inorder t))

@@ -35,44 +35,32 @@ pub struct Head {
 
 // ---- the stored form
 
-// Whether the pool is stored, by a map that comes in all zero and m residues of tickets.
+// Whether the pool is stored, by a map and by residues of tickets that come in all zero.
 fn is_shown_over(
     head: Head,
     arena: &[u32],
     table: &[u32],
     map: &mut [u8],
     seen: &mut [u8],
-    m: usize,
 ) -> bool
     requires linked { Linked (form_of head.form) arena.now }
     requires table_bound { (slots table.now ≤ 256) × (slots table.now ≤ most map.old) }
     requires roomy { Roomy map.old (cells (form_of head.form) arena.now) × (all is_zero map.old ≡ true) }
-    requires m_nonzero { (0 < m) × (length seen.old ≡ m) }
+    requires seen_nonzero { 0 < length seen.old }
     ensures { Says result (Shown head arena.now table.now) }
 {
+    let form = head.form;
     let words = arena.len();
-    let held = map_rows(
-        head.form, head.next, &*table, words, &mut *map, &mut *seen, m,
-    );
-    if words < held {
+    let Some(held) = map_rows(form, head.next, &*table, words, &mut *map, &mut *seen) else {
         return false;
-    }
-    let count = cell_count(head.form, words);
+    };
+    let count = cell_count(form, words);
     let allowed = slot_count(&*table) + 1;
-    let mut sum: usize = 0;
-    let end = walk_all(
-        head.form,
-        &*arena,
-        &*map,
-        head.root as usize,
-        count + 1,
-        &mut sum,
-        allowed,
-    );
-    if count < end {
+    let root = head.root as usize;
+    let Some((end, free)) = walk_all(form, &*arena, &*map, root, count + 1, allowed) else {
         return false;
-    }
-    let known = sum + held * cells_per_unit(head.form);
+    };
+    let known = free + held * cells_per_unit(form);
     leads_to(map, end, count) & (known == count)
 }
 
@@ -92,7 +80,7 @@ fn is_shown_in<const MAP: usize, const SEEN: usize>(
 {
     let mut map: [u8; MAP] = [0; MAP];
     let mut seen: [u8; SEEN] = [0; SEEN];
-    is_shown_over(head, &*arena, &*table, &mut map, &mut seen, SEEN)
+    is_shown_over(head, &*arena, &*table, &mut map, &mut seen)
 }
 
 // Pools of more than 512 cells or 16 records. It stays a call, so that its maps are out of the frame of small pools.

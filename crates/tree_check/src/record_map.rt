@@ -1,7 +1,7 @@
 // The map of a table's records: of each, the cells that it holds, in a row from its first cell on. Free blocks are held
 // against it: what lies between two of them has to be records.
 // Slices are lent on as `&*slice`, which keeps pointer and length in registers (docs/DECISIONS.md, what crosses calls).
-ghost use Rattle.std.specs.Prelude.{◌≡◌, true, false, ℕ, ◌+◌, ◌*◌, ◌/◌, ◌%◌, ◌<◌, ◌≤◌, length, get_or};
+ghost use Rattle.std.specs.Prelude.{◌≡◌, true, false, ◌+◌, ◌*◌, ◌/◌, ◌%◌, ◌<◌, ◌≤◌, length, get_or, IfSome, IsSome};
 ghost use Rattle.words.specs.Lists.{all, is_zero};
 ghost use Rattle.words.specs.Flags.{Says};
 ghost use Rattle.ledger.specs.Records.{slots, records_of};
@@ -147,9 +147,8 @@ fn note_row(map: &mut [u8], rule: Rule, r: Row, n: usize, per: usize)
     note_span(&mut *map, lo, count);
 }
 
-// Enters all slots, and the records in a map that is all zero. Their units together, or more than the arena's words if
-// a slot may not be entered, or they have more units together than that: so no more is noted than the arena has room
-// for.
+// Enters all slots, and the records in a map that is all zero. Their units together; none if a slot may not be entered,
+// or they have more units together than the arena has words: so no more is noted than the arena has room for.
 pub fn map_rows(
     form: u32,
     next: u32,
@@ -157,37 +156,34 @@ pub fn map_rows(
     words: usize,
     map: &mut [u8],
     seen: &mut [u8],
-    m: usize,
-) -> usize
+) -> Option<usize>
     requires table_bound { (slots table.now ≤ 256) × (words ≤ 1048576) × Roomy map.old (words / (form_of form).cell) }
-    requires map_value { (all is_zero map.old ≡ true) × (0 < m) × (length seen.old ≡ m) }
+    requires map_value { (all is_zero map.old ≡ true) × (0 < length seen.old) }
     requires table_bound_2 { (slots table.now ≤ most map.old) × (words % (form_of form).unit ≡ 0) }
-    ensures mapped { result ≤ words → Mapped (form_rule (form_of form)) (cells_per_unit (form_of form)) words next
-        table.now result map.new }
-    ensures upper_bound { valid (form_rule (form_of form)) words next (records_of table.now) ≡ true → result ≤ words }
+    ensures mapped { IfSome result (λ held. (held ≤ words) × Mapped (form_rule (form_of form))
+        (cells_per_unit (form_of form)) words next table.now held map.new) }
+    ensures found { valid (form_rule (form_of form)) words next (records_of table.now) ≡ true → IsSome result }
 {
     let count = record_table::slot_count(table);
     let first = record_table::first_live(table);
     let rule = rule_of(form);
     let per = cells_per_unit(form);
+    let m = seen.len();
     let mut held: usize = 0;
-    let mut i = first;
-    while i < count {
+    for i in first..count {
         let r = record_table::read_row(table, i);
         if record_table::is_empty(r) {
-            i += 1;
             continue;
         }
         if !record_table::may_enter(rule, words, next, table, i, r, &mut *seen, m) {
-            return words + 1;
+            return None;
         }
         let n = record_table::span_of(rule, r.words);
         if words - held < n {
-            return words + 1;
+            return None;
         }
         note_row(&mut *map, rule, r, n, per);
         held += n;
-        i += 1;
     }
-    held
+    Some(held)
 }

@@ -1,9 +1,9 @@
 // The walk of the free tree, over any memory (01, "The soundness check visits the tree left part, node, right part").
-ghost use Rattle.std.specs.Prelude.{◌+◌, ◌<◌, ◌≤◌};
+ghost use Rattle.std.specs.Prelude.{◌+◌, ◌<◌, ◌≤◌, IfSome};
 ghost use Rattle.words.specs.Flags.{Says};
 ghost use Rattle.stored_forms.specs.Tree.{form_of};
 ghost use Rattle.tree_nodes.specs.Nodes.{cells};
-ghost use Rattle.tree_check.specs.Walk.{Ready, Between, NodeFollows, Walked, Passes};
+ghost use Rattle.tree_check.specs.Walk.{Ready, Between, NodeFollows, Walked, Passes, Meets};
 
 use crate::record_map::leads_to;
 use tree_nodes::forms::cell_count;
@@ -112,22 +112,25 @@ fn walk(
     )
 }
 
-// The walk of the whole tree, from its root on.
+// The walk of the whole tree, from its root on: the cell past the last block, 0 if there is none, and how many cells the
+// blocks have together; none if something is wrong.
 pub fn walk_all(
     form: u32,
     arena: &[u32],
     map: &[u8],
     root: usize,
     limit: usize,
-    free: &mut usize,
     allowed: usize,
-) -> usize
-    requires { Ready (form_of form) arena.now map.now (cells (form_of form) arena.now) × (free.old ≤ 0) }
-    ensures walked { result ≤ cells (form_of form) arena.now
-        → Walked (form_of form) arena.now map.now (cells (form_of form) arena.now) root
-        limit 0 free.old result free.new }
-    ensures passes { Passes (form_of form) arena.now map.now
-        (cells (form_of form) arena.now) root limit 0 allowed free.old result free.new }
+) -> Option<(usize, usize)>
+    requires { Ready (form_of form) arena.now map.now (cells (form_of form) arena.now) }
+    ensures walked { IfSome result (λ met. Walked (form_of form) arena.now map.now (cells (form_of form) arena.now) root
+        limit 0 0 met.0 met.1) }
+    ensures meets { Meets (form_of form) arena.now map.now (cells (form_of form) arena.now) root limit allowed result }
 {
-    walk(form, &arena, &map, root, limit, 0, &mut *free, allowed)
+    let mut free = 0;
+    let end = walk(form, &arena, &map, root, limit, 0, &mut free, allowed);
+    if cell_count(form, arena.len()) < end {
+        return None;
+    }
+    Some((end, free))
 }

@@ -13,12 +13,14 @@ ghost use Rattle.ledger.specs.Records.{slots};
 ghost use Rattle.stored_forms.specs.Tree.{form_of};
 ghost use Rattle.tree_nodes.specs.Nodes.{cells};
 ghost use Rattle.calls.specs.Pool.{lengths, stored};
+ghost use Rattle.calls.specs.Refusals.{number_in};
 ghost use Rattle.calls.specs.Step.{GateIs};
 ghost use Rattle.calls.specs.Engines.{tree_engine};
 ghost use Rattle.tree_check.specs.Maps.{Roomy, most, Shown};
 ghost use Rattle.tree_check.specs.Walk.{Linked};
 ghost use Rattle.tree_check.specs.Gate.{tree_pool, RightLengths};
 
+use calls::Refusal;
 use record_map::{leads_to, map_rows};
 use record_table::slot_count;
 use tree_nodes::forms::{cell_count, cells_per_unit, is_form, is_range};
@@ -26,7 +28,7 @@ use tree_walk::walk_all;
 
 // What a call of the tree pool is passed and hands back: the root link, the next ticket, 0 when none is left, and the
 // number of the pool's form.
-#[derive(Clone, Copy)]
+#[derive(Clone, Copy, PartialEq, Eq)]
 pub struct Head {
     pub root: u32,
     pub next: u32,
@@ -36,13 +38,7 @@ pub struct Head {
 // ---- the stored form
 
 // Whether the pool is stored, by a map and by residues of tickets that come in all zero.
-fn is_shown_over(
-    head: Head,
-    arena: &[u32],
-    table: &[u32],
-    map: &mut [u8],
-    seen: &mut [u8],
-) -> bool
+fn is_shown_over(head: Head, arena: &[u32], table: &[u32], map: &mut [u8], seen: &mut [u8]) -> bool
     requires linked { Linked (form_of head.form) arena.now }
     requires table_bound { (slots table.now ≤ 256) × (slots table.now ≤ most map.old) }
     requires roomy { Roomy map.old (cells (form_of head.form) arena.now) × (all is_zero map.old ≡ true) }
@@ -150,18 +146,18 @@ fn is_stored(head: Head, arena: &[u32], table: &[u32]) -> bool
     is_shown(head, &*arena, &*table)
 }
 
-// The number of the tests that stand before every call: 11, 8, 1, or 0 for a sound pool.
-pub fn gate_number(head: Head, arena: &[u32], table: &[u32]) -> u32
-    ensures { GateIs tree_engine (tree_pool head arena.now table.now) result }
+// The tests that stand before every call: a known form, then right lengths, then a sound pool.
+pub fn gate(head: Head, arena: &[u32], table: &[u32]) -> Result<(), Refusal>
+    ensures { GateIs tree_engine (tree_pool head arena.now table.now) (number_in result) }
 {
     if !is_form(head.form) {
-        return 11;
+        return Err(Refusal::UnknownForm);
     }
     if !right_lengths(head.form, &*arena, &*table) {
-        return 8;
+        return Err(Refusal::BadLengths);
     }
     if !is_stored(head, &*arena, &*table) {
-        return 1;
+        return Err(Refusal::Damaged);
     }
-    0
+    Ok(())
 }

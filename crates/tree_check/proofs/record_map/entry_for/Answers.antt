@@ -12,9 +12,11 @@ returns-then-n-eq0 c =
 pub returns-then-four_at-k : goal.returns-then-four_at-k
 returns-then-four_at-k c =
     let first = c.four_at.ensures.1 in
-    let units = c.four_at-n.ensures in
-    (units.0, search_found c.args.map.now c.args.k c.loop-place.place c.requires.0 c.loop-place.invariant _ (omega arith)
-    (sym first ∙ c.if-four_at-k.true) units.1)
+    let units = c.four_at-n.ensures in (
+      units.0,
+      search_found c.args.map.now c.args.k c.loop-place.place c.requires.0 c.loop-place.invariant _ (omega arith)
+          (sym first ∙ c.if-four_at-k.true) units.1,
+    )
 
 pub loop-place-preserved : goal.loop-place-preserved
 loop-place-preserved c =

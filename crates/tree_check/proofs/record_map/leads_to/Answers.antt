@@ -6,9 +6,10 @@ use Rattle.tree_check.proofs.LeadLaws.{leads_none, leads_step, leads_says}
 use Rattle.tree_check.proofs.record_map.leads_to.Goals as goal
 
 pub returns-in_default : goal.returns-in_default
-returns-in_default c =
-    ((λ e. absurd (false≢true e)),
-    λ x. absurd (leads_none (omega arith) c.in_default.ensures (c.loop-k.invariant.1 x)))
+returns-in_default c = (
+  (λ e. absurd (false≢true e)),
+  λ x. absurd (leads_none (omega arith) c.in_default.ensures (c.loop-k.invariant.1 x)),
+)
 
 pub loop-k-preserved : goal.loop-k-preserved
 loop-k-preserved c =

@@ -9,12 +9,12 @@ use Rattle.ledger.specs.Records.{slots, record_at, records_of, is_empty}
 use Rattle.ledger.specs.declared.Row.{Row}
 use Rattle.ledger.specs.declared.Rule.{Rule}
 use Rattle.ledger.specs.Units.{first, valid}
-use Rattle.stored_forms.specs.Tree.{form_of, form_rule, cells_per_unit}
+use Rattle.stored_forms.specs.Tree.{form_of, form_rule}
 use Rattle.stored_forms.proofs.NodeLaws.{form_unit}
 use Rattle.record_table.specs.Partition.{Joins}
 use Rattle.record_table.proofs.PartitionLaws.{valid_row, valid_new}
 use Rattle.record_table.proofs.EnterLaws.{enter_next}
-use Rattle.tree_check.specs.Maps.{Grows, Mapped}
+use Rattle.tree_check.specs.Maps.{Grows}
 use Rattle.tree_check.proofs.MapLaws.{map_start, map_next, map_skip, map_pass, map_end, units_inside, rows_few}
 use Rattle.tree_check.proofs.MapLaws.{some_units, some_cells, units_cells}
 use Rattle.tree_check.proofs.record_map.map_rows.Goals as goal

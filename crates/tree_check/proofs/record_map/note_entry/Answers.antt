@@ -1,7 +1,7 @@
 -- `tree_check::record_map::note_entry` meets its contract: all places before `place` are taken, and nothing is written
 -- yet. Assumes nothing.
 use native.Mathlib.Omega.{arith}
-use mathlib.Core.Path.{◌∙◌, sym, subst}
+use mathlib.Core.Path.{subst}
 use Rattle.words.specs.Lists.{Words}
 use Rattle.tree_check.specs.Maps.{Grows}
 use Rattle.tree_check.proofs.SpanLaws.{entry_put, entry_grows}

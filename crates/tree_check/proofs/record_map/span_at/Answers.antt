@@ -9,6 +9,7 @@ use Rattle.tree_check.proofs.record_map.span_at.Goals as goal
 pub returns-in_default : goal.returns-in_default
 returns-in_default c =
     let a = c.args in
-    let (low, is) = c.byte_at.ensures in
-    (omega arith,
-    subst (Next a.map.now a.k) (sym is) (byte_next a.map.now a.k (eqb_ne _ _ c.if-map-eq1.false) (omega arith)))
+    let (low, is) = c.byte_at.ensures in (
+      omega arith,
+      subst (Next a.map.now a.k) (sym is) (byte_next a.map.now a.k (eqb_ne _ _ c.if-map-eq1.false) (omega arith)),
+    )

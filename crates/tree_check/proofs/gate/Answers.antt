@@ -1,9 +1,9 @@
--- `tree_check::gate_number` meets its contract, by the test that led to each number. Assumes nothing.
+-- `tree_check::gate` meets its contract, by the test that led to each refusal. Assumes nothing.
 use mathlib.Core.Path.{◌∙◌, refl, sym}
 use Rattle.calls.specs.Engines.{tree_engine}
 use Rattle.calls.proofs.GateLaws.{is_eleven, is_eight, is_one, is_zero}
 use Rattle.tree_check.specs.Gate.{tree_pool}
-use Rattle.tree_check.proofs.gate_number.Goals as goal
+use Rattle.tree_check.proofs.gate.Goals as goal
 
 pub returns-then-not-is_form : goal.returns-then-not-is_form
 unfolding tree_engine

@@ -3,7 +3,8 @@ use Prim.Native.Nat.{ℕ, ◌+◌, ◌*◌, ◌≤◌}
 use mathlib.Core.Path.{◌≡◌, refl, sym, ap, ap₂, ◌∙◌}
 use mathlib.Core.Bool.{Bool, true, false, cond, not, ◌&&◌, ◌||◌, and-false, or-true}
 use mathlib.Core.List.{List, [], ◌∷◌, ◌++◌}
-use mathlib.Core.Option.{Option, none, some}
+use mathlib.Core.Option as plans
+use mathlib.Core.Option.{none, some}
 use native.Mathlib.Omega.{arith}
 use lib.Dec.{eqb, leb, ltb}
 use lib.ListN.{length, drop, replicate, length-append, length-replicate}
@@ -26,10 +27,7 @@ use Rattle.calls.proofs.GrantLaws.{entered, zeroed, length_zeroed, grant_store, 
 use Rattle.calls.proofs.StoreLaws.{ledger_store, words_store, shape_store}
 use Rattle.calls.proofs.Demand2.{act_sound, act_shape}
 use Rattle.tree_check.specs.Gate.{tree_pool, no_head}
-use Rattle.text.specs.declared.Pair.{Pair}
-use Rattle.text.specs.declared.Pair.TheVariants as pair
-use Rattle.text.specs.declared.Triple.{Triple}
-use Rattle.text.specs.declared.Triple.TheVariants as triple
+use Rattle.std.specs.Prelude.{Option, Some, None}
 use Rattle.text.specs.Numbers.{Bytes}
 use Rattle.text.specs.Fields.{pair_of, triple_of, line_of}
 use Rattle.text.specs.Lines.{Served, Fed, most_bytes, keep, also, feed, finish}
@@ -104,7 +102,7 @@ ours_carried =
 ours_settle : (ms : List Member) (L : Ledger) → all is_ours L ≡ true → all is_ours (settle ms L) ≡ true
 ours_settle ms = all_map (λ r. carry_if (plan_for r.ticket ms) r) is_ours (λ r. go (plan_for r.ticket ms) r)
   where
-    go : (o : Option Plan) (r : Row) → is_ours r ≡ true → is_ours (carry_if o r) ≡ true
+    go : (o : plans.Option Plan) (r : Row) → is_ours r ≡ true → is_ours (carry_if o r) ≡ true
     go none r h = h
     go (some q) r h = ours_carried r q h
 
@@ -135,11 +133,11 @@ right_act p a g h =
     (act_ours tree_engine p a g (right_ours p h))
 
 -- a line asks for party 1
-line_asks : (q : LineRequest) → asked_by (act_of q) ≡ text_party
-line_asks (request.Ask n) = refl
-line_asks (request.Give r) = refl
-line_asks (request.Cut r n) = refl
-line_asks request.Bad = refl
+line_asks : (q : Option LineRequest) → asked_by (act_of q) ≡ text_party
+line_asks (Some (request.Ask n)) = refl
+line_asks (Some (request.Give r)) = refl
+line_asks (Some (request.Cut r n)) = refl
+line_asks None = refl
 
 -- ---- a pool that P opens is one
 
@@ -172,13 +170,13 @@ right_opened w s first ns = go (leb w most_text_words) refl
     go true e = right_opening w s first ns (le_of w most_text_words e) (accepted (fresh w s first).answer) refl
     go false e = refl
 
-right_three : (t : Triple) → right_pool (three_numbers t).state ≡ true
-right_three (triple.Three w s first) = right_opened w s first (w ∷ s ∷ first ∷ [])
-right_three triple.Bad = refl
+right_three : (t : Option (ℕ × ℕ × ℕ)) → right_pool (three_numbers t).state ≡ true
+right_three (Some (w, s, first)) = right_opened w s first (w ∷ s ∷ first ∷ [])
+right_three None = refl
 
-right_two : (p : Pair) (t : Triple) → right_pool (two_numbers p t).state ≡ true
-right_two (pair.Two w s) t = right_opened w s 1 (w ∷ s ∷ [])
-right_two pair.Bad t = right_three t
+right_two : (p : Option (ℕ × ℕ)) (t : Option (ℕ × ℕ × ℕ)) → right_pool (two_numbers p t).state ≡ true
+right_two (Some (w, s)) t = right_opened w s 1 (w ∷ s ∷ [])
+right_two None t = right_three t
 
 right_first : (line : Bytes) → right_pool (first_line line).state ≡ true
 unfolding first_line

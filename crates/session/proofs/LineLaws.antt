@@ -12,10 +12,7 @@ use Rattle.words.proofs.Tests.{of_gt}
 use Rattle.calls.specs.declared.Answer.{Answer}
 use Rattle.calls.specs.Step.{accepted, answer_to}
 use Rattle.calls.specs.Engines.{tree_engine}
-use Rattle.text.specs.declared.Pair.{Pair}
-use Rattle.text.specs.declared.Pair.TheVariants as pair
-use Rattle.text.specs.declared.Triple.{Triple}
-use Rattle.text.specs.declared.Triple.TheVariants as triple
+use Rattle.std.specs.Prelude.{Option, Some, None}
 use Rattle.text.specs.Numbers.{Bytes, decimal, decimal_of}
 use Rattle.text.specs.Fields.{pair_of, triple_of, fields_of, line_of}
 use Rattle.text.specs.Lines.{Served, most_bytes}
@@ -78,13 +75,13 @@ opened_long w k first ns few =
     (served stopped (refusal_line o.answer.number)) (line_room 80 ns few) (refusal_long o.answer.number))
     (refusal_long 8)
 
-three_long : (t : Triple) → length (three_numbers t).said ≤ 35
-three_long (triple.Three w k first) = opened_long w k first (w ∷ k ∷ first ∷ []) (omega arith)
-three_long triple.Bad = refusal_long 9
+three_long : (t : Option (ℕ × ℕ × ℕ)) → length (three_numbers t).said ≤ 35
+three_long (Some (w, k, first)) = opened_long w k first (w ∷ k ∷ first ∷ []) (omega arith)
+three_long None = refusal_long 9
 
-two_long : (p : Pair) (t : Triple) → length (two_numbers p t).said ≤ 35
-two_long (pair.Two w k) t = opened_long w k 1 (w ∷ k ∷ []) (omega arith)
-two_long pair.Bad t = three_long t
+two_long : (p : Option (ℕ × ℕ)) (t : Option (ℕ × ℕ × ℕ)) → length (two_numbers p t).said ≤ 35
+two_long (Some (w, k)) t = opened_long w k 1 (w ∷ k ∷ []) (omega arith)
+two_long None t = three_long t
 
 first_long : (line : Bytes) → length (first_line line).said ≤ 35
 unfolding first_line
@@ -105,7 +102,7 @@ module _ (line : Bytes) (h : 64 < length line) where
   unfolding begins
   over_long letter = rw (of_gt (length line) 64 h, and-false)
 
-  bad_request : request_of line ≡ request.Bad
+  bad_request : request_of line ≡ None
   unfolding request_of
   bad_request = rw (over_long 65, over_long 82, over_long 84)
 
@@ -117,7 +114,7 @@ over_same : (s : Standing) (x y : Bytes) → 64 < length x → 64 < length y →
 unfolding serve
 over_same before x y h k = bad_first_lem x h ∙ sym (bad_first_lem y k)
 over_same (serving p) x y h k =
-    ap (λ (q : LineRequest). act_line p (act_of q)) (bad_request x h ∙ sym (bad_request y k))
+    ap (λ (q : Option LineRequest). act_line p (act_of q)) (bad_request x h ∙ sym (bad_request y k))
 over_same stopped x y h k = refl
 
 -- 65 bytes of a line are enough to keep

@@ -1,20 +1,12 @@
 -- The meaning of the text program, from input bytes to output bytes, over the machine. 01, "The text program". Letters
 -- and tabs are bytes: A is 65, K 75, N 78, P 80, R 82, T 84, a tab 9. Assumes nothing.
-use Rattle.std.specs.Prelude.{ℕ, ◌*◌, Bool, cond, ◌&&◌, List, [], ◌∷◌, ◌++◌, eqb, leb, length, get_or, drop, replicate}
+use Rattle.std.specs.Prelude.{ℕ, ◌*◌, Bool, cond, ◌&&◌, List, [], ◌∷◌, ◌++◌, eqb, leb, length, get_or, drop, replicate, Option, Some, None}
 use Rattle.ledger.specs.Records.{row, record_words}
 use Rattle.calls.specs.declared.Answer.{Answer}
 use Rattle.calls.specs.Pool.{Pool}
 use Rattle.calls.specs.Step.{Outcome, Act, ask, give, cut, bad, accepted, answer_to, pool_after, format, step}
 use Rattle.calls.specs.Engines.{tree_engine}
 use Rattle.tree_check.specs.Gate.{tree_pool, no_head}
-use Rattle.text.specs.declared.Number.{Number}
-use Rattle.text.specs.declared.Number.TheVariants as number
-use Rattle.text.specs.declared.Pair.{Pair}
-use Rattle.text.specs.declared.Pair.TheVariants as pair
-use Rattle.text.specs.declared.Triple.{Triple}
-use Rattle.text.specs.declared.Triple.TheVariants as triple
-use Rattle.text.specs.declared.Quad.{Quad}
-use Rattle.text.specs.declared.Quad.TheVariants as quad
 use Rattle.text.specs.Numbers.{Bytes, value_of}
 use Rattle.text.specs.Fields.{pair_of, triple_of, quad_of, line_of}
 use Rattle.text.specs.Lines.{most_bytes, Served, lines_of, serve_all}
@@ -33,33 +25,33 @@ begins s letter =
 abbrev pub text_party : ℕ
 text_party = 1
 
--- the act of a request
-abbrev pub act_of : LineRequest → Act
-act_of (request.Ask n) = ask text_party n
-act_of (request.Give r) = give r
-act_of (request.Cut r n) = cut r n
-act_of request.Bad = bad
+-- the act of a request, or of a line that is none
+abbrev pub act_of : Option LineRequest → Act
+act_of (Some (request.Ask n)) = ask text_party n
+act_of (Some (request.Give r)) = give r
+act_of (Some (request.Cut r n)) = cut r n
+act_of None = bad
 
 -- "Then A, words or R, ticket, address, words."
-abbrev pub ask_of : Number → LineRequest
-ask_of (number.Value n) = request.Ask n
-ask_of number.Bad = request.Bad
+abbrev pub ask_of : Option ℕ → Option LineRequest
+ask_of (Some n) = Some (request.Ask n)
+ask_of None = None
 
-abbrev pub give_of : Triple → LineRequest
-give_of (triple.Three t a n) = request.Give (row t a n text_party)
-give_of triple.Bad = request.Bad
+abbrev pub give_of : Option (ℕ × ℕ × ℕ) → Option LineRequest
+give_of (Some (t, a, n)) = Some (request.Give (row t a n text_party))
+give_of None = None
 
 -- "T with the same four": ticket, address, words, and words to keep (02, ticket 13)
-abbrev pub cut_of : Quad → LineRequest
-cut_of (quad.Four t a n k) = request.Cut (row t a n text_party) k
-cut_of quad.Bad = request.Bad
+abbrev pub cut_of : Option (ℕ × ℕ × ℕ × ℕ) → Option LineRequest
+cut_of (Some (t, a, n, k)) = Some (request.Cut (row t a n text_party) k)
+cut_of None = None
 
 -- every other line is bad, an empty one and a second P too
-unfoldable pub request_of : Bytes → LineRequest
+unfoldable pub request_of : Bytes → Option LineRequest
 request_of s =
     cond (begins s 65) (ask_of (value_of (drop 2 s)))
     (cond (begins s 82) (give_of (triple_of (drop 2 s)))
-    (cond (begins s 84) (cut_of (quad_of (drop 2 s))) request.Bad))
+    (cond (begins s 84) (cut_of (quad_of (drop 2 s))) None))
 
 -- ---- what a line does
 
@@ -107,13 +99,13 @@ bad_first = served stopped (refusal_line 9)
 
 -- "First line P, words, slots"; 02, ticket 2: "The text P line takes the first ticket as an optional third number,
 -- echoed if given; without it, 1."
-abbrev pub three_numbers : Triple → Served Standing
-three_numbers (triple.Three w s first) = opened w s first (w ∷ s ∷ first ∷ [])
-three_numbers triple.Bad = bad_first
+abbrev pub three_numbers : Option (ℕ × ℕ × ℕ) → Served Standing
+three_numbers (Some (w, s, first)) = opened w s first (w ∷ s ∷ first ∷ [])
+three_numbers None = bad_first
 
-abbrev pub two_numbers : Pair → Triple → Served Standing
-two_numbers (pair.Two w s) t = opened w s 1 (w ∷ s ∷ [])
-two_numbers pair.Bad t = three_numbers t
+abbrev pub two_numbers : Option (ℕ × ℕ) → Option (ℕ × ℕ × ℕ) → Served Standing
+two_numbers (Some (w, s)) t = opened w s 1 (w ∷ s ∷ [])
+two_numbers None t = three_numbers t
 
 unfoldable pub first_line : Bytes → Served Standing
 first_line s = cond (begins s 80) (two_numbers (pair_of (drop 2 s)) (triple_of (drop 2 s))) bad_first

@@ -1,92 +1,133 @@
--- A step of the search for a tab, and what a part of a line reads. Assumes nothing.
-use Prim.Native.Nat.{ℕ, suc, ◌+◌, ◌-◌, ◌≤◌, ◌<◌}
-use mathlib.Core.Bool.{true, false}
-use mathlib.Core.Path.{◌≡◌, ap, ◌∙◌}
-use native.Mathlib.Numerals.{add-one}
-use native.Mathlib.Nat.{sub-zero}
-use native.Mathlib.Omega.{arith}
-use lib.ListN.{length, get_or, take, drop, drop_of_length-le, length-drop}
-use lib.Dec.{leb}
-use lib.Seq.{drop-cons, take_all}
-use borrow.Author.Tests.{eq-eqb, ne_eqb, le-leb, lt-leb}
-use Rattle.text.specs.declared.Number.{Number}
-use Rattle.text.specs.declared.Number.TheVariants as number
-use Rattle.text.specs.declared.Pair.{Pair}
-use Rattle.text.specs.declared.Pair.TheVariants as pair
-use Rattle.text.specs.declared.Triple.{Triple}
-use Rattle.text.specs.declared.Triple.TheVariants as triple
-use Rattle.text.specs.declared.Quad.{Quad}
-use Rattle.text.specs.declared.Quad.TheVariants as quad
+-- Fields of a line: where the first tab is, and a step of the loop that reads numbers. Assumes nothing.
+use Rattle.std.proofs.Common.{ℕ, zero, suc, ◌+◌, ◌<◌, ◌≡◌, Bool, true, false, cond, not, position, drop, List, [], ◌∷◌, ◌++◌, length, take, refl, sym, ap, ◌∙◌, one-add, ne_eqb, eq-eqb, arith}
+use borrow.Author.Tests.{ltb-true, ltb-false, le-leb, lt-leb}
+use Rattle.std.proofs.lemmas.Option.{cond_some}
+use Rattle.std.specs.Prelude.{Option, Some, None, option_map, option_and_then, eqb, leb}
+use Rattle.std.specs.List.{position_or_len}
+use mathlib.Core.List.{append_assoc}
 use Rattle.text.specs.Numbers.{Bytes, value_of}
-use Rattle.text.specs.Fields.{tab_in, before_tab, after_tab, two, three, four, pair_of, triple_of, quad_of}
+use Rattle.text.specs.Fields.{tab_in, before_tab, after_tab, field_at, two, three, four, pair_of, triple_of, quad_of, with_more, numbers_of}
 
-module _ (i : ℕ) (s : Bytes) (h : i < length s) where
-  pub tab_here : get_or s i 0 ≡ 9 → tab_in (drop i s) ≡ 0
-  unfolding tab_in
-  tab_here e = rw (drop-cons s i 0 h) (simp (eq-eqb _ _ e))
+first_tab : (t : Bool) (n m : ℕ) → n ≡ m → cond (not t) (1 + n) 0 ≡ cond t 0 (suc m)
+first_tab true n m e = refl
+first_tab false n m e = one-add n ∙ ap suc e
 
-  pub tab_on : (get_or s i 0 ≡ 9 → ⊥) → tab_in (drop i s) ≡ suc (tab_in (drop (i + 1) s))
-  unfolding tab_in
-  tab_on e = rw (drop-cons s i 0 h, add-one) (simp (ne_eqb _ _ e))
-
-pub tab_end : (i : ℕ) (s : Bytes) → length s ≤ i → tab_in (drop i s) ≡ 0
+pub tab_is : (s : Bytes) → position_or_len (λ b. eqb b 9) s ≡ tab_in s
 unfolding tab_in
-tab_end i s h = rw (drop_of_length-le s h)
+tab_is [] = refl
+tab_is (b ∷ s) = first_tab (eqb b 9) _ _ (tab_is s)
 
--- a part from a start to the end is what is left when the start is dropped
-pub part_rest : (n : ℕ) (s : Bytes) → take (length s - n) (drop n s) ≡ drop n s
-part_rest n s = take_all (length s - n) (drop n s) (omega (arith, length-drop n s))
+-- the first tab, as the code finds it
+is_false : (b : Bool) (x : ℕ) → cond b (Some x) None ≡ None → b ≡ false
+is_false true x e = cc
+is_false false x e = refl
 
-pub two_is : {a b : Number} (x y : ℕ) → a ≡ number.Value x → b ≡ number.Value y → pair.Two x y ≡ two a b
-two_is x y p q = rw (p, q)
+module _ (s : Bytes) where
+  abbrev found : Option ℕ
+  found = position (λ b. eqb b 9) s
 
-pub three_is : {a : Number} {b : Pair} (x y z : ℕ) → a ≡ number.Value x → b ≡ pair.Two y z
-    → triple.Three x y z ≡ three a b
-three_is x y z p q = rw (p, q)
+  pub no_tab : None ≡ found → None ≡ field_at false s
+  no_tab e =
+      let h = rw (tab_is s) at (ltb-false _ _ (is_false _ _ (sym e))) in
+      simp (le-leb _ _ h)
 
-pub four_is : {a : Number} {b : Triple} (w x y z : ℕ) → a ≡ number.Value w → b ≡ triple.Three x y z
-    → quad.Four w x y z ≡ four a b
-four_is w x y z p q = rw (p, q)
+  pub some_tab : (t : ℕ) → Some t ≡ found → Some (take t s, drop (t + 1) s) ≡ field_at false s
+  some_tab t e =
+      let p = cond_some _ _ _ (sym e) in
+      let i : tab_in s ≡ t = sym (tab_is s) ∙ p.1 in
+      let h : t < length s = rw p.1 at (ltb-true _ _ p.0) in
+      simp (i, lt-leb _ _ h)
 
--- what is read where the first tab is at t
-module _ (s : Bytes) (t : ℕ) (e : t ≡ tab_in s) where
-  module _ (h : length s ≤ t) where
-    untabbed : leb (length s) (tab_in s) ≡ true
-    untabbed = le-leb (length s) (tab_in s) (omega arith)
+-- numbers before those of the fields that are left
+abbrev pub joined : List ℕ → Option (List ℕ) → Option (List ℕ)
+joined ns None = None
+joined ns (Some more) = Some (ns ++ more)
 
-    pub no_pair : pair.Bad ≡ pair_of s
-    unfolding pair_of
-    no_pair = rw untabbed
+pub joined_more : (ns : List ℕ) (n : ℕ) (more : Option (List ℕ)) → joined ns (with_more (Some n) more) ≡ joined (ns ++ n ∷ []) more
+joined_more ns n None = refl
+joined_more ns n (Some more) = ap Some (sym (append_assoc ns (n ∷ []) more))
 
-    pub no_triple : triple.Bad ≡ triple_of s
-    unfolding triple_of
-    no_triple = rw untabbed
+-- a step of the loop that reads numbers, and its end
+pub last_is : (i k n : ℕ) → k + (i + 1) ≡ n → eqb (i + 1) n ≡ eqb k 0
+last_is i zero n e = eq-eqb (i + 1) n (omega arith)
+last_is i (suc k) n e = ne_eqb (i + 1) n (λ z. omega arith) ∙ sym (ne_eqb (suc k) 0 (λ z. omega arith))
 
-    pub no_quad : quad.Bad ≡ quad_of s
-    unfolding quad_of
-    no_quad = rw untabbed
+module _ (k : ℕ) (s : Bytes) where
+  pub numbers_stop : None ≡ field_at (eqb k 0) s → numbers_of (suc k) s ≡ None
+  unfolding numbers_of
+  numbers_stop e = rw (← e)
 
-  abbrev past : Bytes
-  past = take (length s - (t + 1)) (drop (t + 1) s)
+  pub numbers_step : (f more : Bytes) → Some (f, more) ≡ field_at (eqb k 0) s
+      → numbers_of (suc k) s ≡ with_more (value_of f) (numbers_of k more)
+  unfolding numbers_of
+  numbers_step f more e = rw (← e)
 
-  module _ (h : t < length s) (a : Number) (p : a ≡ value_of (take (t - 0) s)) where
-    tabbed : leb (length s) (tab_in s) ≡ false
-    tabbed = lt-leb (length s) (tab_in s) (omega arith)
+pub none_more : (n : Option ℕ) (more : Option (List ℕ)) → None ≡ n → with_more n more ≡ None
+none_more n more e = rw (← e)
 
-    before_tab_lem : a ≡ value_of (before_tab s)
-    before_tab_lem = p ∙ ap (λ (k : ℕ). value_of (take k s)) (sub-zero t ∙ e)
+-- ---- two, three and four numbers
 
-    after_tab_lem : past ≡ after_tab s
-    after_tab_lem = part_rest (t + 1) s ∙ ap (λ (k : ℕ). drop (k + 1) s) e
+abbrev pub pair_list : ℕ × ℕ → List ℕ
+pair_list p = p.0 ∷ p.1 ∷ []
 
-    pub pair_is : (b : Number) (r : Pair) → b ≡ value_of past → r ≡ two a b → r ≡ pair_of s
-    unfolding pair_of
-    pair_is b r q z = rw (tabbed, z, before_tab_lem, q ∙ ap value_of after_tab_lem)
+abbrev pub triple_list : ℕ × ℕ × ℕ → List ℕ
+triple_list p = p.0 ∷ p.1 ∷ p.2 ∷ []
 
-    pub triple_is : (b : Pair) (r : Triple) → b ≡ pair_of past → r ≡ three a b → r ≡ triple_of s
-    unfolding triple_of
-    triple_is b r q z = rw (tabbed, z, before_tab_lem, q ∙ ap pair_of after_tab_lem)
+abbrev pub quad_list : ℕ × ℕ × ℕ × ℕ → List ℕ
+quad_list p = p.0 ∷ p.1 ∷ p.2 ∷ p.3 ∷ []
 
-    pub quad_is : (b : Triple) (r : Quad) → b ≡ triple_of past → r ≡ four a b → r ≡ quad_of s
-    unfolding quad_of
-    quad_is b r q z = rw (tabbed, z, before_tab_lem, q ∙ ap triple_of after_tab_lem)
+one_more : (a b : Option ℕ) → with_more a (with_more b (Some [])) ≡ option_map pair_list (two a b)
+one_more None b = refl
+one_more (Some x) None = refl
+one_more (Some x) (Some y) = refl
+
+two_more : (a : Option ℕ) (b : Option (ℕ × ℕ)) → with_more a (option_map pair_list b) ≡ option_map triple_list (three a b)
+two_more None b = refl
+two_more (Some x) None = refl
+two_more (Some x) (Some (y, z)) = refl
+
+three_more : (a : Option ℕ) (b : Option (ℕ × ℕ × ℕ)) → with_more a (option_map triple_list b) ≡ option_map quad_list (four a b)
+three_more None b = refl
+three_more (Some x) None = refl
+three_more (Some x) (Some (y, z, w)) = refl
+
+at_tab : {A B : Type 0} (f : A → Option B) (t : Bool) (x : A) → option_and_then f (cond t None (Some x)) ≡ cond t None (f x)
+at_tab f true x = refl
+at_tab f false x = refl
+
+numbers_more : (k : ℕ) (s : Bytes) → numbers_of (suc (suc k)) s
+    ≡ cond (leb (length s) (tab_in s)) None (with_more (value_of (before_tab s)) (numbers_of (suc k) (after_tab s)))
+unfolding numbers_of
+numbers_more k s =
+    let more : Bytes × Bytes → Option (List ℕ) = λ f. with_more (value_of f.0) (numbers_of (suc k) f.1) in
+    rw (ne_eqb (suc k) 0 (λ e. omega arith)) (at_tab more (leb (length s) (tab_in s)) (before_tab s, after_tab s))
+
+mapped : {A B : Type 0} (f : A → B) (t : Bool) (x : Option A) → cond t None (option_map f x) ≡ option_map f (cond t None x)
+mapped f true x = refl
+mapped f false x = refl
+
+pub pair_is : (s : Bytes) → numbers_of 2 s ≡ option_map pair_list (pair_of s)
+unfolding numbers_of pair_of
+pair_is s =
+    let t = leb (length s) (tab_in s) in
+    let a = value_of (before_tab s) in
+    let b = value_of (after_tab s) in
+    numbers_more 0 s ∙ ap (λ x. cond t None x) (one_more a b) ∙ mapped pair_list t (two a b)
+
+pub triple_is : (s : Bytes) → numbers_of 3 s ≡ option_map triple_list (triple_of s)
+unfolding triple_of
+triple_is s =
+    let t = leb (length s) (tab_in s) in
+    let a = value_of (before_tab s) in
+    let b = pair_of (after_tab s) in
+    numbers_more 1 s ∙ ap (λ x. cond t None (with_more a x)) (pair_is (after_tab s)) ∙ ap (λ x. cond t None x) (two_more a b)
+    ∙ mapped triple_list t (three a b)
+
+pub quad_is : (s : Bytes) → numbers_of 4 s ≡ option_map quad_list (quad_of s)
+unfolding quad_of
+quad_is s =
+    let t = leb (length s) (tab_in s) in
+    let a = value_of (before_tab s) in
+    let b = triple_of (after_tab s) in
+    numbers_more 2 s ∙ ap (λ x. cond t None (with_more a x)) (triple_is (after_tab s)) ∙ ap (λ x. cond t None x) (three_more a b)
+    ∙ mapped quad_list t (four a b)

@@ -7,7 +7,7 @@ use lib.Dec.{eqb}
 use native.Mathlib.Numerals.{add-one}
 use native.Mathlib.Omega.{arith}
 use lib.ListN.{length, get_or, take, drop, set, drop_of_length-le}
-use lib.Seq.{drop-cons, length-take-le, take-suc-set, take-take}
+use lib.Seq.{drop-cons, length-take-le, take-suc-set}
 use borrow.Author.Tests.{eq-eqb, ne_eqb, lt-ltb, le-ltb, eqb-true}
 use Rattle.text.specs.Numbers.{Bytes}
 use Rattle.text.specs.Lines.{keep, Run, run}
@@ -25,10 +25,6 @@ module _ (line : Bytes) (n b : ℕ) (l : length line ≡ 65) (h : n ≤ 65) wher
   keep_more g =
       simp (le-ltb 64 (length (take n line)) (omega (arith, long)))
       (rw add-one (take-suc-set line n b (omega arith)))
-
--- what two lines have in common as far as n, they have as far as m
-pub shorter : (m n : ℕ) (a b : Bytes) → m ≤ n → take n a ≡ take n b → take m a ≡ take m b
-shorter m n a b h e = sym (take-take m n a h) ∙ ap (take m) e ∙ take-take m n b h
 
 -- a step of the loop that keeps the bytes of a chunk
 module _ (k chunk : Bytes) (i : ℕ) where

@@ -1,6 +1,8 @@
 -- Laws of numbers in text: a step of reading, and the digits that are written. Assumes nothing.
 use Prim.Native.Nat.{ℕ, zero, suc, ◌+◌, ◌-◌, ◌*◌, ◌/◌, ◌%◌, ◌^◌, ◌≤◌, ◌<◌}
 use mathlib.Core.Path.{◌≡◌, ap, ◌∙◌}
+use mathlib.Core.Logic.{◌⊎◌, ⊎_elim}
+use Rattle.std.specs.Prelude.{Some, None}
 use mathlib.Core.List.{[], ◌∷◌, ◌++◌, append_assoc}
 use native.Mathlib.Numerals.{add-one}
 use native.Mathlib.Nat.{pow-suc}
@@ -8,7 +10,6 @@ use native.Mathlib.Omega.{arith}
 use lib.ListN.{length, get_or, drop, drop_of_length-le, length-append}
 use lib.Seq.{drop-cons}
 use borrow.Author.Tests.{lt-ltb, le-ltb}
-use Rattle.text.specs.declared.Number.TheVariants.{Value, Bad}
 use Rattle.text.specs.Numbers.{Bytes, largest, value_from, decimal, decimal_of, last_two}
 
 -- a step of the loop that reads digits
@@ -16,16 +17,14 @@ module _ (acc i : ℕ) (s : Bytes) (h : i < length s) where
   abbrev byte : ℕ
   byte = get_or s i 0
 
-  pub value_low : byte < 48 → value_from acc (drop i s) ≡ Bad
+  pub value_out : (byte < 48) ⊎ (57 < byte) → value_from acc (drop i s) ≡ None
   unfolding value_from
-  value_low l = rw (drop-cons s i 0 h) (simp (lt-ltb _ _ l))
-
-  pub value_high : 57 < byte → value_from acc (drop i s) ≡ Bad
-  unfolding value_from
-  value_high l = rw (drop-cons s i 0 h) (simp (le-ltb byte 48 (omega arith), lt-ltb _ _ l))
+  value_out o =
+      rw (drop-cons s i 0 h)
+      (⊎_elim (λ l. simp (lt-ltb byte 48 l)) (λ g. simp (le-ltb byte 48 (omega arith), lt-ltb 57 byte g)) o)
 
   module _ (lo : 48 ≤ byte) (hi : byte ≤ 57) where
-    pub value_large : largest < acc * 10 + byte - 48 → value_from acc (drop i s) ≡ Bad
+    pub value_large : largest < acc * 10 + byte - 48 → value_from acc (drop i s) ≡ None
     unfolding value_from
     value_large l = rw (drop-cons s i 0 h) (simp (le-ltb byte 48 lo, le-ltb 57 byte hi, lt-ltb _ _ l))
 
@@ -36,7 +35,7 @@ module _ (acc i : ℕ) (s : Bytes) (h : i < length s) where
         rw (drop-cons s i 0 h, add-one)
         (simp (le-ltb byte 48 lo, le-ltb 57 byte hi, le-ltb largest (acc * 10 + byte - 48) l))
 
-pub value_end : (acc i : ℕ) (s : Bytes) → length s ≤ i → value_from acc (drop i s) ≡ Value acc
+pub value_end : (acc i : ℕ) (s : Bytes) → length s ≤ i → value_from acc (drop i s) ≡ Some acc
 unfolding value_from
 value_end acc i s h = rw (drop_of_length-le s h)
 

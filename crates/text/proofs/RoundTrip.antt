@@ -1,6 +1,7 @@
 -- What is written is read back, and only the written form is read. Assumes nothing.
 use Prim.Native.Nat.{ℕ, zero, suc, ◌+◌, ◌-◌, ◌*◌, ◌/◌, ◌%◌, ◌^◌, ◌≤◌, ◌<◌}
 use mathlib.Core.Path.{◌≡◌, refl, sym, ap, ◌∙◌}
+use Rattle.std.specs.Prelude.{Option, Some, None}
 use mathlib.Core.List.{[], ◌∷◌, ◌++◌, append_assoc, append-nil}
 use mathlib.Core.Bool.{Bool, true, false, cond}
 use mathlib.Core.Logic.{◌⊎◌, inl, inr, ⊎_elim}
@@ -9,8 +10,6 @@ use native.Mathlib.Omega.{arith}
 use lib.ListN.{length, get_or}
 use lib.Dec.{ltb, eqb}
 use borrow.Author.Tests.{lt-ltb, le-ltb, ne_eqb, ltb-true, ltb-false, eqb-true, eqb-false}
-use Rattle.text.specs.declared.Number.{Number}
-use Rattle.text.specs.declared.Number.TheVariants.{Value, Bad}
 use Rattle.text.specs.Numbers.{Bytes, largest, value_from, value_of, decimal, decimal_of}
 use Rattle.text.proofs.NumberLaws.{decimal_small, decimal_large}
 
@@ -64,7 +63,7 @@ not_empty : (s : Bytes) → 48 < get_or s 0 0 → length s ≡ 0 → ⊥
 not_empty [] h e = omega arith
 not_empty (x ∷ s) h e = omega arith
 
-pub read_written : (n : ℕ) → n ≤ largest → value_of (decimal_of n) ≡ Value n
+pub read_written : (n : ℕ) → n ≤ largest → value_of (decimal_of n) ≡ Some n
 unfolding value_of value_from decimal_of
 read_written zero m = rw (decimal_small 0 (omega arith))
 read_written (suc n) m =
@@ -75,11 +74,11 @@ read_written (suc n) m =
 
 -- ---- only what is written is read
 
-not_bad : (n : ℕ) → Bad ≡ Value n → ⊥
+not_bad : (n : ℕ) → None ≡ Some n → ⊥
 not_bad n e = let z : ◌≡◌ {A = ℕ} 0 1 = cc in omega arith
 
--- a test that leads to Bad is not met where the answer is a number
-test_unmet : (t : Bool) (x : Number) (n : ℕ) → cond t Bad x ≡ Value n → (t ≡ false) × (x ≡ Value n)
+-- a test that leads to None is not met where the answer is a number
+test_unmet : (t : Bool) (x : Option ℕ) (n : ℕ) → cond t None x ≡ Some n → (t ≡ false) × (x ≡ Some n)
 test_unmet true x n e = absurd (not_bad n e)
 test_unmet false x n e = (refl, e)
 
@@ -88,8 +87,8 @@ module _ (acc b n : ℕ) (s : Bytes) where
   abbrev next : ℕ
   next = acc * 10 + b - 48
 
-  was_digit : value_from acc (b ∷ s) ≡ Value n
-      → (48 ≤ b) × (b ≤ 57) × (next ≤ largest) × (value_from next s ≡ Value n)
+  was_digit : value_from acc (b ∷ s) ≡ Some n
+      → (48 ≤ b) × (b ≤ 57) × (next ≤ largest) × (value_from next s ≡ Some n)
   unfolding value_from
   was_digit e =
       let lo = test_unmet (ltb b 48) _ n e in
@@ -98,7 +97,7 @@ module _ (acc b n : ℕ) (s : Bytes) where
       (ltb-false b 48 lo.0, ltb-false 57 b hi.0, ltb-false largest next le.0, le.1)
 
 -- read on from a value that is not 0, the bytes are the rest of the answer's digits
-only_rest : (s : Bytes) (acc n : ℕ) → 0 < acc → acc ≤ largest → value_from acc s ≡ Value n
+only_rest : (s : Bytes) (acc n : ℕ) → 0 < acc → acc ≤ largest → value_from acc s ≡ Some n
     → decimal_of acc ++ s ≡ decimal_of n
 unfolding value_from
 only_rest [] acc n z m e = let q : acc ≡ n = cc in append-nil (decimal_of acc) ∙ ap decimal_of q
@@ -113,11 +112,11 @@ only_rest (b ∷ s) acc n z m e =
     ∙ ap (λ (x : Bytes). x ++ s) (sym more)
     ∙ only_rest s v n (omega (arith, d.0, z)) d.2 d.3
 
-only_zero : (n : ℕ) (s : Bytes) → cond (eqb (length (48 ∷ s)) 1) (Value 0) Bad ≡ Value n → 48 ∷ s ≡ decimal_of n
+only_zero : (n : ℕ) (s : Bytes) → cond (eqb (length (48 ∷ s)) 1) (Some 0) None ≡ Some n → 48 ∷ s ≡ decimal_of n
 only_zero n [] e = let z : 0 ≡ n = cc in sym (decimal_small 0 (omega arith)) ∙ ap decimal_of z
 only_zero n (x ∷ s) e = absurd (not_bad n (rw (ne_eqb (length (48 ∷ x ∷ s)) 1 (λ q. omega arith)) at e))
 
-only_digits : (b n : ℕ) (s : Bytes) → (b ≡ 48 → ⊥) → value_from 0 (b ∷ s) ≡ Value n → b ∷ s ≡ decimal_of n
+only_digits : (b n : ℕ) (s : Bytes) → (b ≡ 48 → ⊥) → value_from 0 (b ∷ s) ≡ Some n → b ∷ s ≡ decimal_of n
 only_digits b n s k e =
     let d = was_digit 0 b n s e in
     let v = 0 * 10 + b - 48 in
@@ -126,7 +125,7 @@ only_digits b n s k e =
     let one : decimal_of v ≡ b ∷ [] = rw (decimal_small v (omega (arith, d.1)), is) in
     ap (λ (x : Bytes). x ++ s) (sym one) ∙ only_rest s v n some d.2 d.3
 
-pub only_written : (s : Bytes) (n : ℕ) → value_of s ≡ Value n → s ≡ decimal_of n
+pub only_written : (s : Bytes) (n : ℕ) → value_of s ≡ Some n → s ≡ decimal_of n
 unfolding value_of
 only_written [] n e = absurd (not_bad n e)
 only_written (b ∷ s) n e =

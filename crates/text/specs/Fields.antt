@@ -1,14 +1,6 @@
 -- Fields of a line. 01, "The text program": "one record a line, fields parted by tabs". Assumes nothing.
-use Rattle.std.specs.Prelude.{ℕ, suc, ◌+◌, ◌≡◌, cond, List, [], ◌∷◌, ◌++◌, length, take, drop, leb, eqb}
+use Rattle.std.specs.Prelude.{ℕ, zero, suc, ◌+◌, ◌≡◌, Bool, cond, List, [], ◌∷◌, ◌++◌, length, take, drop, leb, eqb, Option, Some, None, option_and_then}
 use Rattle.std.proofs.lemmas.List.Edits.{sets}
-use Rattle.text.specs.declared.Number.{Number}
-use Rattle.text.specs.declared.Number.TheVariants as number
-use Rattle.text.specs.declared.Pair.{Pair}
-use Rattle.text.specs.declared.Pair.TheVariants as pair
-use Rattle.text.specs.declared.Triple.{Triple}
-use Rattle.text.specs.declared.Triple.TheVariants as triple
-use Rattle.text.specs.declared.Quad.{Quad}
-use Rattle.text.specs.declared.Quad.TheVariants as quad
 use Rattle.text.specs.Numbers.{Bytes, value_of, decimal_of}
 
 -- the place of the first tab, or the length
@@ -24,31 +16,47 @@ abbrev pub after_tab : Bytes → Bytes
 after_tab s = drop (tab_in s + 1) s
 
 -- two numbers with one tab between them: a second tab would be no digit of the second number
-abbrev pub two : Number → Number → Pair
-two (number.Value a) (number.Value b) = pair.Two a b
-two (number.Value a) number.Bad = pair.Bad
-two number.Bad y = pair.Bad
+abbrev pub two : Option ℕ → Option ℕ → Option (ℕ × ℕ)
+two (Some a) (Some b) = Some (a, b)
+two (Some a) None = None
+two None y = None
 
-unfoldable pub pair_of : Bytes → Pair
-pair_of s = cond (leb (length s) (tab_in s)) pair.Bad (two (value_of (before_tab s)) (value_of (after_tab s)))
+unfoldable pub pair_of : Bytes → Option (ℕ × ℕ)
+pair_of s = cond (leb (length s) (tab_in s)) None (two (value_of (before_tab s)) (value_of (after_tab s)))
 
 -- three numbers with tabs between them
-abbrev pub three : Number → Pair → Triple
-three (number.Value a) (pair.Two b c) = triple.Three a b c
-three (number.Value a) pair.Bad = triple.Bad
-three number.Bad y = triple.Bad
+abbrev pub three : Option ℕ → Option (ℕ × ℕ) → Option (ℕ × ℕ × ℕ)
+three (Some a) (Some (b, c)) = Some (a, b, c)
+three (Some a) None = None
+three None y = None
 
-unfoldable pub triple_of : Bytes → Triple
-triple_of s = cond (leb (length s) (tab_in s)) triple.Bad (three (value_of (before_tab s)) (pair_of (after_tab s)))
+unfoldable pub triple_of : Bytes → Option (ℕ × ℕ × ℕ)
+triple_of s = cond (leb (length s) (tab_in s)) None (three (value_of (before_tab s)) (pair_of (after_tab s)))
 
 -- four numbers with tabs between them
-abbrev pub four : Number → Triple → Quad
-four (number.Value a) (triple.Three b c d) = quad.Four a b c d
-four (number.Value a) triple.Bad = quad.Bad
-four number.Bad y = quad.Bad
+abbrev pub four : Option ℕ → Option (ℕ × ℕ × ℕ) → Option (ℕ × ℕ × ℕ × ℕ)
+four (Some a) (Some (b, c, d)) = Some (a, b, c, d)
+four (Some a) None = None
+four None y = None
 
-unfoldable pub quad_of : Bytes → Quad
-quad_of s = cond (leb (length s) (tab_in s)) quad.Bad (four (value_of (before_tab s)) (triple_of (after_tab s)))
+unfoldable pub quad_of : Bytes → Option (ℕ × ℕ × ℕ × ℕ)
+quad_of s = cond (leb (length s) (tab_in s)) None (four (value_of (before_tab s)) (triple_of (after_tab s)))
+
+-- the next field and what comes behind its tab, if there is one; the last field is all of the bytes
+abbrev pub field_at : Bool → Bytes → Option (Bytes × Bytes)
+field_at last s =
+    cond last (Some (s, [])) (cond (leb (length s) (tab_in s)) None (Some (before_tab s, after_tab s)))
+
+-- a number and those after it
+abbrev pub with_more : Option ℕ → Option (List ℕ) → Option (List ℕ)
+with_more (Some n) (Some ns) = Some (n ∷ ns)
+with_more (Some n) None = None
+with_more None ns = None
+
+-- so many numbers with tabs between them
+unfoldable pub numbers_of : ℕ → Bytes → Option (List ℕ)
+numbers_of zero s = Some []
+numbers_of (suc k) s = option_and_then (λ f. with_more (value_of f.0) (numbers_of k f.1)) (field_at (eqb k 0) s)
 
 -- the numbers of a line that is written, each after a tab
 abbrev pub fields_of : List ℕ → Bytes

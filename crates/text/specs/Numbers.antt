@@ -1,8 +1,6 @@
 -- A number as bytes. 01, "The text program": "Numbers are decimal, no leading zero, at most 4,294,967,295." Assumes
 -- nothing.
-use Rattle.std.specs.Prelude.{ℕ, zero, suc, ◌+◌, ◌-◌, ◌*◌, ◌/◌, ◌%◌, cond, List, [], ◌∷◌, ◌++◌, length, get_or, ltb, eqb}
-use Rattle.text.specs.declared.Number.{Number}
-use Rattle.text.specs.declared.Number.TheVariants.{Value, Bad}
+use Rattle.std.specs.Prelude.{ℕ, zero, suc, ◌+◌, ◌-◌, ◌*◌, ◌/◌, ◌%◌, cond, List, [], ◌∷◌, ◌++◌, length, get_or, ltb, eqb, Option, Some, None}
 
 -- a text
 abbrev pub Bytes : Type 0
@@ -13,19 +11,19 @@ abbrev pub largest : ℕ
 largest = 4294967295
 
 -- the digits bs, read after the value so far; 48 is the digit 0
-unfoldable pub value_from : ℕ → Bytes → Number
-value_from acc [] = Value acc
+unfoldable pub value_from : ℕ → Bytes → Option ℕ
+value_from acc [] = Some acc
 value_from acc (b ∷ bs) =
-    cond (ltb b 48) Bad
-    (cond (ltb 57 b) Bad
-    (cond (ltb largest (acc * 10 + b - 48)) Bad
+    cond (ltb b 48) None
+    (cond (ltb 57 b) None
+    (cond (ltb largest (acc * 10 + b - 48)) None
     (value_from (acc * 10 + b - 48) bs)))
 
 -- what a whole field spells: "decimal, no leading zero"
-unfoldable pub value_of : Bytes → Number
+unfoldable pub value_of : Bytes → Option ℕ
 value_of s =
-    cond (eqb (length s) 0) Bad
-    (cond (eqb (get_or s 0 0) 48) (cond (eqb (length s) 1) (Value 0) Bad) (value_from 0 s))
+    cond (eqb (length s) 0) None
+    (cond (eqb (get_or s 0 0) 48) (cond (eqb (length s) 1) (Some 0) None) (value_from 0 s))
 
 -- the decimal digits of n, at most k of them
 unfoldable pub decimal : ℕ → ℕ → Bytes

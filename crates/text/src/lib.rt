@@ -1,64 +1,41 @@
 // Numbers, fields and lines as bytes, read and written, with nothing of pools in it.
 #![tactic(auto)]
 
-ghost use Rattle.std.specs.Prelude.{◌≡◌, [], ◌∷◌, ◌+◌, ◌<◌, ◌≤◌, length, take, drop};
+ghost use Rattle.std.specs.Prelude.{◌≡◌, ℕ, List, [], ◌∷◌, ◌+◌, ◌<◌, ◌≤◌, ◌==◌, length, take, drop, position, option_map};
 ghost use Rattle.text.specs.Numbers.{last_two, value_of, value_from, decimal_of};
-ghost use Rattle.text.specs.Fields.{tab_in, two, three, four, pair_of, triple_of, quad_of, fields_of, line_of, Wrote};
+ghost use Rattle.text.specs.Fields.{field_at, numbers_of, fields_of, line_of, Wrote};
 ghost use Rattle.text.specs.Lines.{keep, run};
+
+use std::marker::Model;
 
 // ---- numbers
 
-// A field read as a number.
-#[derive(Clone, Copy)]
-pub enum Number {
-    Value(u32),
-    Bad,
-}
-
 // The number that a whole field spells: decimal, no leading zero, at most 4294967295.
-pub fn read_number(s: &[u8]) -> Number
+#[tactic(auto, unfolding(crate::specs::Numbers::value_of))]
+pub fn read_number(s: &[u8]) -> Option<u32>
     ensures { result ≡ value_of s.now }
 {
-    if s.len() == 0 {
-        return Number::Bad;
+    if s.is_empty() {
+        return None;
     }
-    if s[0] == 48 {
-        if s.len() == 1 {
-            return Number::Value(0);
-        }
-        return Number::Bad;
+    if s[0] == b'0' {
+        return if s.len() == 1 { Some(0) } else { None };
     }
     read_digits(s)
 }
 
 // The number that digits spell, leading zeros or none.
-fn read_digits(s: &[u8]) -> Number
+fn read_digits(s: &[u8]) -> Option<u32>
     ensures { result ≡ value_from 0 s.now }
 {
-    let mut value: u64 = 0;
-    let mut i = 0;
-    while i < s.len() {
-        let b = s[i];
-        if b < 48 {
-            return Number::Bad;
+    let mut value: u32 = 0;
+    for b in s {
+        if !b.is_ascii_digit() {
+            return None;
         }
-        if 57 < b {
-            return Number::Bad;
-        }
-        let next = value * 10 + wide(b) - 48;
-        if 4294967295 < next {
-            return Number::Bad;
-        }
-        value = next;
-        i += 1;
+        value = value.checked_mul(10)?.checked_add(u32::from(*b - b'0'))?;
     }
-    Number::Value(value as u32)
-}
-
-fn wide(b: u8) -> u64
-    ensures { result ≡ b }
-{
-    b as u64
+    Some(value)
 }
 
 // Writes two digits, and answers the place after them.
@@ -66,8 +43,8 @@ fn put_two(out: &mut [u8], at: usize, n: u32) -> usize
     requires { at + 2 ≤ length out.old }
     ensures { Wrote out.old out.new at result (last_two n) }
 {
-    out[at] = 48 + (n / 10 % 10) as u8;
-    out[at + 1] = 48 + (n % 10) as u8;
+    out[at] = b'0' + (n / 10 % 10) as u8;
+    out[at + 1] = b'0' + (n % 10) as u8;
     at + 2
 }
 
@@ -77,129 +54,48 @@ fn put_number(out: &mut [u8], at: usize, n: u32) -> usize
     ensures { Wrote out.old out.new at result (decimal_of n) }
 {
     if n < 10 {
-        out[at] = 48 + n as u8;
+        out[at] = b'0' + n as u8;
         return at + 1;
     }
     if n < 100 {
         return put_two(out, at, n);
     }
-    let e = put_number(out, at, n / 100);
-    put_two(out, e, n)
+    let end = put_number(out, at, n / 100);
+    put_two(out, end, n)
 }
 
 // ---- fields
 
-// The place of the first tab, or the length.
-fn find_tab(s: &[u8]) -> usize
-    ensures { result ≡ tab_in s.now }
+// The place of the first tab.
+fn find_tab(s: &[u8]) -> Option<usize>
+    ensures { result ≡ position (λ b. b == 9) s.now }
 {
-    let mut i = 0;
-    while i < s.len() {
-        if s[i] == 9 {
-            return i;
-        }
-        i += 1;
-    }
-    i
+    s.iter().position(|b| *b == b'\t')
 }
 
-#[derive(Clone, Copy)]
-pub enum Pair {
-    Two(u32, u32),
-    Bad,
-}
-
-fn two_of(a: Number, b: Number) -> Pair
-    ensures { result ≡ two a b }
+// The next field, and what follows its tab; the last field is all that is left.
+fn next_field(s: &[u8], last: bool) -> Option<(&[u8], &[u8])>
+    ensures { option_map (λ f. (f.0.now, f.1.now)) result ≡ field_at last s.now }
 {
-    match a {
-        Number::Value(x) => match b {
-            Number::Value(y) => Pair::Two(x, y),
-            Number::Bad => Pair::Bad,
-        },
-        Number::Bad => Pair::Bad,
+    if last {
+        return Some((s, &[]));
     }
+    let tab = find_tab(s)?;
+    Some((&s[..tab], &s[tab + 1..]))
 }
 
-// Two numbers with a tab between.
-pub fn read_pair(s: &[u8]) -> Pair
-    ensures { result ≡ pair_of s.now }
+// N numbers with tabs between.
+pub fn read_numbers<const N: usize>(s: &[u8]) -> Option<[u32; N]>
+    ensures { result ≡ numbers_of N s.now }
 {
-    let t = find_tab(s);
-    if s.len() <= t {
-        return Pair::Bad;
+    let mut numbers = [0; N];
+    let mut rest = s;
+    for i in 0..N {
+        let (field, after) = next_field(rest, i + 1 == N)?;
+        numbers[i] = read_number(field)?;
+        rest = after;
     }
-    let z = 0;
-    let a = read_number(&s[z..t]);
-    let n = t + 1;
-    let b = read_number(&s[n..]);
-    two_of(a, b)
-}
-
-#[derive(Clone, Copy)]
-pub enum Triple {
-    Three(u32, u32, u32),
-    Bad,
-}
-
-fn three_of(a: Number, b: Pair) -> Triple
-    ensures { result ≡ three a b }
-{
-    match a {
-        Number::Value(x) => match b {
-            Pair::Two(y, z) => Triple::Three(x, y, z),
-            Pair::Bad => Triple::Bad,
-        },
-        Number::Bad => Triple::Bad,
-    }
-}
-
-// Three numbers with tabs between.
-pub fn read_triple(s: &[u8]) -> Triple
-    ensures { result ≡ triple_of s.now }
-{
-    let t = find_tab(s);
-    if s.len() <= t {
-        return Triple::Bad;
-    }
-    let z = 0;
-    let a = read_number(&s[z..t]);
-    let n = t + 1;
-    let b = read_pair(&s[n..]);
-    three_of(a, b)
-}
-
-#[derive(Clone, Copy)]
-pub enum Quad {
-    Four(u32, u32, u32, u32),
-    Bad,
-}
-
-fn four_of(a: Number, b: Triple) -> Quad
-    ensures { result ≡ four a b }
-{
-    match a {
-        Number::Value(w) => match b {
-            Triple::Three(x, y, z) => Quad::Four(w, x, y, z),
-            Triple::Bad => Quad::Bad,
-        },
-        Number::Bad => Quad::Bad,
-    }
-}
-
-// Four numbers with tabs between.
-pub fn read_quad(s: &[u8]) -> Quad
-    ensures { result ≡ quad_of s.now }
-{
-    let t = find_tab(s);
-    if s.len() <= t {
-        return Quad::Bad;
-    }
-    let z = 0;
-    let a = read_number(&s[z..t]);
-    let n = t + 1;
-    let b = read_triple(&s[n..]);
-    four_of(a, b)
+    Some(numbers)
 }
 
 // ---- lines that are written
@@ -217,8 +113,8 @@ fn put_field(out: &mut [u8], at: usize, n: u32) -> usize
     requires { at + 1 + length (decimal_of n) ≤ length out.old }
     ensures { Wrote out.old out.new at result (9 ∷ decimal_of n) }
 {
-    let e = put_byte(out, at, 9);
-    put_number(out, e, n)
+    let end = put_byte(out, at, b'\t');
+    put_number(out, end, n)
 }
 
 // The numbers, each after a tab.
@@ -226,14 +122,11 @@ fn put_fields(out: &mut [u8], at: usize, ns: &[u32]) -> usize
     requires { at + length (fields_of ns.now) ≤ length out.old }
     ensures { Wrote out.old out.new at result (fields_of ns.now) }
 {
-    let mut e = at;
-    let mut i = 0;
-    while i < ns.len() {
-        let n = ns[i];
-        e = put_field(out, e, n);
-        i += 1;
+    let mut end = at;
+    for n in ns {
+        end = put_field(out, end, *n);
     }
-    e
+    end
 }
 
 // A letter, the numbers, a line feed: the place after them.
@@ -243,7 +136,7 @@ pub fn put_line(out: &mut [u8], at: usize, letter: u8, ns: &[u32]) -> usize
 {
     let a = put_byte(out, at, letter);
     let b = put_fields(out, a, ns);
-    put_byte(out, b, 10)
+    put_byte(out, b, b'\n')
 }
 
 // Bytes as they are.
@@ -251,53 +144,77 @@ pub fn put_bytes(out: &mut [u8], at: usize, bs: &[u8]) -> usize
     requires { at + length bs.now ≤ length out.old }
     ensures { Wrote out.old out.new at result bs.now }
 {
-    let mut i = 0;
-    while i < bs.len() {
-        out[at + i] = bs[i];
-        i += 1;
-    }
-    at + i
+    let end = at + bs.len();
+    out[at..end].copy_from_slice(bs);
+    end
 }
 
 // ---- lines that are read
 
-// One byte more of an unfinished line of `kept` bytes: how many there are then.
-fn keep_byte(line: &mut [u8], kept: usize, b: u8) -> usize
-    requires { (length line.old ≡ 65) × (kept ≤ 65) }
-    ensures { (result ≤ 65) × (kept ≤ result) × (take result line.new ≡ keep (take kept line.old) b)
-        × (take kept line.new ≡ take kept line.old) }
-{
-    if 64 < kept {
-        return kept;
+// An unfinished line: of one that is over-long the first 65 bytes. Clauses see the bytes that are kept.
+#[derive(Drop)]
+pub struct Line {
+    bytes: [u8; 65],
+    kept: usize,
+}
+
+impl Model for Line {
+    ghost Value = { List ℕ };
+
+    ghost view = { λ l. take l.kept l.bytes };
+
+    ghost invariant = { λ l. l.kept ≤ 65 };
+}
+
+impl Line {
+    // A line of these bytes.
+    pub fn of(s: &[u8]) -> Line
+        requires { length s.now ≤ 65 }
+        ensures { result ≡ s.now }
+    {
+        let mut bytes = [0; 65];
+        let kept = s.len();
+        bytes[..kept].copy_from_slice(s);
+        Line { bytes, kept }
     }
-    line[kept] = b;
-    kept + 1
-}
 
-// How many bytes are kept, and the place in the chunk of the line feed or of its end.
-#[derive(Clone, Copy)]
-pub struct Kept {
-    pub kept: usize,
-    pub at: usize,
-}
+    pub fn bytes(&self) -> &[u8]
+        ensures { (result.now ≡ self.now) × (length self.now ≤ 65) }
+    {
+        &self.bytes[..self.kept]
+    }
 
-// Keeps the bytes of the chunk from `from` on, as far as the first line feed. The bytes kept before stay.
-pub fn keep_run(line: &mut [u8], kept: usize, chunk: &[u8], from: usize) -> Kept
-    requires { (length line.old ≡ 65) × (kept ≤ 65) × (from ≤ length chunk.now) }
-    ensures kept_bound { (result.kept ≤ 65) × (from ≤ result.at) × (result.at ≤ length chunk.now)
-        × (take kept line.new ≡ take kept line.old) }
-    ensures chunk_after { record { kept = take result.kept line.new; rest = drop result.at chunk.now }
-        ≡ run (take kept line.old) (drop from chunk.now) }
-{
-    let mut k = kept;
-    let mut i = from;
-    while i < chunk.len() {
-        let b = chunk[i];
-        if b == 10 {
-            return Kept { kept: k, at: i };
+    // Keeps the first n bytes alone.
+    pub fn truncate(&mut self, n: usize)
+        requires { n ≤ length self.old }
+        ensures { self.new ≡ take n self.old }
+    {
+        self.kept = n;
+    }
+
+    // One byte more.
+    #[tactic(auto, unfolding(crate::specs::Lines::keep))]
+    fn keep(&mut self, b: u8)
+        ensures { (self.new ≡ keep self.old b) × (take (length self.old) self.new ≡ self.old) × (length self.old ≤ length self.new) }
+    {
+        if 64 < self.kept {
+            return;
         }
-        k = keep_byte(line, k, b);
-        i += 1;
+        self.bytes[self.kept] = b;
+        self.kept += 1;
     }
-    Kept { kept: k, at: i }
+
+    // Keeps the bytes as far as the first line feed: how many there are before it. The bytes kept before stay.
+    pub fn keep_run(&mut self, chunk: &[u8]) -> usize
+        ensures kept { (take (length self.old) self.new ≡ self.old) × (result ≤ length chunk.now) }
+        ensures chunk_after { record { kept = self.new; rest = drop result chunk.now } ≡ run self.old chunk.now }
+    {
+        for (i, b) in chunk.iter().enumerate() {
+            if *b == b'\n' {
+                return i;
+            }
+            self.keep(*b);
+        }
+        chunk.len()
+    }
 }

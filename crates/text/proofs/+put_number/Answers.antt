@@ -42,24 +42,24 @@ returns-then-n-lt100 t c =
     let n = c.args.n in
     rw (decimal_two n c.if-n-lt10.false c.if-n-lt100.true) c.put_two.ensures
 
-pub put_number-e-requires : goal.put_number-e-requires
-put_number-e-requires t c =
+pub put_number-end-requires : goal.put_number-end-requires
+put_number-end-requires t c =
     let more = length_more c.args.n c.if-n-lt100.false (omega (arith, c.ranges.n.fits)) in
     (omega arith, omega (arith, more))
 
 pub put_two-requires-2 : goal.put_two-requires-2
 put_two-requires-2 t c =
     let more = length_more c.args.n c.if-n-lt100.false (omega (arith, c.ranges.n.fits)) in
-    omega (arith, c.requires, c.put_number-e.auto.out, c.put_number-e.ensures.0, more)
+    omega (arith, c.requires, c.put_number-end.auto.out, c.put_number-end.ensures.0, more)
 
 pub shape_of-out : goal.shape_of-out
 shape_of-out t c =
-    c.put_two-2.auto.out ∙ c.put_number-e.auto.out
+    c.put_two-2.auto.out ∙ c.put_number-end.auto.out
 
 pub returns : goal.returns
 returns t c =
     let n = c.args.n in
-    let high = c.put_number-e in
+    let high = c.put_number-end in
     rw (decimal_more n c.if-n-lt100.false (omega (arith, c.ranges.n.fits)))
     (wrote_then (decimal_of (n / 100)) (last_two n) c.args.out.now high.new.out _ c.args.at high.result _
     high.ensures c.put_two-2.ensures)

@@ -1,28 +1,19 @@
--- `text::put_bytes` meets its contract: the bytes left, set from here on, make all of them. Assumes nothing.
-use Prim.Native.Nat.{◌+◌}
-use native.Mathlib.Nat.{add-zero}
-use lib.Seq.{sets}
-use Rattle.text.specs.Numbers.{Bytes}
-use Rattle.text.proofs.WriteLaws.{byte_step, bytes_end}
-use mathlib.Core.Path.{◌∙◌, sym, ap, refl}
-use borrow.Author.Rules.{rules}
+-- `text::put_bytes` meets its contract. Assumes nothing.
+use Rattle.std.proofs.Common.{refl, sym, ◌∙◌, append_assoc, arith, ◌+◌, ◌-◌, ◌≡◌, take, drop, length}
+use Rattle.std.proofs.lemmas.List.Edits.{sets-eq, paste_all}
+use Rattle.std.proofs.lemmas.Slice.{put_mid-paste}
 use Rattle.text.proofs.put_bytes.Goals as goal
-
-pub loop-i-init : goal.loop-i-init
-loop-i-init c = (search rules, refl, rw add-zero)
-
-pub loop-i-preserved : goal.loop-i-preserved
-loop-i-preserved c =
-    let inv = c.loop-i.invariant in (
-      search rules,
-      search rules,
-      byte_step c.args.bs.now c.loop-i.i c.loop-i-test.true c.loop-i.out c.args.at ∙ inv.2,
-    )
 
 pub returns : goal.returns
 returns c =
-    let inv = c.loop-i.invariant in
-    let over = bytes_end c.args.bs.now c.loop-i.i c.loop-i-test.false in (
-      search rules,
-      ap (λ (x : Bytes). sets c.loop-i.out (c.args.at + c.loop-i.i) x) (sym over) ∙ inv.2,
+    let at = c.args.at in
+    let bs = c.args.bs.now in
+    let out = c.args.out.now in
+    let n = length bs in
+    let e : n ≡ at + n - at = omega arith in (
+      refl,
+      put_mid-paste at (at + n - at) out c.copy_from_slice.new.self bs n c.copy_from_slice.ensures.after e refl
+          ∙ paste_all out at bs n refl
+          ∙ sym (append_assoc (take at out) bs (drop (at + n) out))
+          ∙ sym (sets-eq bs out at c.requires),
     )

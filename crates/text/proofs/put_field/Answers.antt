@@ -6,5 +6,5 @@ use Rattle.text.proofs.put_field.Goals as goal
 
 pub returns : goal.returns
 returns c =
-    wrote_then (9 ∷ []) (decimal_of c.args.n) c.args.out.now _ _ _ _ _ c.put_byte-e.ensures
+    wrote_then (9 ∷ []) (decimal_of c.args.n) c.args.out.now _ _ _ _ _ c.put_byte-end.ensures
     c.put_number.ensures

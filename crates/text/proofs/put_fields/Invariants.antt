@@ -1,16 +1,10 @@
-use mathlib.Core.Path.{◌≡◌}
-use Prim.Native.Nat.{◌+◌, ◌-◌, ◌≤◌}
-use lib.ListN.{length, drop}
-use lib.Seq.{sets}
+use Rattle.std.proofs.Common.{◌≡◌, ◌+◌, length, drop}
+use Rattle.std.proofs.lemmas.List.Edits.{sets}
 use Rattle.text.specs.Fields.{fields_of}
 use Rattle.text.proofs.put_fields.Given as goal
 
-abbrev pub invariant-loop-i : goal.invariant-loop-i
-invariant-loop-i l =
-    (l.i ≤ length l.ns)
-    × (length l.out ≡ length l.initial.out)
-    × (l.e + length (fields_of (drop l.i l.ns)) ≡ l.at + length (fields_of l.ns))
-    × (sets l.out l.e (fields_of (drop l.i l.ns)) ≡ sets l.initial.out l.at (fields_of l.ns))
-
-abbrev pub decreases-loop-i : goal.decreases-loop-i
-decreases-loop-i l = length l.ns - l.i
+-- the fields left, set from here on, make all of them
+abbrev pub invariant-loop-n : goal.invariant-loop-n
+invariant-loop-n l =
+    (l.end + length (fields_of (drop l.n-index l.ns)) ≡ l.at + length (fields_of l.ns))
+    × (sets l.out l.end (fields_of (drop l.n-index l.ns)) ≡ sets l.initial.out l.at (fields_of l.ns))

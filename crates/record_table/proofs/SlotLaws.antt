@@ -1,6 +1,6 @@
 -- Laws of the slots that a search finds. Assumes nothing.
-use Prim.Native.Nat.{ℕ, zero, suc, ◌+◌, ◌-◌, ◌≤◌, ◌<◌}
-use native.Mathlib.Nat.{sub-zero, not-suc-le-zero, le_of_suc-le-suc}
+use Prim.Native.Nat.{ℕ, zero, suc, ◌+◌, ◌≤◌, ◌<◌}
+use native.Mathlib.Nat.{not-suc-le-zero, le_of_suc-le-suc}
 use native.Mathlib.Decide.{ℕ_discrete, dec_lt}
 use native.Mathlib.Omega.{arith}
 use mathlib.Core.Path.{◌≡◌, refl, sym, ap, ◌∙◌}
@@ -13,8 +13,7 @@ use lib.ListN.{length, get_or, set}
 use Rattle.words.specs.Lists.{Words, first_that}
 use Rattle.words.specs.Counted.{lowest}
 use Rattle.words.proofs.Tests.{false_of, or_l, or_r, eqb_ne, eqb_false, absurd_some}
-use Rattle.words.proofs.CountedLaws.{lowest_some, lowest_none, lowest_nothing, lowest_here, lowest_skip}
-use Rattle.words.proofs.CountedLaws.{lowest_end}
+use Rattle.words.proofs.CountedLaws.{lowest_some, lowest_none, lowest_nothing, lowest_is}
 use Rattle.ledger.specs.declared.Row.{Row}
 use Rattle.ledger.specs.declared.Rule.{Rule}
 use Rattle.ledger.specs.Records.{Ledger, empty_row, record_at, records_of, slots, has_ticket, record_of, full, enter, is_empty}
@@ -23,10 +22,11 @@ use Rattle.ledger.specs.Units.{valid}
 use Rattle.ledger.proofs.RecordLaws.{length_records, record_at_lem, has_ticket_lem, record_ticket}
 use Rattle.ledger.proofs.RecordLaws.{settle_slot, enter_slot, full_none}
 use Rattle.ledger.proofs.UnitLaws.{valid_apart}
-use Rattle.record_table.specs.declared.Found.TheVariants.{At, Nothing}
+use Rattle.std.specs.Prelude.{Some, None, MatchOption, unwrap_or}
+use Rattle.std.specs.Prelude as maybe
 use Rattle.record_table.specs.Slots.{found, ticket_at, empty_at, ticket_slot, empty_slot, Without, Reached}
 
--- ---- a search by a test f of records, which has come to slot i of the table
+-- ---- a search by a test f of records
 
 abbrev pub test_at : (Row → Bool) → Words → ℕ → Bool
 test_at f t i = f (get_or (records_of t) i empty_row)
@@ -34,87 +34,48 @@ test_at f t i = f (get_or (records_of t) i empty_row)
 abbrev pub slot_that : (Row → Bool) → Words → Option ℕ
 slot_that f t = lowest (test_at f t) 0 (length (records_of t))
 
-pub record Searched (f : Row → Bool) (t : Words) (i : ℕ) : Type 0 where
-  pub upto : i ≤ slots t
-  pub left : slot_that f t ≡ lowest (test_at f t) i (slots t - i)
+-- what is found from slot i on up to slot n: no slot there passes, or the first that does
+abbrev pub FirstSlot : (Row → Bool) → Words → ℕ → ℕ → maybe.Option ℕ → Type 0
+FirstSlot f t i n r =
+    MatchOption r ((k : ℕ) → i ≤ k → k < n → f (record_at t k) ≡ false)
+    (λ k. (i ≤ k) × (k < n) × (f (record_at t k) ≡ true) × ((j : ℕ) → i ≤ j → j < k → f (record_at t j) ≡ false))
 
-module _ (f : Row → Bool) (t : Words) where
-  pub search_start : Searched f t 0
-  search_start = record { upto = omega arith; left = rw (length_records t, sub-zero) }
+-- where no slot below i passes either, and n is the number of slots
+module _ (f : Row → Bool) (t : Words) (i n : ℕ) (all_slots : n ≡ slots t)
+    (low : (j : ℕ) → j < i → f (record_at t j) ≡ false) where
+  below : (k : ℕ) → ((j : ℕ) → i ≤ j → j < k → f (record_at t j) ≡ false) → (j : ℕ) → j < k → f (record_at t j) ≡ false
+  below k off j h = go (dec_lt j i)
+    where
+      go : Dec (j < i) → f (record_at t j) ≡ false
+      go (yes l) = low j l
+      go (no l) = off j (omega arith) h
 
-  module _ (i : ℕ) (s : Searched f t i) where
-    pub search_here : i < slots t → f (record_at t i) ≡ true → At i ≡ found (slot_that f t)
-    search_here h e =
-        ap found (lowest_here (slot_that f t) (test_at f t) (slots t) i s.left h (ap f (record_at_lem t i h) ∙ e))
+  pub slot_found : (r : maybe.Option ℕ) → FirstSlot f t i n r → r ≡ found (slot_that f t)
+  slot_found None off =
+      sym (ap found (lowest_nothing (test_at f t) 0 (length (records_of t))
+      (λ k a b. ap f (record_at_lem t k (omega (arith, length_records t)))
+      ∙ below n off k (omega (arith, length_records t)))))
+  slot_found (Some k) (a, h, e, off) =
+      sym (ap found (lowest_is (test_at f t) 0 (length (records_of t)) k record {
+        passes = ap f (record_at_lem t k (omega arith)) ∙ e;
+        above = omega arith;
+        below = omega (arith, length_records t);
+        least = λ j a b. ap f (record_at_lem t j (omega arith)) ∙ below k off j b;
+      }))
 
-    -- a block in which no slot passes
-    pub search_skip : (e : ℕ) → i ≤ e → e ≤ slots t → ((j : ℕ) → i ≤ j → j < e → f (record_at t j) ≡ false)
-        → Searched f t e
-    search_skip e h l off = record {
-      upto = l;
-      left = lowest_skip (slot_that f t) (test_at f t) (slots t) i s.left e h l
-          (λ j a b. ap f (record_at_lem t j (omega arith)) ∙ off j a b);
-    }
-
-    pub search_end : slots t ≤ i → Nothing ≡ found (slot_that f t)
-    search_end h = ap found (lowest_end (slot_that f t) (test_at f t) (slots t) i s.left h)
-
--- ---- a scan of the slots from i on, which has come to slot k
-
-pub record Scanned (f : Row → Bool) (t : Words) (i k : ℕ) : Type 0 where
-  pub above : i ≤ k
-  pub below : k ≤ slots t
-  pub passed : (j : ℕ) → i ≤ j → j < k → f (record_at t j) ≡ false
-
-module _ (f : Row → Bool) (t : Words) (i : ℕ) where
-  pub scan_start : i ≤ slots t → Scanned f t i i
-  scan_start h = record { above = omega arith; below = h; passed = λ j a b. absurd (omega arith) }
-
-  module _ (k : ℕ) (s : Scanned f t i k) where
-    pub scan_next : k < slots t → f (record_at t k) ≡ false → Scanned f t i (k + 1)
-    scan_next h off = record {
-      above = omega (arith, s.above);
-      below = omega arith;
-      passed = λ j a b. go j a b (ℕ_discrete j k);
-    }
-      where
-        go : (j : ℕ) → i ≤ j → j < k + 1 → Dec (j ≡ k) → f (record_at t j) ≡ false
-        go j a b (yes q) = ap (λ n. f (record_at t n)) q ∙ off
-        go j a b (no q) = s.passed j a (omega arith)
-
-    pub scan_here : f (record_at t k) ≡ true → Reached f t i k
-    scan_here on = record { above = s.above; below = s.below; passed = s.passed; here = λ h. on }
-
-    pub scan_end : slots t ≤ k → Reached f t i k
-    scan_end h = record { above = s.above; below = s.below; passed = s.passed; here = λ l. absurd (omega arith) }
-
-    -- a scan that goes on from slot k
-    pub scan_on : (r : ℕ) → Reached f t k r → Reached f t i r
-    scan_on r q = record {
-      above = omega (arith, s.above, q.above);
-      below = q.below;
-      passed = λ j a b. go j a b (dec_lt j k);
-      here = q.here;
-    }
-      where
-        go : (j : ℕ) → i ≤ j → j < r → Dec (j < k) → f (record_at t j) ≡ false
-        go j a b (yes h) = s.passed j a h
-        go j a b (no h) = q.passed j (omega arith) b
-
--- a search whose first i slots don't pass, by what a scan from there reached
-module _ (f : Row → Bool) (t : Words) (i k : ℕ) (off : (j : ℕ) → 0 ≤ j → j < i → f (record_at t j) ≡ false)
-    (r : Reached f t i k) where
-  come : Searched f t k
-  come =
-      let low : i ≤ slots t = omega (arith, r.above, r.below) in
-      search_skip f t i (search_skip f t 0 (search_start f t) i (omega arith) low off) k r.above r.below
-      r.passed
-
-  pub reach_here : k < slots t → At k ≡ found (slot_that f t)
-  reach_here h = search_here f t k come h (r.here h)
-
-  pub reach_end : slots t ≤ k → Nothing ≡ found (slot_that f t)
-  reach_end h = search_end f t k come h
+  pub slot_reached : (r : maybe.Option ℕ) → FirstSlot f t i n r → Reached f t 0 (unwrap_or r n)
+  slot_reached None off = record {
+    above = omega arith;
+    below = omega arith;
+    passed = λ j a b. below n off j b;
+    here = λ h. absurd (omega arith);
+  }
+  slot_reached (Some k) (a, h, e, off) = record {
+    above = omega arith;
+    below = omega arith;
+    passed = λ j a b. below k off j b;
+    here = λ h. e;
+  }
 
 -- ---- slots without a ticket
 
@@ -158,17 +119,17 @@ without_empty t i e h j a b = rw (eqb_ne (record_at t j).ticket 0 (h j a b))
 
 -- ---- the slot that was found
 
-found_at : (o : Option ℕ) (i : ℕ) → found o ≡ At i → o ≡ some i
+found_at : (o : Option ℕ) (i : ℕ) → found o ≡ Some i → o ≡ some i
 found_at none i e = let z : ◌≡◌ {A = ℕ} 0 1 = cc in absurd (omega arith)
 found_at (some j) i e = let z : j ≡ i = cc in ap some z
 
-found_nothing : (o : Option ℕ) → found o ≡ Nothing → o ≡ none
+found_nothing : (o : Option ℕ) → found o ≡ None → o ≡ none
 found_nothing none e = refl
 found_nothing (some j) e = let z : ◌≡◌ {A = ℕ} 0 1 = cc in absurd (omega arith)
 
 -- ---- the slot of a ticket
 
-pub ticket_zero : (k : ℕ) (L : Ledger) → k ≡ 0 → Nothing ≡ ticket_slot k L
+pub ticket_zero : (k : ℕ) (L : Ledger) → k ≡ 0 → None ≡ ticket_slot k L
 unfolding ticket_slot
 ticket_zero k L e = rw e (sym (ap found (lowest_nothing (ticket_at 0 L) 0 (length L) (λ i a b. refl))))
 
@@ -192,7 +153,7 @@ first_nowhere p [] h = refl
 first_nowhere p (r ∷ L) h = rw (h 0 (omega arith)) (first_nowhere p L (λ i l. h (suc i) (omega arith)))
 
 module _ (k : ℕ) (t : Words) where
-  pub ticket_found : (i : ℕ) → ticket_slot k (records_of t) ≡ At i
+  pub ticket_found : (i : ℕ) → ticket_slot k (records_of t) ≡ Some i
       → (i < slots t) × (record_of k (records_of t) ≡ some (record_at t i))
   unfolding ticket_slot
   ticket_found i e =
@@ -202,7 +163,7 @@ module _ (k : ℕ) (t : Words) where
       let here = first_here (has_ticket k) L i (omega arith) l.passes (λ j b. l.least j (omega arith) b) in
       (h, here ∙ ap some (record_at_lem t i h))
 
-  pub ticket_missing : ticket_slot k (records_of t) ≡ Nothing → record_of k (records_of t) ≡ none
+  pub ticket_missing : ticket_slot k (records_of t) ≡ None → record_of k (records_of t) ≡ none
   unfolding ticket_slot
   ticket_missing e =
       let L = records_of t in
@@ -211,7 +172,7 @@ module _ (k : ℕ) (t : Words) where
 
   -- to carry out a ticket's plan in a valid ledger is to do it in the slot that the search finds
   pub ticket_settle : (q : Plan) (ρ : Rule) (W next : ℕ) → valid ρ W next (records_of t) ≡ true
-      → (i : ℕ) → ticket_slot k (records_of t) ≡ At i
+      → (i : ℕ) → ticket_slot k (records_of t) ≡ Some i
       → settle (member k q ∷ []) (records_of t) ≡ set (records_of t) i (carry_out q (record_at t i))
   ticket_settle q ρ W next good i e =
       let (h, held) = ticket_found i e in
@@ -223,7 +184,7 @@ module _ (k : ℕ) (t : Words) where
 -- ---- the lowest empty slot
 
 module _ (t : Words) where
-  pub empty_found : (i : ℕ) → empty_slot (records_of t) ≡ At i
+  pub empty_found : (i : ℕ) → empty_slot (records_of t) ≡ Some i
       → (i < slots t) × (full (records_of t) ≡ false) × ((r : Row) → enter r (records_of t) ≡ set (records_of t) i r)
   unfolding empty_slot
   empty_found i e =
@@ -235,7 +196,7 @@ module _ (t : Words) where
         λ r. enter_slot r L i o,
       )
 
-  pub empty_missing : empty_slot (records_of t) ≡ Nothing → full (records_of t) ≡ true
+  pub empty_missing : empty_slot (records_of t) ≡ None → full (records_of t) ≡ true
   unfolding empty_slot
   empty_missing e =
       let L = records_of t in (full_none L).1 (found_nothing (lowest (empty_at L) 0 (length L)) e)

@@ -1,17 +1,16 @@
 -- The slots that a search of the table finds. Assumes nothing.
-use Rattle.std.specs.Prelude.{ℕ, ◌≤◌, ◌<◌, Bool, true, false, ◌≡◌, ◌≢◌, length, get_or}
-use Rattle.std.proofs.Math.Option.{Option, none, some}
+use Rattle.std.specs.Prelude.{ℕ, ◌≤◌, ◌<◌, Bool, true, false, ◌≡◌, ◌≢◌, length, get_or, Option, None, Some}
+use Rattle.std.proofs.Math.Option as maybe
+use Rattle.std.proofs.Math.Option.{none, some}
 use Rattle.words.specs.Counted.{lowest}
 use Rattle.words.specs.Lists.{Words}
 use Rattle.ledger.specs.declared.Row.{Row}
 use Rattle.ledger.specs.Records.{Ledger, empty_row, record_at, slots, is_empty, has_ticket}
-use Rattle.record_table.specs.declared.Found.{Found}
-use Rattle.record_table.specs.declared.Found.TheVariants.{At, Nothing}
 
--- a slot that may be missing, as the code's enum
-abbrev pub found : Option ℕ → Found
-found none = Nothing
-found (some i) = At i
+-- a slot that may be missing, as the code's Option
+abbrev pub found : maybe.Option ℕ → Option ℕ
+found none = None
+found (some i) = Some i
 
 -- slot i holds a record with this ticket; slot i is empty
 abbrev pub ticket_at : ℕ → Ledger → ℕ → Bool
@@ -21,11 +20,11 @@ abbrev pub empty_at : Ledger → ℕ → Bool
 empty_at L i = is_empty (get_or L i empty_row)
 
 -- the lowest slot with this ticket, none for ticket 0
-unfoldable pub ticket_slot : ℕ → Ledger → Found
+unfoldable pub ticket_slot : ℕ → Ledger → Option ℕ
 ticket_slot t L = found (lowest (ticket_at t L) 0 (length L))
 
 -- the lowest empty slot
-unfoldable pub empty_slot : Ledger → Found
+unfoldable pub empty_slot : Ledger → Option ℕ
 empty_slot L = found (lowest (empty_at L) 0 (length L))
 
 -- no ticket from slot i up to slot e is x

@@ -2,7 +2,7 @@
 // that it holds a valid ledger.
 #![tactic(auto)]
 
-ghost use Rattle.std.specs.Prelude.{◌≡◌, ◌≢◌, true, false, ◌+◌, ◌/◌, ◌-◌, ◌%◌, ◌≤◌, ◌<◌, length, set};
+ghost use Rattle.std.specs.Prelude.{◌≡◌, ◌≢◌, ℕ, true, false, ◌+◌, ◌/◌, ◌-◌, ◌%◌, ◌≤◌, ◌<◌, length, set, IfSome, IsSome};
 ghost use Rattle.words.specs.Lists.{is_zero};
 ghost use Rattle.words.specs.Counted.{every};
 ghost use Rattle.ledger.specs.Records.{record_words, record_at, slots, records_of, table_of, is_party, is_empty, is_live};
@@ -14,12 +14,13 @@ ghost use Rattle.record_table.specs.Partition.{new_at, other_than, mark_of, Note
 
 use ledger::{Row, Rule};
 
-// The slot that a search found.
-#[derive(Clone, Copy)]
-pub enum Found {
-    At(usize),
-    Nothing,
-}
+// An empty slot of the table.
+pub const EMPTY_ROW: Row = Row {
+    ticket: 0,
+    address: 0,
+    words: 0,
+    party: 0,
+};
 
 // The slots of a table, four words to each.
 pub fn slot_count(table: &[u32]) -> usize
@@ -79,151 +80,85 @@ fn is_met(table: &[u32], x: u32, i: usize) -> bool
 fn passed(table: &[u32], x: u32) -> usize
     ensures { (result ≤ slots table.now) × Without table.now x 0 result }
 {
-    let n = slot_count(table);
-    let mut i = 0;
-    while n - i >= 4 {
-        if is_met(table, x, i) {
-            return i;
+    let fours = slot_count(table) / 4;
+    for k in 0..fours {
+        if is_met(table, x, 4 * k) {
+            return 4 * k;
         }
-        i += 4;
     }
-    i
-}
-
-// The lowest slot with this ticket from slot i on, or the number of slots.
-fn ticket_from(table: &[u32], ticket: u32, i: usize) -> usize
-    requires { (i ≤ slots table.now) × (ticket ≢ 0) }
-    ensures { Reached (has_ticket ticket) table.now i result }
-{
-    let n = slot_count(table);
-    let mut k = i;
-    while k < n {
-        if ticket_at(table, k) == ticket {
-            return k;
-        }
-        k += 1;
-    }
-    k
+    4 * fours
 }
 
 // The lowest slot with this ticket. Ticket 0 is no record's, though it stands in every empty slot.
-pub fn find_slot(table: &[u32], ticket: u32) -> Found
+pub fn find_slot(table: &[u32], ticket: u32) -> Option<usize>
     ensures { result ≡ ticket_slot ticket (records_of table.now) }
 {
     if ticket == 0 {
-        return Found::Nothing;
+        return None;
     }
     let i = passed(table, ticket);
-    let k = ticket_from(table, ticket, i);
-    if k < slot_count(table) {
-        return Found::At(k);
-    }
-    Found::Nothing
+    (i..slot_count(table)).find(|k| ticket_at(table, *k) == ticket)
 }
 
 pub fn is_empty(r: Row) -> bool
     ensures { result ≡ is_empty r }
 {
-    (r.ticket == 0) & (r.address == 0) & (r.words == 0) & (r.party == 0)
+    r == EMPTY_ROW
 }
 
-// The lowest empty slot from slot i on, or the number of slots.
-fn empty_from(table: &[u32], i: usize) -> usize
-    requires { i ≤ slots table.now }
-    ensures { Reached is_empty table.now i result }
+// The lowest empty slot.
+pub fn empty_slot(table: &[u32]) -> Option<usize>
+    ensures { result ≡ empty_slot (records_of table.now) }
 {
-    let n = slot_count(table);
-    let mut k = i;
-    while k < n {
-        if is_empty(read_row(table, k)) {
-            return k;
-        }
-        k += 1;
-    }
-    k
-}
-
-// The lowest live slot from slot i on, or the number of slots.
-fn live_from(table: &[u32], i: usize) -> usize
-    requires { i ≤ slots table.now }
-    ensures { Reached is_live table.now i result }
-{
-    let n = slot_count(table);
-    let mut k = i;
-    while k < n {
-        if !is_empty(read_row(table, k)) {
-            return k;
-        }
-        k += 1;
-    }
-    k
+    let i = passed(table, 0);
+    (i..slot_count(table)).find(|k| is_empty(read_row(table, *k)))
 }
 
 // The lowest live slot, or the number of slots. Slot 0 is looked at apart: in a pool that is used it is most often live.
 pub fn first_live(table: &[u32]) -> usize
     ensures { Reached is_live table.now 0 result }
 {
-    if slot_count(table) == 0 {
+    let n = slot_count(table);
+    if n == 0 {
         return 0;
     }
     if !is_empty(read_row(table, 0)) {
         return 0;
     }
-    live_from(table, 1)
-}
-
-// The lowest empty slot.
-pub fn empty_slot(table: &[u32]) -> Found
-    ensures { result ≡ empty_slot (records_of table.now) }
-{
-    let i = passed(table, 0);
-    let k = empty_from(table, i);
-    if k < slot_count(table) {
-        return Found::At(k);
-    }
-    Found::Nothing
+    (1..n).find(|k| !is_empty(read_row(table, *k))).unwrap_or(n)
 }
 
 // ---- the unit rule
 
-// How often so many words go into w. The units in use, 1, 2, 4 and 8, are spared a division by a variable.
+// What f makes of the words of a unit. The units in use, 1, 2, 4 and 8, are spared a division by a variable.
+fn by_unit<F: Fn(usize) -> usize>(unit: usize, f: F) -> usize
+    requires callable { (k : ℕ) → 0 < k → F.pre f k }
+    requires unit_nonzero { 0 < unit }
+    ensures { F.post f unit result }
+{
+    match unit {
+        1 => f(1),
+        2 => f(2),
+        4 => f(4),
+        8 => f(8),
+        _ => f(unit),
+    }
+}
+
+// How often so many words go into w.
 fn whole_units(w: usize, unit: usize) -> usize
     requires { 0 < unit }
     ensures { result ≡ w / unit }
 {
-    if unit == 1 {
-        return w;
-    }
-    if unit == 2 {
-        return w / 2;
-    }
-    if unit == 4 {
-        return w / 4;
-    }
-    if unit == 8 {
-        return w / 8;
-    }
-    w / unit
+    by_unit(unit, |k| w / k)
 }
 
 // What is left over then.
-fn rest(w: u32, unit: u32) -> u32
+fn rest(w: u32, unit: u32) -> usize
     requires { 0 < unit }
     ensures { result ≡ w % unit }
 {
-    if unit == 1 {
-        return 0;
-    }
-    if unit == 2 {
-        return w % 2;
-    }
-    if unit == 4 {
-        return w % 4;
-    }
-    if unit == 8 {
-        return w % 8;
-    }
-    w % unit
+    by_unit(unit as usize, |k| w as usize % k)
 }
 
 // The units that a request for n words takes.
@@ -241,10 +176,7 @@ pub fn span_of(rule: Rule, n: u32) -> usize
 fn begin_of(rule: Rule, r: Row) -> u32
     ensures { result ≡ r.address - rule.lead }
 {
-    if r.address < rule.lead {
-        return 0;
-    }
-    r.address - rule.lead
+    r.address.saturating_sub(rule.lead)
 }
 
 // A record's first unit.
@@ -303,10 +235,8 @@ fn unlike_earlier(table: &[u32], i: usize, ticket: u32) -> bool
     ensures { result ≡ every (other_than table.now ticket) 0 i }
 {
     let mut ok = true;
-    let mut j = 0;
-    while j < i {
+    for j in 0..i {
         ok = ok & (ticket_at(table, j) != ticket);
-        j += 1;
     }
     ok
 }
@@ -320,13 +250,13 @@ fn mark_of(ticket: u32) -> u8
 
 // Whether the ticket of slot i is none of the earlier ones, which are noted; it is noted as well. Only where an earlier
 // one has its residue and may have its mark are tickets compared.
-fn is_new(seen: &mut [u8], m: usize, table: &[u32], i: usize, ticket: u32) -> bool
+fn is_new(seen: &mut [u8], table: &[u32], i: usize, ticket: u32) -> bool
     requires i_bound { (i < slots table.now) × (ticket ≡ (record_at table.now i).ticket) × (is_zero ticket ≡ false) }
-    requires m_nonzero { (0 < m) × (length seen.old ≡ m) × Noted m seen.old table.now i }
+    requires seen_nonempty { (0 < length seen.old) × Noted (length seen.old) seen.old table.now i }
     ensures value { result ≡ new_at table.now i }
-    ensures noted { Noted m seen.new table.now (i + 1) }
+    ensures noted { Noted (length seen.old) seen.new table.now (i + 1) }
 {
-    let at = residue(ticket, m);
+    let at = residue(ticket, seen.len());
     let mark = mark_of(ticket);
     let kept = seen[at];
     if kept == 0 {
@@ -350,24 +280,23 @@ pub fn may_enter(
     i: usize,
     r: Row,
     seen: &mut [u8],
-    m: usize,
 ) -> bool
     requires unit_nonzero { (0 < rule.unit) × (words % rule.unit ≡ 0) × (i < slots table.now) × (r ≡ record_at table.now i) }
     requires r_value { is_empty r ≡ false }
-    requires m_nonzero { (0 < m) × (length seen.old ≡ m) × Noted m seen.old table.now i }
+    requires seen_nonempty { (0 < length seen.old) × Noted (length seen.old) seen.old table.now i }
     ensures joins { result ≡ true → Joins rule words next table.now i (span rule r.words)
-        × Noted m seen.new table.now (i + 1) }
+        × Noted (length seen.old) seen.new table.now (i + 1) }
     ensures value { row_ok rule words next (record_at table.now i) ≡ true
         → new_at table.now i ≡ true → result ≡ true }
 {
     if !live_fits(rule, words, next, r) {
         return false;
     }
-    is_new(seen, m, table, i, r.ticket)
+    is_new(seen, table, i, r.ticket)
 }
 
-// The units of the record r of slot i where it may follow those before it, none for an empty one. More than the arena's
-// words if it may not. The arena is taken as whole units: no record has any of the words behind them.
+// The units of the record r of slot i where it may follow those before it, 0 for an empty one. The arena is taken as
+// whole units: no record has any of the words behind them.
 pub fn enter_row(
     rule: Rule,
     words: usize,
@@ -376,22 +305,22 @@ pub fn enter_row(
     i: usize,
     r: Row,
     seen: &mut [u8],
-    m: usize,
-) -> usize
+) -> Option<usize>
     requires unit_nonzero { (0 < rule.unit) × (words < 4294967296) × (i < slots table.now) × (r ≡ record_at table.now i) }
-    requires m_nonzero { (0 < m) × (length seen.old ≡ m) × Noted m seen.old table.now i }
-    ensures joins { result ≤ words → Joins rule words next table.now i result
-        × Noted m seen.new table.now (i + 1) }
-    ensures upper_bound { row_ok rule words next (record_at table.now i) ≡ true
-        → new_at table.now i ≡ true → result ≤ words }
+    requires seen_nonempty { (0 < length seen.old) × Noted (length seen.old) seen.old table.now i }
+    ensures joins { IfSome result (λ u. (u ≤ words) × Joins rule words next table.now i u
+        × Noted (length seen.old) seen.new table.now (i + 1)) }
+    ensures accepts { row_ok rule words next (record_at table.now i) ≡ true
+        → new_at table.now i ≡ true → IsSome result }
 {
     if is_empty(r) {
-        return 0;
+        return Some(0);
     }
     let unit = rule.unit as usize;
     let room = unit * whole_units(words, unit);
-    if !may_enter(rule, room, next, table, i, r, seen, m) {
-        return words + 1;
+    if may_enter(rule, room, next, table, i, r, seen) {
+        Some(span_of(rule, r.words))
+    } else {
+        None
     }
-    span_of(rule, r.words)
 }

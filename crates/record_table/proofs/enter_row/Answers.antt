@@ -1,7 +1,8 @@
 -- `record_table::enter_row` meets its contract. Assumes nothing.
 use native.Mathlib.Nat.{mul-div-le, mul-mod_right}
 use native.Mathlib.Omega.{arith}
-use mathlib.Core.Path.{◌≡◌, sym, ap, ◌∙◌}
+use lib.ListN.{length}
+use mathlib.Core.Path.{◌≡◌, refl, sym, ap, ◌∙◌}
 use mathlib.Core.Bool.{true, false≢true}
 use Rattle.ledger.specs.Records.{record_at, is_empty}
 use Rattle.record_table.specs.Checks.{row_ok}
@@ -14,14 +15,15 @@ returns-then-is_empty c =
     let a = c.args in
     let t = a.table.now in
     let is = c.requires.unit_nonzero.3 in
-    let (some, long, noted) = c.requires.m_nonzero in
+    let (some, noted) = c.requires.seen_nonempty in
     let none : is_empty (record_at t a.i) ≡ true =
     ap is_empty (sym is) ∙ sym c.is_empty.ensures ∙ c.if-is_empty.true in record {
-      joins = λ l. (
+      joins = (
+        omega arith,
         empty_joins a.rule a.words a.next t a.i none,
-        note_none a.m a.seen.now t a.i noted none,
+        note_none (length a.seen.now) a.seen.now t a.i noted none,
       );
-      upper_bound = λ ok new. omega arith;
+      accepts = λ ok new. refl;
     }
 
 pub overflow_mul-room : goal.overflow_mul-room
@@ -33,29 +35,29 @@ may_enter-requires c =
     let (unit, words, i, is) = c.requires.unit_nonzero in record {
       unit_nonzero = (unit, mul-mod_right c.args.rule.unit c.whole_units.result, i, is);
       r_value = sym c.is_empty.ensures ∙ c.if-is_empty.false;
-      m_nonzero = c.requires.m_nonzero;
+      seen_nonempty = c.requires.seen_nonempty;
     }
 
-pub returns-then-not-may_enter : goal.returns-then-not-may_enter
-returns-then-not-may_enter c =
+pub returns-else-may_enter : goal.returns-else-may_enter
+returns-else-may_enter c =
     let a = c.args in record {
-      joins = λ l. absurd (omega arith);
-      upper_bound = λ ok new. absurd (false≢true (sym c.if-not-may_enter.true ∙ c.may_enter.ensures.value
+      joins = tt;
+      accepts = λ ok new. absurd (false≢true (sym c.if-may_enter.false ∙ c.may_enter.ensures.value
           (row_whole a.rule c.requires.unit_nonzero.0 a.words a.next (record_at a.table.now a.i) c.whole_units.result
           c.whole_units.ensures ∙ ok) new));
     }
 
-pub returns : goal.returns
-returns c =
+pub returns-then-may_enter : goal.returns-then-may_enter
+returns-then-may_enter c =
     let a = c.args in
     let whole = row_whole a.rule c.requires.unit_nonzero.0 a.words a.next (record_at a.table.now a.i) c.whole_units.result
     c.whole_units.ensures in
-    let (joins, noted) = c.may_enter.ensures.joins c.if-not-may_enter.false in
+    let (joins, noted) = c.may_enter.ensures.joins c.if-may_enter.true in
     let live = sym c.is_empty.ensures ∙ c.if-is_empty.false in
     let ok = sym whole ∙ joins.0 in
     let (ticket, room) = fit_row a.rule c.requires.unit_nonzero.0 a.words a.next a.r live
     (ap (row_ok a.rule a.words a.next) c.requires.unit_nonzero.3 ∙ ok) in
     let units = c.span_of.ensures in record {
-      joins = λ l. ((ok, joins.1, units ∙ joins.2), noted);
-      upper_bound = λ good is. omega arith;
+      joins = (omega arith, (ok, joins.1, units ∙ joins.2), noted);
+      accepts = λ good is. refl;
     }

@@ -1,28 +1,21 @@
--- `record_table::find_slot` meets its contract: the slots that were passed do not pass, and the scan goes on from there.
--- Assumes nothing.
-use native.Mathlib.Omega.{arith}
+-- The slots that were passed don't have the ticket, and the first that has it from there on is the lowest.
+use Rattle.std.proofs.Common.{◌≡◌, true, false, rules, arith, tests}
+use Rattle.std.proofs.lemmas.Iterator.{first_from_Range}
 use Rattle.ledger.specs.Records.{record_at, records_of, has_ticket}
 use Rattle.record_table.specs.Slots.{ticket_slot}
-use Rattle.record_table.proofs.SlotLaws.{reach_here, reach_end, ticket_zero, has_other}
+use Rattle.record_table.proofs.SlotLaws.{slot_found, ticket_zero, has_same, has_other}
 use Rattle.record_table.proofs.find_slot.Goals as goal
 
 pub returns-then-ticket-eq0 : goal.returns-then-ticket-eq0
-returns-then-ticket-eq0 c = let a = c.args in ticket_zero a.ticket (records_of a.table.now) c.if-ticket-eq0.true
-
-pub returns-then-k-slot_count : goal.returns-then-k-slot_count
-unfolding ticket_slot
-returns-then-k-slot_count c =
-    let p = c.passed-i in
-    let a = c.args in
-    reach_here (has_ticket a.ticket) a.table.now p.result c.ticket_from-k.result
-    (λ j lo hi. has_other a.ticket (record_at a.table.now j) (p.ensures.1 j lo hi)) c.ticket_from-k.ensures
-    (omega (arith, c.if-k-slot_count.true, c.slot_count.ensures))
+returns-then-ticket-eq0 c = ticket_zero c.args.ticket (records_of c.args.table.now) c.if-ticket-eq0.true
 
 pub returns : goal.returns
 unfolding ticket_slot
 returns c =
-    let p = c.passed-i in
-    let a = c.args in
-    reach_end (has_ticket a.ticket) a.table.now p.result c.ticket_from-k.result
-    (λ j lo hi. has_other a.ticket (record_at a.table.now j) (p.ensures.1 j lo hi)) c.ticket_from-k.ensures
-    (omega (arith, c.if-k-slot_count.false, c.slot_count.ensures))
+    let t = c.args.table.now in
+    let x = c.args.ticket in
+    slot_found (has_ticket x) t c.passed-i.result c.slot_count.result c.slot_count.ensures
+    (λ j h. has_other x (record_at t j) (c.passed-i.ensures.1 j (omega arith) h)) c.find.result
+    (first_from_Range _ _ _ _ (λ k. has_ticket x (record_at t k) ≡ true) (λ k. has_ticket x (record_at t k) ≡ false)
+    c.find.ensures.ran (λ k q e. has_same x (record_at t k) (search rules) (grind (arith, tests)))
+    (λ k q e. (search rules, has_other x (record_at t k) (grind (arith, tests)))))

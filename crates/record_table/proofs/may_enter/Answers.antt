@@ -25,7 +25,7 @@ is_new-requires c =
     (rw c.requires.r_value good) in
     record {
       i_bound = (c.requires.unit_nonzero.2, ap (λ (r : Row). r.ticket) c.requires.unit_nonzero.3, live);
-      m_nonzero = c.requires.m_nonzero;
+      seen_nonempty = c.requires.seen_nonempty;
     }
 
 pub returns : goal.returns

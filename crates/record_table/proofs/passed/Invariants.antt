@@ -1,12 +1,7 @@
--- The invariants and measures of the loops of `record_table::passed`.
-use Prim.Native.Nat.{◌-◌, ◌≤◌}
-use mathlib.Core.Path.{◌≡◌}
-use Rattle.ledger.specs.Records.{slots}
+-- No slot before the fours that are left has the ticket.
+use Rattle.std.proofs.Common.{◌*◌}
 use Rattle.record_table.specs.Slots.{Without}
 use Rattle.record_table.proofs.passed.Given as goal
 
-abbrev pub invariant-loop-i : goal.invariant-loop-i
-invariant-loop-i l = (l.n ≡ slots l.table) × (l.i ≤ l.n) × Without l.table l.x 0 l.i
-
-abbrev pub decreases-loop-i : goal.decreases-loop-i
-decreases-loop-i l = l.n - l.i
+abbrev pub invariant-loop-k : goal.invariant-loop-k
+invariant-loop-k l = Without l.table l.x 0 (4 * l.k)

@@ -3,17 +3,14 @@ use Prim.Native.Nat.{ℕ, ◌+◌, ◌*◌, ◌-◌, ◌≤◌, ◌<◌}
 use native.Mathlib.Nat.{lt-mul-div-succ}
 use native.Mathlib.Omega.{arith}
 use mathlib.Core.Path.{◌≡◌, refl, sym, ap, ◌∙◌}
-use mathlib.Core.Logic.{◌≢◌}
 use mathlib.Core.Bool.{Bool, true, false, cond}
 use Rattle.words.specs.Lists.{Words}
-use lib.Dec.{eqb}
-use Rattle.words.proofs.Tests.{eqb_ne}
 use Rattle.ledger.specs.declared.Row.{Row}
 use Rattle.ledger.specs.declared.Rule.{Rule}
-use Rattle.ledger.specs.Records.{is_party, record_at, records_of, same_block, record_of, keepable}
+use Rattle.ledger.specs.Records.{is_party, record_of, keepable}
 use Rattle.calls.specs.Pool.{Pool, ledger, word_count, Engine, Laws, rule_of, sound}
 use Rattle.calls.specs.Step.{find, look, success, refusal, accepted, give, query, cut, Outcome}
-use Rattle.calls.specs.Step.{arena_part, placeholder, named, number_of, answer_done, answer_to}
+use Rattle.calls.specs.Step.{arena_part, placeholder, named, answer_done, answer_to}
 use Rattle.calls.specs.Step.{acts_done, perform, step}
 use Rattle.calls.proofs.StoreLaws.{sound_valid}
 use Rattle.ledger.specs.Units.{span, first, past, address_at}
@@ -22,70 +19,55 @@ use mathlib.Core.Option.{some}
 use Rattle.calls.proofs.ActLaws.{named_zero, act_done, act_refused, answer_number}
 use Rattle.calls.proofs.GateLaws.{Way, stops, runs, way, sound_gate, step_sound}
 use Rattle.calls.proofs.Demand1.{looks_at}
-use Rattle.record_table.specs.declared.Found.{Found}
-use Rattle.record_table.specs.declared.Found.TheVariants.{At, Nothing}
-use Rattle.record_table.specs.Slots.{ticket_slot}
-use Rattle.call_parts.specs.declared.Named.TheVariants.{Slot, Refused}
-use Rattle.call_parts.specs.Parts.{named_at, named_in, number_in}
+use Rattle.calls.specs.Step as Step
+use Rattle.calls.specs.declared.Refusal.{Refusal}
+use Rattle.calls.specs.Refusals.{number_of, number_in}
+use Rattle.calls.proofs.RefusalLaws.{number_no_zero, number_nonzero}
+use Rattle.std.specs.Prelude.{Ok, Err}
+use Rattle.call_parts.specs.Parts.{named_in}
 use Rattle.call_parts.proofs.NamedLaws.{named_number}
 use Rattle.call_parts.proofs.AskLaws.{RefusedBy, refused_by_lem}
 
 -- ---- the record that a call names
 
--- a refusal has a number
-pub named_refused : (t : Words) (r : Row) (n : ℕ) → named_in t r ≡ Refused n → n ≢ 0
-unfolding named_in
-named_refused t r n e = go (ticket_slot r.ticket (records_of t)) e
-  where
-    seven : (i : ℕ) (a b : Bool) → cond a (cond b (Slot i) (Refused 7)) (Refused 6) ≡ Refused n → n ≢ 0
-    seven i true true e z = let y : ◌≡◌ {A = ℕ} 0 1 = cc in absurd (omega arith)
-    seven i true false e z = let y : ◌≡◌ {A = ℕ} 7 n = cc in omega arith
-    seven i false b e z = let y : ◌≡◌ {A = ℕ} 6 n = cc in omega arith
-
-    go : (f : Found) → named_at t r f ≡ Refused n → n ≢ 0
-    go Nothing e z = let y : ◌≡◌ {A = ℕ} 6 n = cc in omega arith
-    go (At i) e z = seven i (eqb (record_at t i).party r.party) (same_block (record_at t i) r) e z
-
 module _ (p : Pool) (r : Row) where
-  pub slot_number : (i : ℕ) → named_in p.table r ≡ Slot i → named (ledger p) r ≡ 0
+  pub slot_number : (i : ℕ) → named_in p.table r ≡ Ok i → named (ledger p) r ≡ 0
   slot_number i e = sym (named_number p.table r) ∙ ap number_in e
 
-  pub refused_number : (n : ℕ) → named_in p.table r ≡ Refused n → named (ledger p) r ≡ n
-  refused_number n e = sym (named_number p.table r) ∙ ap number_in e
+  pub refused_number : (x : Refusal) → named_in p.table r ≡ Err x → named (ledger p) r ≡ number_of x
+  refused_number x e = sym (named_number p.table r) ∙ ap number_in e
 
 module _ (E : Engine) (p : Pool) (r : Row) (ok : sound E p ≡ true) (party : is_party r.party ≡ true) where
   find_answer : (step E (find r) p).answer ≡ answer_to E p (query r)
   unfolding acts_done
   find_answer = ap (λ (o : Outcome). o.answer) (step_sound E (find r) p refl refl ok party)
 
-  pub find_slot : (i : ℕ) → named_in p.table r ≡ Slot i → (step E (find r) p).answer ≡ success r
-  unfolding number_of answer_done
+  pub find_slot : (i : ℕ) → named_in p.table r ≡ Ok i → (step E (find r) p).answer ≡ success r
+  unfolding Step.number_of answer_done
   find_slot i e = find_answer ∙ (act_done E p (query r) (slot_number p r i e)).0
 
-  pub find_refused : (n : ℕ) → named_in p.table r ≡ Refused n → (step E (find r) p).answer ≡ refusal n
-  unfolding number_of
-  find_refused n e =
-      let k : named (ledger p) r ≡ n = refused_number p r n e in
-      find_answer ∙ (act_refused E p (query r) (λ z. named_refused p.table r n e (sym k ∙ z))).0 ∙ ap refusal k
+  pub find_refused : (x : Refusal) → named_in p.table r ≡ Err x → (step E (find r) p).answer ≡ refusal (number_of x)
+  unfolding Step.number_of
+  find_refused x e =
+      let k : named (ledger p) r ≡ number_of x = refused_number p r x e in
+      find_answer ∙ (act_refused E p (query r) (λ z. number_nonzero x (sym k ∙ z))).0 ∙ ap refusal k
 
 -- a release that names no record, or names it wrongly
-pub give_refused : (E : Engine) (p : Pool) (r : Row) (n : ℕ) → named_in p.table r ≡ Refused n
-    → RefusedBy E p (give r) n
-unfolding number_of
-give_refused E p r n e =
-    refused_by_lem E p (give r) n (refused_number p r n e) (eqb_ne n 0 (named_refused p.table r n e))
+pub give_refused : (E : Engine) (p : Pool) (r : Row) (x : Refusal) → named_in p.table r ≡ Err x
+    → RefusedBy E p (give r) (number_of x)
+unfolding Step.number_of
+give_refused E p r x e = refused_by_lem E p (give r) (number_of x) (refused_number p r x e) (number_no_zero x)
 
 -- a trim likewise; and one that names its record, but not words to keep
-pub cut_refused : (E : Engine) (p : Pool) (r : Row) (k n : ℕ) → named_in p.table r ≡ Refused n
-    → RefusedBy E p (cut r k) n
-unfolding number_of
-cut_refused E p r k n e =
-    let z = eqb_ne n 0 (named_refused p.table r n e) in
-    refused_by_lem E p (cut r k) n (rw (refused_number p r n e, z)) z
+pub cut_refused : (E : Engine) (p : Pool) (r : Row) (k : ℕ) (x : Refusal) → named_in p.table r ≡ Err x
+    → RefusedBy E p (cut r k) (number_of x)
+unfolding Step.number_of
+cut_refused E p r k x e =
+    refused_by_lem E p (cut r k) (number_of x) (rw (refused_number p r x e, number_no_zero x)) (number_no_zero x)
 
-pub cut_two : (E : Engine) (p : Pool) (r : Row) (k i : ℕ) → named_in p.table r ≡ Slot i → keepable k r ≡ false
+pub cut_two : (E : Engine) (p : Pool) (r : Row) (k i : ℕ) → named_in p.table r ≡ Ok i → keepable k r ≡ false
     → RefusedBy E p (cut r k) 2
-unfolding number_of
+unfolding Step.number_of
 cut_two E p r k i e h = refused_by_lem E p (cut r k) 2 (rw (slot_number p r i e, h)) refl
 
 -- ---- look
@@ -110,7 +92,7 @@ look_shows E p r hold = go (accepted (step E (find r) p).answer) refl
 
 module _ (E : Engine) (laws : Laws E) (p : Pool) (r : Row) where
   found_record : (step E (find r) p).answer.number ≡ 0 → (sound E p ≡ true) × (record_of r.ticket (ledger p) ≡ some r)
-  unfolding perform acts_done number_of
+  unfolding perform acts_done Step.number_of
   found_record z = go (step E (find r) p) (way E (find r) p) z
     where
       go : (o : Outcome) → Way E (find r) p o → o.answer.number ≡ 0

@@ -4,20 +4,15 @@
 ghost use Rattle.std.specs.Prelude.{◌≡◌, ◌+◌, ◌*◌, ◌≤◌, ◌<◌, length, get_or, set};
 ghost use Rattle.ledger.specs.Records.{records_of, keepable, shortened};
 ghost use Rattle.calls.specs.Pool.{next_after};
+ghost use Rattle.calls.specs.Refusals.{number_in};
 ghost use Rattle.calls.specs.Step.{success, refusal, list_suits};
 ghost use Rattle.call_parts.specs.Parts.{format_number, with_party, named_in, act_of, request_at, with_answer};
 
-use calls::Answer;
+use calls::{Answer, Refusal};
 use ledger::Row;
-use record_table::Found;
 
-// An empty slot of the table; and what a call that makes or names no record succeeds with.
-pub const EMPTY_ROW: Row = Row {
-    ticket: 0,
-    address: 0,
-    words: 0,
-    party: 0,
-};
+// What a call that makes or names no record succeeds with.
+pub use record_table::EMPTY_ROW;
 
 // A refusal: ticket, address and words are 0.
 pub fn refused(number: u32) -> Answer
@@ -47,65 +42,47 @@ pub fn succeeded(named: Row) -> Answer
 pub fn next_after(ticket: u32) -> u32
     ensures { result ≡ next_after ticket }
 {
-    if ticket == 4294967295 {
-        return 0;
-    }
-    ticket + 1
+    ticket.wrapping_add(1)
 }
 
-// The number that stops a format: 11 for an unknown form, 8 where the lent lengths are not right, then 6 for first
-// ticket 0; 0 lets it pass.
-pub fn format_number(known: bool, right: bool, first: u32) -> u32
-    ensures { result ≡ format_number known right first }
+// What stops a format: 11 for an unknown form, 8 where the lent lengths are not right, then 6 for first ticket 0.
+pub fn format_test(known: bool, right: bool, first: u32) -> Result<(), Refusal>
+    ensures { number_in result ≡ format_number known right first }
 {
     if !known {
-        return 11;
+        return Err(Refusal::UnknownForm);
     }
     if !right {
-        return 8;
+        return Err(Refusal::BadLengths);
     }
     if first == 0 {
-        return 6;
+        return Err(Refusal::UnknownTicket);
     }
-    0
+    Ok(())
 }
 
-// The number that stops a call of this party, where the pool's own number is given: 12 comes after 11, 8 and 1; 0 lets
-// it pass.
-pub fn with_party(number: u32, party: u32) -> u32
-    ensures { result ≡ with_party number party }
+// What stops a call of this party on a pool that is in order: 12, which comes after 11, 8 and 1.
+pub fn party_test(party: u32) -> Result<(), Refusal>
+    ensures { number_in result ≡ with_party 0 party }
 {
-    if number != 0 {
-        return number;
-    }
     if !record_table::is_party(party) {
-        return 12;
+        return Err(Refusal::NoParty);
     }
-    0
+    Ok(())
 }
 
-// The slot of the record that a call names, or the number of the refusal: 6, for another party's record too, or 7.
-#[derive(Clone, Copy)]
-pub enum Named {
-    Slot(usize),
-    Refused(u32),
-}
-
-pub fn named_slot(table: &[u32], named: Row) -> Named
+// The slot of the record that a call names; refused by 6, for another party's record too, or by 7.
+pub fn named_slot(table: &[u32], named: Row) -> Result<usize, Refusal>
     ensures { result ≡ named_in table.now named }
 {
-    match record_table::find_slot(table, named.ticket) {
-        Found::Nothing => Named::Refused(6),
-        Found::At(i) => {
-            let r = record_table::read_row(table, i);
-            if r.party != named.party {
-                return Named::Refused(6);
-            }
-            if (r.address == named.address) & (r.words == named.words) {
-                return Named::Slot(i);
-            }
-            Named::Refused(7)
-        }
+    let i = record_table::find_slot(table, named.ticket).ok_or(Refusal::UnknownTicket)?;
+    let r = record_table::read_row(table, i);
+    if r.party != named.party {
+        Err(Refusal::UnknownTicket)
+    } else if (r.address == named.address) & (r.words == named.words) {
+        Ok(i)
+    } else {
+        Err(Refusal::Mismatch)
     }
 }
 
@@ -121,23 +98,20 @@ pub fn shortened(named: Row, keep: u32) -> Row
     ensures { result ≡ shortened keep named }
 {
     Row {
-        ticket: named.ticket,
-        address: named.address,
         words: keep,
-        party: named.party,
+        ..named
     }
 }
 
-// A request of a list: party and words of an allocation, or the record that a release names.
-#[derive(Clone, Copy)]
+// A request of a list: an allocation, or a release of the record that it names.
+#[derive(Clone, Copy, PartialEq, Eq)]
 pub enum Request {
-    Ask(u32, u32),
+    Ask { party: u32, words: u32 },
     Give(Row),
-    Bad,
 }
 
-// Request i of a party's list, four words from word 4i on.
-pub fn request_at(requests: &[u32], party: u32, i: usize) -> Request
+// Request i of a party's list, four words from word 4i on, if it is one.
+pub fn request_at(requests: &[u32], party: u32, i: usize) -> Option<Request>
     requires { 4 * i + 3 < length requests.now }
     ensures { act_of result ≡ request_at party requests.now i }
 {
@@ -146,17 +120,17 @@ pub fn request_at(requests: &[u32], party: u32, i: usize) -> Request
     let y = requests[4 * i + 2];
     let z = requests[4 * i + 3];
     if (kind == 1) & (y == 0) & (z == 0) {
-        return Request::Ask(party, x);
+        return Some(Request::Ask { party, words: x });
     }
     if kind == 2 {
-        return Request::Give(Row {
+        return Some(Request::Give(Row {
             ticket: x,
             address: y,
             words: z,
             party,
-        });
+        }));
     }
-    Request::Bad
+    None
 }
 
 // The answer to request i, four words from word 4i on.

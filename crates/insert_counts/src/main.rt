@@ -224,8 +224,8 @@ fn opened(form: u32, arena: &mut [u32], map: &mut [u32], seed: u64) -> Round
     requires { Paired (form_of form) arena.old map.old }
     ensures { Mapped (form_of result.form) arena.new map.new result.root }
 {
-    words::wipe(arena);
-    words::wipe(map);
+    words::fill(arena, 0);
+    words::fill(map, 0);
     Round {
         form,
         root: 0,

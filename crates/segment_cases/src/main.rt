@@ -371,9 +371,9 @@ fn serve_line(
 
 // Zeros in the three buffers, and so many of their words lent.
 fn lend(arena: &mut [i32], table: &mut [u32], index: &mut [u32], given: &[u32]) -> Pool {
-    words::wipe_signed(arena);
-    words::wipe(table);
-    words::wipe(index);
+    words::fill(arena, 0);
+    words::fill(table, 0);
+    words::fill(index, 0);
     Pool {
         head: Head { next: 0 },
         segments: word(given, 0),

@@ -87,7 +87,7 @@ pub fn format(
     }
     let segments = segment_index::segments_of(s, arena.len());
     segment_cores::lay_out(arena, index, segments);
-    words::wipe(table);
+    words::fill(table, 0);
     Outcome {
         head: Head { next: first },
         answer: call_parts::succeeded(call_parts::EMPTY_ROW),

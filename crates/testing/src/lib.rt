@@ -132,7 +132,7 @@ fn signs(line: &[u8], out: &mut [u32]) {
 pub fn read_line(line: &[u8], given: &mut [u32]) -> usize {
     print(line);
     print(b"\n");
-    words::wipe(given);
+    words::fill(given, 0);
     let zero = 0;
     let end = until(line, 0, b'#');
     let count = numbers(&line[zero..end], given);

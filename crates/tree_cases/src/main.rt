@@ -264,8 +264,8 @@ const NO_BLOCK: Head = Head {
 
 // Zeros in both buffers, and so many of their words lent.
 fn lend(arena: &mut [u32], table: &mut [u32], given: &[u32]) -> Pool {
-    words::wipe(arena);
-    words::wipe(table);
+    words::fill(arena, 0);
+    words::fill(table, 0);
     Pool {
         head: NO_BLOCK,
         party: 1,

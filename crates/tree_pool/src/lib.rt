@@ -88,8 +88,8 @@ pub fn format(form: u32, arena: &mut [u32], table: &mut [u32], first: u32) -> Ou
         return tree_requests::refused_with(NO_HEAD, number);
     }
     let cells = cell_count(form, arena.len()) as u32;
-    words::wipe(arena);
-    words::wipe(table);
+    words::fill(arena, 0);
+    words::fill(table, 0);
     tree_nodes::put_node(form, arena, 0, cells, 0, 0);
     Outcome {
         head: Head {

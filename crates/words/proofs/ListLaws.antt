@@ -1,13 +1,15 @@
 -- Laws of tests over lists, and of lists made from a count. Assumes nothing.
-use Prim.Native.Nat.{ℕ, zero, suc, ◌+◌, ◌<◌}
-use native.Mathlib.Nat.{add-zero, add-suc, suc-add, not-suc-le-zero, le_of_suc-le-suc}
+use Prim.Native.Nat.{ℕ, zero, suc, ◌+◌, ◌-◌, ◌≤◌, ◌<◌}
+use native.Mathlib.Nat.{add-zero, zero-add, add-suc, suc-add, not-suc-le-zero, le_of_suc-le-suc}
 use native.Mathlib.Omega.{arith}
 use mathlib.Core.Path.{◌≡◌, refl, sym, ap, ap₂, ◌∙◌}
-use mathlib.Core.Bool.{Bool, true, false, cond, not, ◌&&◌, ◌||◌, false≢true, or-true}
+use mathlib.Core.Bool.{Bool, true, false, cond, not, ◌&&◌, ◌||◌, false≢true, or-true, and_assoc}
 use mathlib.Core.List.{List, [], ◌∷◌, ◌++◌, map}
 use mathlib.Core.Option.{none, some}
 use lib.Dec.{eqb}
-use lib.ListN.{length, get_or}
+use lib.ListN.{length, get_or, take, drop}
+use lib.Seq.{get_or-take, get_or-drop}
+use borrow.Rule.Slice.PartMut.{mid_of, mid_len}
 use Rattle.words.specs.Lists.{Words, is_zero, all, any, pairwise, first_that, list_from, same_words}
 use Rattle.words.specs.Counted.{every}
 use Rattle.words.proofs.Tests.{and_l, and_r, and_i, or_l, or_r, and_map, or_map, eqb_eq, eqb_same, absurd_some}
@@ -30,9 +32,12 @@ zeros_at [] e u = refl
 zeros_at (x ∷ m) e zero = eqb_eq x 0 (and_l (is_zero x) (all is_zero m) e)
 zeros_at (x ∷ m) e (suc u) = zeros_at m (and_r (is_zero x) (all is_zero m) e) u
 
-every_shift : (p : ℕ → Bool) (i n : ℕ) → every p (suc i) n ≡ every (λ k. p (suc k)) i n
-every_shift p i zero = refl
-every_shift p i (suc n) = ap (λ b. p (suc i) && b) (every_shift p (suc i) n)
+-- tests of as many numbers, from two places on
+every_moved : (p q : ℕ → Bool) (i j n : ℕ) → ((k : ℕ) → k < n → p (i + k) ≡ q (j + k)) → every p i n ≡ every q j n
+every_moved p q i j zero h = refl
+every_moved p q i j (suc n) h =
+    ap₂ (λ a b. a && b) (rw (add-zero i, add-zero j) at (h 0 (omega arith)))
+    (every_moved p q (suc i) (suc j) n (λ k l. rw (suc-add i k, suc-add j k, ← add-suc i k, ← add-suc j k) (h (suc k) (omega arith))))
 
 module _ {A : Type 0} where
   -- ---- a map g that keeps a test
@@ -89,7 +94,22 @@ module _ {A : Type 0} where
   pub all_places : (p : A → Bool) (d : A) (l : List A) → all p l ≡ every (λ k. p (get_or l k d)) 0 (length l)
   all_places p d [] = refl
   all_places p d (x ∷ l) =
-      ap (λ b. p x && b) (all_places p d l ∙ sym (every_shift (λ k. p (get_or (x ∷ l) k d)) 0 (length l)))
+      ap (λ b. p x && b) (all_places p d l ∙ every_moved (λ k. p (get_or l k d)) (λ k. p (get_or (x ∷ l) k d)) 0 1 (length l) (λ k h. let e : 1 + k ≡ suc k = omega arith in rw (zero-add, e)))
+
+  -- a test of a part
+  pub all_part : (p : A → Bool) (d : A) (l : List A) (lo hi : ℕ) → hi ≤ length l
+      → all p (mid_of lo (hi - lo) l) ≡ every (λ k. p (get_or l k d)) lo (hi - lo)
+  all_part p d l lo hi h =
+      all_places p d (mid_of lo (hi - lo) l)
+      ∙ ap (every (λ k. p (get_or (mid_of lo (hi - lo) l) k d)) 0) (mid_len lo hi l h)
+      ∙ every_moved (λ k. p (get_or (mid_of lo (hi - lo) l) k d)) (λ k. p (get_or l k d)) 0 lo (hi - lo)
+      (λ k m. rw zero-add (ap p (get_or-take (hi - lo) (drop lo l) k d m ∙ get_or-drop lo l k d)))
+
+  -- the first n elements apart
+  pub all_cut : (p : A → Bool) (n : ℕ) (l : List A) → all p l ≡ (all p (take n l) && all p (drop n l))
+  all_cut p zero l = refl
+  all_cut p (suc n) [] = refl
+  all_cut p (suc n) (x ∷ l) = ap (λ b. p x && b) (all_cut p n l) ∙ sym (and_assoc (p x) (all p (take n l)) (all p (drop n l)))
 
   -- ---- any
 

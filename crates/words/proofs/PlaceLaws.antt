@@ -6,10 +6,11 @@ use native.Mathlib.Omega.{arith}
 use mathlib.Core.Path.{◌≡◌, refl, sym, ap, ap₂, ◌∙◌}
 use mathlib.Core.Logic.{◌≢◌}
 use mathlib.Core.Bool.{Bool, true, false, cond, not, true≢false}
-use mathlib.Core.List.{List, [], ◌∷◌, ◌++◌, map, append-nil}
+use mathlib.Core.List.{List, [], ◌∷◌, ◌++◌, map, append-nil, append_assoc}
+use borrow.Rule.Slice.PartMut.{mid_of, put_mid, mid_len}
 use lib.ListN.{length, get_or, set, take, drop, replicate}
 use lib.ListN.{length-append, length-set, length-drop, length-replicate, get_or-replicate, get_or-append}
-use lib.Seq.{drop-length, length-take-le, ext_get_or}
+use lib.Seq.{drop-length, drop-drop, length-take-le, ext_get_or}
 use lib.Seq.{get_or-append-add, get_or-set_same, get_or-set_other, get_or-take, get_or-drop}
 use Rattle.words.specs.Counted.{within, outside}
 use Rattle.words.specs.Places.{stamp_from, stamp, constant, wiped}
@@ -151,6 +152,13 @@ module _ {A : Type 0} where
 
   pub wiped_all : (z : A) (a : List A) → wiped z 0 (length a) a ≡ replicate (length a) z
   wiped_all z a = wiped_part z 0 (length a) a (omega arith) (omega arith) ∙ rw (sub-zero, drop-length, append-nil)
+
+  -- what a write of one value to a part leaves
+  pub wiped_put : (z : A) (lo hi : ℕ) (a b : List A) → lo ≤ hi → hi ≤ length a
+      → b ≡ replicate (length (mid_of lo (hi - lo) a)) z → put_mid lo (hi - lo) a b ≡ wiped z lo hi a
+  wiped_put z lo hi a b h l e =
+      let n : lo + (hi - lo) ≡ hi = omega arith in
+      rw (e, mid_len lo hi a l, drop-drop (hi - lo) lo a, n, ← append_assoc) (sym (wiped_part z lo hi a h l))
 
   -- ---- a part that a loop wipes from its front: nothing yet, one element more, and the whole part
 

@@ -1,108 +1,129 @@
 // Loops over words that every part of the pool needs: setting a run of them, and testing that a run is all zero.
 #![tactic(auto)]
 
-ghost use Rattle.std.specs.Prelude.{◌≡◌, ◌-◌, ◌≤◌, length, replicate, pos};
-ghost use Rattle.words.specs.Lists.{zero_at};
-ghost use Rattle.words.specs.Signed.{zero_at_z};
+ghost use Rattle.std.specs.Prelude.{◌≡◌, ◌-◌, ◌≤◌, ℕ, Bool, true, ◌&&◌, length, get_or, replicate, pos};
+ghost use Rattle.words.specs.Lists.{all, is_zero};
+ghost use Rattle.words.specs.Signed.{is_zero_z};
 ghost use Rattle.words.specs.Counted.{every};
 ghost use Rattle.words.specs.Places.{wiped};
 
-// Zeros from word lo up to word hi.
-pub fn wipe_part(s: &mut [u32], lo: usize, hi: usize)
+// x in the whole slice.
+pub fn fill<T: Copy>(s: &mut [T], x: T)
+    ensures { s.new ≡ replicate (length s.old) x }
+{
+    for y in s.iter_mut() {
+        *y = x;
+    }
+}
+
+// x from place lo up to place hi.
+pub fn fill_part<T: Copy>(s: &mut [T], lo: usize, hi: usize, x: T)
     requires { (lo ≤ hi) × (hi ≤ length s.old) }
-    ensures { s.new ≡ wiped 0 lo hi s.old }
+    ensures { s.new ≡ wiped x lo hi s.old }
 {
-    let mut i = lo;
-    while i < hi {
-        s[i] = 0;
-        i += 1;
+    fill(&mut s[lo..hi], x);
+}
+
+// Numbers whose bits can be gathered: what two hold together is zero only where both are.
+pub trait Bits: Copy {
+    ghost zero: { Self };
+
+    ghost is_zero: { Self → Bool };
+
+    fn zero() -> Self
+        ensures { (result ≡ zero) × (is_zero result ≡ true) };
+
+    fn or(self, other: Self) -> Self
+        ensures { is_zero result ≡ (is_zero self && is_zero other) };
+
+    fn is_zero(self) -> bool
+        ensures { result ≡ is_zero self };
+}
+
+impl Bits for u8 {
+    ghost zero = { 0 };
+
+    ghost is_zero = { is_zero };
+
+    fn zero() -> u8 {
+        0
+    }
+
+    fn or(self, other: u8) -> u8 {
+        self | other
+    }
+
+    fn is_zero(self) -> bool {
+        self == 0
     }
 }
 
-// Zeros in the whole slice.
-pub fn wipe(s: &mut [u32])
-    ensures { s.new ≡ replicate (length s.old) 0 }
-{
-    let n = s.len();
-    wipe_part(&mut *s, 0, n);
-}
+impl Bits for u32 {
+    ghost zero = { 0 };
 
-// Zeros from signed word lo up to signed word hi.
-pub fn wipe_part_signed(s: &mut [i32], lo: usize, hi: usize)
-    requires { (lo ≤ hi) × (hi ≤ length s.old) }
-    ensures { s.new ≡ wiped (pos 0) lo hi s.old }
-{
-    let mut i = lo;
-    while i < hi {
-        s[i] = 0;
-        i += 1;
+    ghost is_zero = { is_zero };
+
+    fn zero() -> u32 {
+        0
+    }
+
+    fn or(self, other: u32) -> u32 {
+        self | other
+    }
+
+    fn is_zero(self) -> bool {
+        self == 0
     }
 }
 
-// Zeros in the whole slice of signed words.
-pub fn wipe_signed(s: &mut [i32])
-    ensures { s.new ≡ replicate (length s.old) (pos 0) }
-{
-    let n = s.len();
-    wipe_part_signed(&mut *s, 0, n);
-}
+impl Bits for i32 {
+    ghost zero = { pos 0 };
 
-// Whether the words from lo up to hi are 0. The loop gathers all their bits and has no way out, so that the machine
-// reads many words at a time.
-fn is_zero_block(s: &[u32], lo: usize, hi: usize) -> bool
-    requires { (lo ≤ hi) × (hi ≤ length s.now) }
-    ensures { result ≡ every (zero_at s.now) lo (hi - lo) }
-{
-    let mut any: u32 = 0;
-    let mut i = lo;
-    while i < hi {
-        any = any | s[i];
-        i += 1;
+    ghost is_zero = { is_zero_z };
+
+    fn zero() -> i32 {
+        0
     }
-    any == 0
+
+    fn or(self, other: i32) -> i32 {
+        self | other
+    }
+
+    fn is_zero(self) -> bool {
+        self == 0
+    }
 }
 
-// Whether the words from lo up to hi are 0. After each block of 256 words the answer may be known.
-pub fn is_zero_part(s: &[u32], lo: usize, hi: usize) -> bool
-    requires { (lo ≤ hi) × (hi ≤ length s.now) }
-    ensures { result ≡ every (zero_at s.now) lo (hi - lo) }
+// Whether all are zero. The loop gathers all their bits and has no way out, so that the machine reads many at a time.
+fn is_zero_block<T: Bits>(s: &[T]) -> bool
+    ensures { result ≡ all T.is_zero s.now }
 {
-    let mut i = lo;
-    while hi - i >= 256 {
-        let e = i + 256;
-        if !is_zero_block(s, i, e) {
+    let mut any = T::zero();
+    for x in s {
+        any = any.or(*x);
+    }
+    any.is_zero()
+}
+
+// Whether all are zero. After each block of 256 the answer may be known.
+pub fn is_zero<T: Bits>(s: &[T]) -> bool
+    ensures { result ≡ all T.is_zero s.now }
+{
+    let mut rest = s;
+    while rest.len() >= 256 {
+        let (block, tail) = rest.split_at(256);
+        if !is_zero_block(block) {
             return false;
         }
-        i = e;
+        rest = tail;
     }
-    is_zero_block(s, i, hi)
+    is_zero_block(rest)
 }
 
-// The tests once more, over signed words.
-fn is_zero_block_signed(s: &[i32], lo: usize, hi: usize) -> bool
+// Whether those from place lo up to place hi are zero.
+pub fn is_zero_part<T: Bits>(s: &[T], lo: usize, hi: usize) -> bool
     requires { (lo ≤ hi) × (hi ≤ length s.now) }
-    ensures { result ≡ every (zero_at_z s.now) lo (hi - lo) }
+    ensures { result ≡ every (λ (i : ℕ). T.is_zero (get_or s.now i T.zero)) lo (hi - lo) }
 {
-    let mut any: i32 = 0;
-    let mut i = lo;
-    while i < hi {
-        any = any | s[i];
-        i += 1;
-    }
-    any == 0
-}
-
-pub fn is_zero_part_signed(s: &[i32], lo: usize, hi: usize) -> bool
-    requires { (lo ≤ hi) × (hi ≤ length s.now) }
-    ensures { result ≡ every (zero_at_z s.now) lo (hi - lo) }
-{
-    let mut i = lo;
-    while hi - i >= 256 {
-        let e = i + 256;
-        if !is_zero_block_signed(s, i, e) {
-            return false;
-        }
-        i = e;
-    }
-    is_zero_block_signed(s, i, hi)
+    is_zero(&s[lo..hi])
 }

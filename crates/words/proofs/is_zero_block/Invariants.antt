@@ -1,14 +1,8 @@
-use Prim.Native.Nat.{◌≤◌, ◌-◌}
 use mathlib.Core.Path.{◌≡◌}
 use mathlib.Core.Bool.{◌&&◌}
-use lib.Dec.{eqb}
-use Rattle.words.specs.Lists.{zero_at}
-use Rattle.words.specs.Counted.{every}
+use lib.ListN.{drop}
+use Rattle.words.specs.Lists.{all}
 use Rattle.words.proofs.is_zero_block.Given as goal
 
-abbrev pub invariant-loop-i : goal.invariant-loop-i
-invariant-loop-i l =
-    (l.lo ≤ l.i) × (l.i ≤ l.hi) × ((eqb l.any 0 && every (zero_at l.s) l.i (l.hi - l.i)) ≡ every (zero_at l.s) l.lo (l.hi - l.lo))
-
-abbrev pub decreases-loop-i : goal.decreases-loop-i
-decreases-loop-i l = l.hi - l.i
+abbrev pub invariant-loop-x : goal.invariant-loop-x
+invariant-loop-x g l = let zero = g.T.Bits.is_zero in (zero l.any && all zero (drop l.x-index l.s)) ≡ all zero l.s

@@ -1,31 +1,8 @@
--- `words::is_zero_part` meets its contract. Its invariant: the answer is the test of what is left from i on.
--- Assumes nothing.
-use Prim.Native.Nat.{◌+◌}
-use mathlib.Core.Path.{refl, sym, ◌∙◌}
-use native.Mathlib.Omega.{arith}
-use borrow.Author.Rules.{rules}
-use Rattle.words.proofs.CountedLaws.{every_skip, every_stop}
+use mathlib.Core.Path.{◌∙◌}
+use Rattle.words.proofs.ListLaws.{all_part}
 use Rattle.words.proofs.is_zero_part.Goals as goal
 
-pub loop-i-init : goal.loop-i-init
-loop-i-init c = (search rules, search rules, refl)
-
-pub returns-then-not-is_zero_block : goal.returns-then-not-is_zero_block
-returns-then-not-is_zero_block c =
-    let l = c.loop-i in
-    let block = c.is_zero_block in
-    every_stop _ _ _ l.i l.invariant.2 (l.i + 256) block.result (omega arith) (omega arith) block.ensures
-    c.if-not-is_zero_block.true
-
-pub loop-i-preserved : goal.loop-i-preserved
-loop-i-preserved c =
-    let l = c.loop-i in
-    let block = c.is_zero_block in (
-      search rules,
-      search rules,
-      every_skip _ _ _ l.i l.invariant.2 (l.i + 256) block.result (omega arith) (omega arith) block.ensures
-          c.if-not-is_zero_block.false,
-    )
-
 pub returns : goal.returns
-returns c = c.is_zero_block-2.ensures ∙ sym c.loop-i.invariant.2
+returns g c =
+    let zero = g.T.Bits in
+    c.is_zero.ensures ∙ all_part zero.is_zero zero.zero c.args.s.now c.args.lo c.args.hi c.requires.1

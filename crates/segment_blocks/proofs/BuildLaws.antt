@@ -78,13 +78,13 @@ module _ (v : List ℤ) (c : ℕ → ℤ) (s g : ℕ) (G : Ground v c s g) where
   some = sizes_some W s g G.sizes
 
   module _ (t u w : Words) (long : length t ≡ 3 * s) (p : u ≡ wiped 0 0 (2 * s) t)
-      (q : w ≡ wiped W (2 * s) (length u) u) where
+      (q : w ≡ wiped W (2 * s) (3 * s) u) where
     long_u : length u ≡ 3 * s
     long_u = ap length p ∙ length_wiped 0 0 (2 * s) t ∙ long
 
     pub zero_at_lem : (i : ℕ) → i < 2 * s → get_or w i 0 ≡ 0
     zero_at_lem i h =
-        ap (λ (x : Words). get_or x i 0) q ∙ wiped_out W (2 * s) (length u) u i 0 (within_low (2 * s) (length u) i h)
+        ap (λ (x : Words). get_or x i 0) q ∙ wiped_out W (2 * s) (3 * s) u i 0 (within_low (2 * s) (3 * s) i h)
         ∙ ap (λ (x : Words). get_or x i 0) p ∙ wiped_in 0 0 (2 * s) t i 0 (omega arith) h (omega arith)
 
     pub build_start : Built v c s g w 0 0
@@ -107,13 +107,13 @@ module _ (v : List ℤ) (c : ℕ → ℤ) (s g : ℕ) (G : Ground v c s g) where
         leaf = λ j x y. zero_at_lem (s + j) (omega arith);
         first = λ j x y.
             let in-u : 2 * s + j < length u = omega (arith, long_u) in
-            rw q (wiped_in W (2 * s) (length u) u (2 * s + j) 0 (omega arith) in-u in-u);
+            rw q (wiped_in W (2 * s) (3 * s) u (2 * s + j) 0 (omega arith) (omega arith) in-u);
       };
       passing = pass_start v c s g G;
     }
       where
         long_w : length w ≡ 3 * s
-        long_w = ap length q ∙ length_wiped W (2 * s) (length u) u ∙ long_u
+        long_w = ap length q ∙ length_wiped W (2 * s) (3 * s) u ∙ long_u
 
   pub build_on : (t u : Words) (k from hi r : ℕ) → Built v c s g t k from → k < s → Refreshed c W s k t u
       → hi ≡ min ((k + 1) * g) W → Reaches v c from hi r → Built v c s g u (k + 1) r

@@ -3,17 +3,14 @@
 #![tactic(auto)]
 
 ghost use Rattle.std.specs.Prelude.{◌≡◌, true, ℕ, ◌+◌, ◌-◌, ◌*◌, ◌≤◌, ◌<◌, ◌^◌, ℤ, length};
-ghost use Rattle.words.specs.Places.{wiped};
 ghost use Rattle.stored_forms.specs.Segments.{largest};
 ghost use Rattle.segment_index.specs.Index.{index_of};
 ghost use Rattle.segment_blocks.specs.Blocks.{Scan, Seeking, FirstFit, Chain, EndsAt, Reaches};
 ghost use Rattle.segment_blocks.specs.Upkeep.{OneBlock, Ready, Refreshed, RefreshedIf, Touched, first_from};
 
-use segment_index::{
-    Segments, index_word, raise, raise_most, segment_of, size_at, weight_at,
-};
+use segment_index::{Segments, index_word, raise, raise_most, segment_of, size_at, weight_at};
 use stored_forms::Steps;
-use words::wipe_part;
+use words::fill_part;
 
 // The first free block of n words or more from `from` on, and how many blocks were looked at. There is one: the leaf
 // of the segment says so.
@@ -161,19 +158,6 @@ pub fn reindex_grant(v: &[i32], t: &mut [u32], segments: Segments, p: usize, e: 
     refresh_if((0 < y) & (ke != kp), v, t, segments, ke, e);
 }
 
-// The words from lo on get the value x.
-fn fill_from(t: &mut [u32], lo: usize, x: u32)
-    requires { lo ≤ length t.old }
-    ensures { t.new ≡ wiped x lo (length t.old) t.old }
-{
-    let n = t.len();
-    let mut i = lo;
-    while i < n {
-        t[i] = x;
-        i += 1;
-    }
-}
-
 // The index of an arena that is one free block: what format writes.
 pub fn build_index(v: &[i32], t: &mut [u32], segments: Segments)
     requires by_index { (c : ℕ → ℤ) × OneBlock v.now c segments.count segments.size }
@@ -183,8 +167,8 @@ pub fn build_index(v: &[i32], t: &mut [u32], segments: Segments)
 {
     let s = segments.count;
     let w = v.len();
-    wipe_part(t, 0, 2 * s);
-    fill_from(t, 2 * s, w as u32);
+    fill_part(t, 0, 2 * s, 0);
+    fill_part(t, 2 * s, 3 * s, w as u32);
     raise_most(t, s, s, w as u32);
     t[2 * s] = 0;
 }

@@ -22,10 +22,8 @@ ghost use Rattle.segment_check.specs.Adjoining.{Walks, WalksAll, Heads, Sets, Go
 
 use ledger::Rule;
 use record_table::{read_row, slot_count};
-use segment_index::{
-    Segments, free_at, is_held, is_segments, segments_of, size_at,
-};
-use words::is_zero_part_signed;
+use segment_index::{Segments, free_at, is_held, is_segments, segments_of, size_at};
+use words::is_zero_part;
 
 // A unit of the segment pool is one word, and a block has one before its address: the control word.
 pub const WORDS: Rule = Rule { unit: 1, lead: 1 };
@@ -83,7 +81,7 @@ fn is_free_block(v: &[i32], at: usize, n: usize, after: bool) -> bool
     if after | (v.len() - at < n) {
         return false;
     }
-    is_zero_part_signed(v, at + 1, at + n)
+    is_zero_part(v, at + 1, at + n)
 }
 
 // Where a walk over blocks has led: the next one begins at `next`, past the arena's end if one is wrong. So many

@@ -20,7 +20,7 @@ use segment_index::{
     Segments, descend, free_at, index_word, last_before, put_free, put_held, segment_of, size_at,
 };
 use stored_forms::Steps;
-use words::{wipe_part_signed, wipe_signed};
+use words::{fill, fill_part};
 
 // The lowest word from which n words are free, or the arena's length: the root, a descent, and the scan of one
 // segment. The places looked at are counted: the root, a word at each level, and the blocks scanned.
@@ -127,7 +127,7 @@ fn merge(v: &mut [i32], p: usize, n: usize, x: usize, y: usize)
     ensures { v.new ≡ merged v.old p n x y }
 {
     let e = past_old(p + n, y);
-    wipe_part_signed(v, p, e);
+    fill_part(v, p, e, 0);
     put_free(v, p - x, x + n + y);
 }
 
@@ -170,7 +170,7 @@ pub fn lay_out(v: &mut [i32], t: &mut [u32], segments: Segments)
         → Becomes L v.old segments.count v.new t.new }
 {
     let w = v.len();
-    wipe_signed(v);
+    fill(v, 0);
     put_free(v, 0, w);
     build_index(v, t, segments);
 }

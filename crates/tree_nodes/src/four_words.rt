@@ -66,6 +66,6 @@ impl Layout for FourWords {
     }
 
     fn wipe(arena: &mut [u32], lo: usize, hi: usize) {
-        words::wipe_part(arena, 4 * lo, 4 * hi);
+        words::fill_part(arena, 4 * lo, 4 * hi, 0);
     }
 }

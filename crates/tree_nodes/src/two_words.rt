@@ -66,6 +66,6 @@ impl Layout for TwoWords {
     }
 
     fn wipe(arena: &mut [u32], lo: usize, hi: usize) {
-        words::wipe_part(arena, 2 * lo, 2 * hi);
+        words::fill_part(arena, 2 * lo, 2 * hi, 0);
     }
 }

@@ -15,16 +15,16 @@ use Rattle.segment_blocks.proofs.build_index.Goals.{After-raise_most-arg-1}
 built : (c : After-raise_most-arg-1) (f : ℕ → ℤ)
     → let a = c.args in
     OneBlock a.v.now f a.segments.count a.segments.size
-    → Built a.v.now f a.segments.count a.segments.size c.fill_from.new.t 0 0
+    → Built a.v.now f a.segments.count a.segments.size c.fill_part-2.new.s 0 0
 built c f O =
-    build_start _ f _ _ O.ground c.args.t.now _ _ c.requires.t_len c.wipe_part.ensures
-    c.fill_from.ensures
+    build_start _ f _ _ O.ground c.args.t.now _ _ c.requires.t_len c.fill_part.ensures
+    c.fill_part-2.ensures
 
 pub raise_most-requires : goal.raise_most-requires
 raise_most-requires c =
     let (f, O) = c.requires.by_index in
-    let filled = c.fill_from.ensures in
-    let zero = zero_at_lem _ f _ _ O.ground c.args.t.now _ _ c.requires.t_len c.wipe_part.ensures filled in record {
+    let filled = c.fill_part-2.ensures in
+    let zero = zero_at_lem _ f _ _ O.ground c.args.t.now _ _ c.requires.t_len c.fill_part.ensures filled in record {
       heap = ((built (goal.at.raise_most-requires c).After-raise_most-arg-1 f O).pending.heap, omega arith, omega (arith, sizes_some _ _ _ O.ground.sizes));
       by_index = λ j h. omega (arith, zero j h);
     }

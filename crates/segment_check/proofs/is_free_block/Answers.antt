@@ -28,8 +28,8 @@ returns-then-after-v c =
 pub overflow_add-at-2 : goal.overflow_add-at-2
 overflow_add-at-2 c = omega (arith, inside (goal.at.overflow_add-at-2 c).Else-after-v)
 
-pub is_zero_part_signed-requires : goal.is_zero_part_signed-requires
-is_zero_part_signed-requires c = (omega (arith, c.requires.1), inside (goal.at.is_zero_part_signed-requires c).Else-after-v)
+pub is_zero_part-requires : goal.is_zero_part-requires
+is_zero_part-requires c = (omega (arith, c.requires.1), inside (goal.at.is_zero_part-requires c).Else-after-v)
 
 pub returns : goal.returns
 returns c =
@@ -38,7 +38,7 @@ returns c =
       λ e. record {
         apart = or_l a.after (ltb (length a.v.now - a.at) a.n) c.if-after-v.false;
         inside = inside (goal.at.returns c).Else-after-v;
-        right = free_block a.v.now a.at a.n some (sym is) (sym c.is_zero_part_signed.ensures ∙ e);
+        right = free_block a.v.now a.at a.n some (sym is) (sym c.is_zero_part.ensures ∙ e);
       },
-      λ b. c.is_zero_part_signed.ensures ∙ block_zeros a.v.now a.at a.n some b.right,
+      λ b. c.is_zero_part.ensures ∙ block_zeros a.v.now a.at a.n some b.right,
     )

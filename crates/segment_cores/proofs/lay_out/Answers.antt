@@ -40,7 +40,7 @@ pub build_index-requires : goal.build_index-requires
 build_index-requires c =
     let v = c.args.v.now in
     let W = length v in
-    let stored = c.put_free.ensures ∙ ap (λ (w : List ℤ). set w 0 (pos W)) c.wipe_signed.ensures in
+    let stored = c.put_free.ensures ∙ ap (λ (w : List ℤ). set w 0 (pos W)) c.fill.ensures in
     let none = replicate 0 empty_row in
     let is = one none c.args.v.now _ _ _ c.requires.sizes (blank_unheld 0 W) stored in
     record {
@@ -51,7 +51,7 @@ build_index-requires c =
 pub returns : goal.returns
 returns c =
     let v = c.args.v.now in
-    let stored = c.put_free.ensures ∙ ap (λ (w : List ℤ). set w 0 (pos (length v))) c.wipe_signed.ensures in
+    let stored = c.put_free.ensures ∙ ap (λ (w : List ℤ). set w 0 (pos (length v))) c.fill.ensures in
     λ L h.
     blank_becomes L v _ _ c.requires.sizes h _ stored _
     (c.build_index.ensures (controls L (length v)) (one L v _ _ _ c.requires.sizes h stored))

@@ -9,8 +9,8 @@ use Rattle.words.specs.Places.{wiped}
 use Rattle.segment_cores.proofs.StoreLaws.{past_low, past_high}
 use Rattle.segment_cores.proofs.merge.Goals as goal
 
-pub wipe_part_signed-requires : goal.wipe_part_signed-requires
-wipe_part_signed-requires c =
+pub fill_part-requires : goal.fill_part-requires
+fill_part-requires c =
     let a = c.args in
     let e = c.past_old-e.ensures in (
       omega (arith, e, past_low (a.p + a.n) a.y),
@@ -22,5 +22,5 @@ returns c =
     let a = c.args in
     c.put_free.ensures
     ∙ ap (λ (u : List ℤ). set u (a.p - a.x) (pos (a.x + a.n + a.y)))
-    (c.wipe_part_signed.ensures ∙ ap (λ (e : ℕ). wiped (pos 0) a.p e a.v.now)
+    (c.fill_part.ensures ∙ ap (λ (e : ℕ). wiped (pos 0) a.p e a.v.now)
     c.past_old-e.ensures)

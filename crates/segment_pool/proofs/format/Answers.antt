@@ -45,11 +45,11 @@ returns c =
     format_result segment_engine
     (segment_pool c.args.s no_head c.args.arena.now c.args.table.now c.args.index.now) first
     true refl right.result (right.ensures no_head) number.result number.ensures c.if-number-ne0.false c.succeeded.result
-    (segment_pool c.args.s (record { next = first }) c.lay_out.new.v c.wipe.new.s c.lay_out.new.t)
+    (segment_pool c.args.s (record { next = first }) c.lay_out.new.v c.fill.new.s c.lay_out.new.t)
     c.succeeded.ensures
     (blank_pool_lem c.args.s c.args.arena.now c.args.table.now c.args.index.now first
     right.result (right.ensures no_head) number.result number.ensures c.if-number-ne0.false
-    c.lay_out.new.v c.wipe.new.s c.lay_out.new.t
+    c.lay_out.new.v c.fill.new.s c.lay_out.new.t
     (λ L none. subst (λ (n : ℕ). Becomes L c.args.arena.now n c.lay_out.new.v c.lay_out.new.t)
     c.segments_of-segments.ensures.count (c.lay_out.ensures L none))
-    c.wipe.ensures)
+    c.fill.ensures)

@@ -53,8 +53,8 @@ overflow_cast-cells c =
 pub put_node-requires : goal.put_node-requires
 put_node-requires c =
     let f = c.args.form in
-    let long : length c.wipe.new.s ≡ length c.args.arena.now =
-    ap length c.wipe.ensures ∙ length-replicate (length c.args.arena.now) 0 in
+    let long : length c.fill.new.s ≡ length c.args.arena.now =
+    ap length c.fill.ensures ∙ length-replicate (length c.args.arena.now) 0 in
     let some = blank_inside f (length c.args.arena.now) (fits (goal.at.put_node-requires c).Else-number-ne0).some in
     record {
       c_bound = omega (arith, some, ap (λ (x : ℕ). x / (form_of f).cell) long);
@@ -71,10 +71,10 @@ returns c =
     let t = c.args.table.now in
     format_result tree_engine (tree_pool (no_head form) a t) first c.is_form.result (known c.args.form c.is_form.ensures) right.result
     (right.ensures (no_head form) refl) number.result number.ensures c.if-number-ne0.false c.succeeded.result
-    (tree_pool (record { root = 1; next = first; form = form }) c.put_node.new.arena c.wipe-2.new.s)
+    (tree_pool (record { root = 1; next = first; form = form }) c.put_node.new.arena c.fill-2.new.s)
     c.succeeded.ensures
     (blank_pool_lem form a t first c.is_form.result (known c.args.form c.is_form.ensures) right.result (right.ensures (no_head form) refl)
-    number.result number.ensures c.if-number-ne0.false c.put_node.new.arena c.wipe-2.new.s
+    number.result number.ensures c.if-number-ne0.false c.put_node.new.arena c.fill-2.new.s
     (subst₂ (λ (m : Words) (x : ℕ). NodePut (form_of form) m c.put_node.new.arena 0 x 0 0)
-    c.wipe.ensures c.cell_count-cells.ensures c.put_node.ensures)
-    c.wipe-2.ensures)
+    c.fill.ensures c.cell_count-cells.ensures c.put_node.ensures)
+    c.fill-2.ensures)

@@ -13,7 +13,7 @@ use Rattle.stored_forms.proofs.NodeLaws.{Readable, link_within}
 use Rattle.tree_nodes.specs.Nodes.{cells, LeftSet, RightSet}
 use Rattle.free_tree.specs.Shapes.{Under, whole, go_left, go_right, Stops}
 use Rattle.free_tree.specs.Links.{links_changed}
-use Rattle.free_tree.specs.Held.{At, Became, Place, Placed, Attached}
+use Rattle.free_tree.specs.Held.{At, Became, Place, Placed, Tells, Attached}
 use Rattle.free_tree.proofs.LinkLaws.{left_changed, right_changed}
 use Rattle.free_tree.proofs.StepLaws.{rooted_length, at_none, at_small, at_left, at_right}
 use Rattle.free_tree.proofs.StepLaws.{left_kept, right_kept, left_replaced, right_replaced}
@@ -24,6 +24,11 @@ use Rattle.free_tree.proofs.StepLaws.{left_kept, right_kept, left_replaced, righ
 abbrev pub Seeking : Form → Words → ℕ → (Run → Bool) → ℕ → ℕ → ℕ → Type 0
 Seeking F m l stop x at over =
     (T : Tree) → At F m l T → (t : Tree) × At F m at t × Under stop x T t over
+
+-- where a search is that a test of cells stops
+pub record SeekingBy (F : Form) (m : Words) (l : ℕ) (says : ℕ → Bool → Type 0) (x at over : ℕ) : Type 0 where
+  pub tree : (t : Tree) × At F m at t
+  pub way : (stop : Run → Bool) → Tells F m says stop → Seeking F m l stop x at over
 
 module _ {F : Form} (readable : Readable F F.links) where
   pub seek_start : {m : Words} {l : ℕ} (stop : Run → Bool) (x : ℕ) → Seeking F m l stop x l 0

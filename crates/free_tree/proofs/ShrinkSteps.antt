@@ -204,26 +204,6 @@ module _ {F : Form} (readable : Readable F F.links) where
       go false true e = absurd (omega arith)
       go false false e = (refl, refl)
 
-  -- one of the three is left
-  module _ {m : Words} {a b k : ℕ} (r : Run) (which : OnTop F m a b r k) (y : k ≢ 0) where
-    pub second_left : k ≢ 1 → OnTop F m a b r 2
-    second_left z ta tb p q =
-        go (stands_over r ta && stands_over r tb) (heavier ta tb) (which ta tb p q)
-      where
-        go : (v w : Bool) → k ≡ cond v 0 (cond w 1 2) → ◌≡◌ {A = ℕ} 2 (cond v 0 (cond w 1 2))
-        go true w e = absurd (y e)
-        go false true e = absurd (z e)
-        go false false e = refl
-
-    pub first_left : k ≢ 2 → OnTop F m a b r 1
-    first_left z ta tb p q =
-        go (stands_over r ta && stands_over r tb) (heavier ta tb) (which ta tb p q)
-      where
-        go : (v w : Bool) → k ≡ cond v 0 (cond w 1 2) → ◌≡◌ {A = ℕ} 1 (cond v 0 (cond w 1 2))
-        go true w e = absurd (y e)
-        go false true e = refl
-        go false false e = absurd (z e)
-
   -- ---- the ways through
 
   no_root : (r : Run) (t : Tree) → (stands_over r t && true) ≡ false → false ≡ heavier t leaf → ⊥
@@ -342,6 +322,11 @@ module _ {F : Form} (readable : Readable F F.links) where
           stays = λ post. keep_right_side which e son post;
           turns = λ post put. down_right_side which e son post put;
         }
+
+  -- the words are still those that the step began with
+  pub fewer_still : {m m' : Words} {n : ℕ} (a b : ℕ) → m ≡ m' → n < count F m a + count F m b
+      → n < count F m' a + count F m' b
+  fewer_still a b e h = rw e at h
 
   module _ {m : Words} {a b c d s u : ℕ} {r : Run} where
     pub sink_right_on : SinkRight F m a b r c s → SinkRight F m s b r d u → SinkRight F m a b r d u

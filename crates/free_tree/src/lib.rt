@@ -11,7 +11,8 @@ ghost use Rattle.free_tree.specs.Links.{link_of, count_of};
 ghost use Rattle.free_tree.specs.Held.{At, Beside, LeftWins, RightWins, LeftJoined, RightJoined, BothJoined};
 ghost use Rattle.free_tree.specs.Held.{Parts, Room, PutOver, Inserted, Deleted, OverRoot, Heavier, OverRoots};
 ghost use Rattle.free_tree.specs.Held.{OnTop, Between};
-ghost use Rattle.free_tree.specs.Held.{Heapified, Longer, Shrunk, LeftmostFound, Placed, NodeOf, Attached, Clear, TouchFound};
+ghost use Rattle.free_tree.specs.Tops.{top_number};
+ghost use Rattle.free_tree.specs.Held.{Heapified, Longer, Shrunk, LeftmostFound, Placed, PlacedBy, NodeOf, Attached, Clear, TouchFound};
 ghost use Rattle.free_tree.specs.Held.{if_ends, if_begins};
 
 use tree_nodes::{
@@ -164,17 +165,17 @@ fn stands_above(x: usize, n: u32, c: usize, k: u32) -> bool
     (k < n) | ((k == n) & (x < c))
 }
 
-// From the link `l` down by the address of cell `x`, to the first node that a block of `n` cells there stands above.
-fn place_for(form: u32, arena: &[u32], l: usize, x: usize, n: u32) -> Place
-    requires { (t : Tree) × At (form_of form) arena.now l t }
-    ensures { Placed (form_of form) arena.now l (stands_above (run x n)) x result.at result.over }
+// From the link `l` down by the address of cell `x`, to the first node at whose cell `stops` holds.
+fn seek<F: Fn(usize) -> bool>(form: u32, arena: &[u32], l: usize, x: usize, stops: F) -> Place
+    requires tree { (t : Tree) × At (form_of form) arena.now l t }
+    requires callable { (c : ℕ) → c < cells (form_of form) arena.now → F.pre stops c }
+    ensures { PlacedBy (form_of form) arena.now l (F.post stops) x result.at result.over }
 {
     let mut at = l;
     let mut over: usize = 0;
     while at != 0 {
         let c = at - 1;
-        let k = length_of(form, arena, c);
-        if stands_above(x, n, c, k) {
+        if stops(c) {
             return Place { at, over };
         }
         over = at;
@@ -187,26 +188,22 @@ fn place_for(form: u32, arena: &[u32], l: usize, x: usize, n: u32) -> Place
     Place { at, over }
 }
 
-// From the link `l` down by address to the node at cell `x`.
+// The place of a block of `n` cells at cell `x`: the first node that it stands above.
+fn place_for(form: u32, arena: &[u32], l: usize, x: usize, n: u32) -> Place
+    requires { (t : Tree) × At (form_of form) arena.now l t }
+    ensures { Placed (form_of form) arena.now l (stands_above (run x n)) x result.at result.over }
+{
+    seek(form, arena, l, x, |c| {
+        stands_above(x, n, c, length_of(form, arena, c))
+    })
+}
+
+// The place of the node at cell `x`. No length is read.
 fn place_of(form: u32, arena: &[u32], l: usize, x: usize) -> Place
     requires { (t : Tree) × At (form_of form) arena.now l t }
     ensures { Placed (form_of form) arena.now l (begins_at x) x result.at result.over }
 {
-    let mut at = l;
-    let mut over: usize = 0;
-    while at != 0 {
-        let c = at - 1;
-        if c == x {
-            return Place { at, over };
-        }
-        over = at;
-        if x < c {
-            at = left_of(form, arena, c);
-        } else {
-            at = right_of(form, arena, c);
-        }
-    }
-    Place { at, over }
+    seek(form, arena, l, x, |c| c == x)
 }
 
 // Attaches the tree at the link `q` to the node at the link `over`, on the side where cell `x` is. Returns the link to
@@ -345,19 +342,26 @@ fn over_roots(form: u32, arena: &[u32], lo: usize, hi: usize, x: usize, n: u32) 
     false
 }
 
-// Which stays on top where a block of `n` cells at cell `x` goes between the trees at the links `lo` and `hi`: 0 for the
-// block, 1 for the root at `lo`, 2 for the root at `hi`.
-fn on_top(form: u32, arena: &[u32], lo: usize, hi: usize, x: usize, n: u32) -> u32
+// Which stays on top where a block goes between two trees: the block, or the lower or the upper one's root.
+#[derive(Clone, Copy)]
+enum Top {
+    Block,
+    Low,
+    High,
+}
+
+// Which stays on top where a block of `n` cells at cell `x` goes between the trees at the links `lo` and `hi`.
+fn on_top(form: u32, arena: &[u32], lo: usize, hi: usize, x: usize, n: u32) -> Top
     requires { ((ta : Tree) × At (form_of form) arena.now lo ta) × ((tb : Tree) × At (form_of form) arena.now hi tb) }
-    ensures { OnTop (form_of form) arena.now lo hi (run x n) result }
+    ensures { OnTop (form_of form) arena.now lo hi (run x n) (top_number result) }
 {
     if over_roots(form, arena, lo, hi, x, n) {
-        return 0;
+        return Top::Block;
     }
     if is_heavier(form, arena, lo, hi) {
-        return 1;
+        return Top::Low;
     }
-    2
+    Top::High
 }
 
 // Puts the block of `n` cells at cell `x` between the trees at the links `lo` and `hi`, where the root at `lo` stays on
@@ -371,19 +375,24 @@ fn sink_right(form: u32, arena: &mut [u32], lo: usize, hi: usize, x: usize, n: u
 {
     let mut c = lo - 1;
     let mut s = right_of(form, arena, c);
-    let mut top = on_top(form, arena, s, hi, x, n);
-    while top == 1 {
-        c = s - 1;
-        s = right_of(form, arena, c);
-        top = on_top(form, arena, s, hi, x, n);
+    loop {
+        match on_top(form, arena, s, hi, x, n) {
+            Top::Block => {
+                put_first(form, arena, x, n, s, hi);
+                set_right(form, arena, c, x + 1);
+                return;
+            }
+            Top::Low => {
+                c = s - 1;
+                s = right_of(form, arena, c);
+            }
+            Top::High => {
+                sink_left(form, arena, s, hi, x, n);
+                set_right(form, arena, c, hi);
+                return;
+            }
+        }
     }
-    if top == 0 {
-        put_first(form, arena, x, n, s, hi);
-        set_right(form, arena, c, x + 1);
-        return;
-    }
-    sink_left(form, arena, s, hi, x, n);
-    set_right(form, arena, c, hi);
 }
 
 // The same where the root at `hi` stays on top: the block goes down its left side.
@@ -395,19 +404,24 @@ fn sink_left(form: u32, arena: &mut [u32], lo: usize, hi: usize, x: usize, n: u3
 {
     let mut c = hi - 1;
     let mut s = left_of(form, arena, c);
-    let mut top = on_top(form, arena, lo, s, x, n);
-    while top == 2 {
-        c = s - 1;
-        s = left_of(form, arena, c);
-        top = on_top(form, arena, lo, s, x, n);
+    loop {
+        match on_top(form, arena, lo, s, x, n) {
+            Top::Block => {
+                put_first(form, arena, x, n, lo, s);
+                set_left(form, arena, c, x + 1);
+                return;
+            }
+            Top::Low => {
+                sink_right(form, arena, lo, s, x, n);
+                set_left(form, arena, c, lo);
+                return;
+            }
+            Top::High => {
+                c = s - 1;
+                s = left_of(form, arena, c);
+            }
+        }
     }
-    if top == 0 {
-        put_first(form, arena, x, n, lo, s);
-        set_left(form, arena, c, x + 1);
-        return;
-    }
-    sink_right(form, arena, lo, s, x, n);
-    set_left(form, arena, c, lo);
 }
 
 // Puts the block of `n` cells at cell `x` between the trees at the links `lo` and `hi`, and returns the link to the
@@ -417,17 +431,20 @@ fn heapify(form: u32, arena: &mut [u32], lo: usize, hi: usize, x: usize, n: u32)
     requires { (ta : Tree) × (tb : Tree) × Between (form_of form) arena.old lo hi (run x n) ta tb }
     ensures { Heapified (form_of form) arena.old arena.new lo hi (run x n) result }
 {
-    let top = on_top(form, arena, lo, hi, x, n);
-    if top == 0 {
-        put_first(form, arena, x, n, lo, hi);
-        return x + 1;
+    match on_top(form, arena, lo, hi, x, n) {
+        Top::Block => {
+            put_first(form, arena, x, n, lo, hi);
+            x + 1
+        }
+        Top::Low => {
+            sink_right(form, arena, lo, hi, x, n);
+            lo
+        }
+        Top::High => {
+            sink_left(form, arena, lo, hi, x, n);
+            hi
+        }
     }
-    if top == 1 {
-        sink_right(form, arena, lo, hi, x, n);
-        return lo;
-    }
-    sink_left(form, arena, lo, hi, x, n);
-    hi
 }
 
 // The block at the link `at`, of more than `k` cells, gives up its first `k` cells in the tree at the link `l`. Its

@@ -7,6 +7,7 @@ use native.Mathlib.Omega.{arith}
 use mathlib.Core.Bool.{Bool, true, false, cond, ◌&&◌, ◌||◌, or-true, true≢false}
 use mathlib.Core.List.{List}
 use mathlib.Core.Logic.{◌≢◌}
+use Rattle.std.specs.Prelude.{Option, IsSomeAnd}
 use mathlib.Core.Path.{◌≡◌, refl, sym, ap, ◌∙◌, subst}
 use lib.Dec.{eqb}
 use lib.IntN.{ℤ, pos, neg_ℤ, nat_abs}
@@ -232,10 +233,10 @@ module _ (v : List ℤ) (next : ℕ) (t x : Words) (s g : ℕ) (Z : Measured v t
     stored_held = omega (arith, count)
 
     -- the words that were walked over, and those of the records, are all
-    pub stored_exact : (free' : ℕ) → WalksAll v map x s g free' → free' + held ≡ length v
+    pub stored_exact : (free' : Option ℕ) → WalksAll v map x s g free' → IsSomeAnd free' (λ n. n + held ≡ length v)
     stored_exact free' walks =
-        ap (λ n. n + held)
-        (walks c (passing (free segment_rule L)) (arena_kept v next t P.0 P.1 map H.sets) refl
+        subst (λ o. IsSomeAnd o (λ n. n + held ≡ length v))
+        (sym (walks c (passing (free segment_rule L)) (arena_kept v next t P.0 P.1 map H.sets) refl
         (stored_ground v x s g Z.sizes L next P.0 P.1)
-        (and_r (tree_right x s) (every (segment_right c (length v) s x) 0 s) index_right))
-        ∙ count
+        (and_r (tree_right x s) (every (segment_right c (length v) s x) 0 s) index_right)))
+        count

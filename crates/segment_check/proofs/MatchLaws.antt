@@ -6,12 +6,12 @@ use mathlib.Core.Bool.{Bool, true, false, not, ◌||◌}
 use mathlib.Core.List.{List}
 use mathlib.Core.Path.{◌≡◌, refl, sym, ap, ap₂, ◌∙◌, subst}
 use lib.IntN.{ℤ}
-use lib.Dec.{eqb, ltb}
+use lib.Dec.{eqb}
 use lib.ListN.{length, get_or}
 use Rattle.words.specs.Counted.{every}
 use Rattle.words.specs.Lists.{Words}
 use Rattle.words.proofs.CountedLaws.{every_at}
-use Rattle.words.proofs.Tests.{and_l, and_r, and_i, or_l, or_r, not_false, eqb_eq, eqb_same, not_lt, of_lt, of_ge}
+use Rattle.words.proofs.Tests.{and_l, and_r, and_i, or_l, or_r, not_false, eqb_eq, eqb_same, of_lt, of_ge}
 use Rattle.stored_forms.specs.Segments.{largest}
 use Rattle.stored_forms.proofs.SegmentLaws.{segment_size_lem}
 use Rattle.record_table.proofs.PairLaws.{every_last}
@@ -44,21 +44,16 @@ module _ (t : Words) (s k at hi W : ℕ) where
       and_i (eqb most (get_or t (s + k) 0)) (eqb first (get_or t (2 * s + k) 0)) (ap (eqb most) a ∙ eqb_same most)
       (ap (eqb first) b ∙ eqb_same first)
 
-  pub two_walked : (most next : ℕ) → at < hi
-      → (not (eqb (get_or t (2 * s + k) 0) at) || ltb W next || not (eqb (get_or t (s + k) 0) most)) ≡ false
-      → (next ≤ W) × (two_right t s k most (first_from at hi W) ≡ true)
-  two_walked most next below test =
+  pub two_walked : (most : ℕ) → at < hi
+      → (not (eqb (get_or t (2 * s + k) 0) at) || not (eqb (get_or t (s + k) 0) most)) ≡ false
+      → two_right t s k most (first_from at hi W) ≡ true
+  two_walked most below test =
       let first = not (eqb (get_or t (2 * s + k) 0) at) in
       let leaf = not (eqb (get_or t (s + k) 0) most) in
-      let ab = or_l (first || ltb W next) leaf test in (
-        not_lt W next (or_r first (ltb W next) ab),
-        rw (of_lt at hi below)
-            (two_words_lem most at
-            (eqb_eq (get_or t (s + k) 0) most
-            (not_false (eqb (get_or t (s + k) 0) most) (or_r (first || ltb W next) leaf test)))
-            (eqb_eq (get_or t (2 * s + k) 0) at
-            (not_false (eqb (get_or t (2 * s + k) 0) at) (or_l first (ltb W next) ab)))),
-      )
+      rw (of_lt at hi below)
+      (two_words_lem most at
+      (eqb_eq (get_or t (s + k) 0) most (not_false (eqb (get_or t (s + k) 0) most) (or_r first leaf test)))
+      (eqb_eq (get_or t (2 * s + k) 0) at (not_false (eqb (get_or t (2 * s + k) 0) at) (or_l first leaf test))))
 
   pub two_none : hi ≤ at → (not (eqb (get_or t (2 * s + k) 0) W) || not (eqb (get_or t (s + k) 0) 0)) ≡ false
       → two_right t s k 0 (first_from at hi W) ≡ true
@@ -79,11 +74,11 @@ module _ (t : Words) (s k at hi W : ℕ) where
       let b = eqb_eq first y (and_r (eqb most x) (eqb first y) e) in
       (ap (eqb x) a ∙ eqb_same x, ap (eqb y) b ∙ eqb_same y)
 
-  pub walked_two : (most next : ℕ) → at < hi → next ≤ W → two_right t s k most (first_from at hi W) ≡ true
-      → (not (eqb (get_or t (2 * s + k) 0) at) || ltb W next || not (eqb (get_or t (s + k) 0) most)) ≡ false
-  walked_two most next below inside e =
+  pub walked_two : (most : ℕ) → at < hi → two_right t s k most (first_from at hi W) ≡ true
+      → (not (eqb (get_or t (2 * s + k) 0) at) || not (eqb (get_or t (s + k) 0) most)) ≡ false
+  walked_two most below e =
       let (a, b) = words_of most at (rw (of_lt at hi below) at e) in
-      rw (b, of_ge W next inside, a)
+      rw (b, a)
 
   pub none_two : hi ≤ at → two_right t s k 0 (first_from at hi W) ≡ true
       → (not (eqb (get_or t (2 * s + k) 0) W) || not (eqb (get_or t (s + k) 0) 0)) ≡ false

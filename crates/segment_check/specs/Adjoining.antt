@@ -1,6 +1,6 @@
 -- Blocks that lie side by side in the segment pool's arena, and the map of the words at which held ones begin: a bit
 -- for each word, set where a record's block begins. Assumes nothing.
-use Rattle.std.specs.Prelude.{ℕ, ◌+◌, ◌-◌, ◌≤◌, ◌<◌, Bool, true, false, cond, List, ◌≡◌, ltb, ℤ, pos, nat_abs, length, get_or}
+use Rattle.std.specs.Prelude.{ℕ, ◌+◌, ◌-◌, ◌≤◌, ◌<◌, Bool, true, false, cond, List, ◌≡◌, ltb, ℤ, pos, nat_abs, length, get_or, Option, Some}
 use Rattle.words.specs.Lists.{Words, all}
 use Rattle.words.specs.Counted.{every}
 use Rattle.ledger.specs.Records.{record_at, records_of, is_empty}
@@ -82,17 +82,11 @@ pub record Led (c : ℕ → ℤ) (sum : ℕ → ℕ) (at free : ℕ) (after : Bo
   pub count : free ≡ sum at
   pub turn : after ≡ true → free_size (c at) ≡ 0
 
--- blocks that are kept are walked over to their end
-abbrev pub Walks : List ℤ → Words → ℕ → ℕ → Bool → ℕ → ℕ → Bool → Type 0
-Walks v map from free after next free' after' =
-    (c : ℕ → ℤ) → (sum : ℕ → ℕ) → Kept v map c sum → Scan v c from → Led c sum from free after
-    → (next ≤ length v) × Led c sum next free' after'
-
--- and all of them with the index that is theirs
-abbrev pub WalksAll : List ℤ → Words → Words → ℕ → ℕ → ℕ → Type 0
+-- blocks that are kept, with the index that is theirs, are walked over to their end
+abbrev pub WalksAll : List ℤ → Words → Words → ℕ → ℕ → Option ℕ → Type 0
 WalksAll v map t s g free =
     (c : ℕ → ℤ) → (sum : ℕ → ℕ) → Kept v map c sum → sum 0 ≡ 0 → Ground v c s g
-    → every (segment_right c (length v) s t) 0 s ≡ true → free ≡ sum (length v)
+    → every (segment_right c (length v) s t) 0 s ≡ true → free ≡ Some (sum (length v))
 
 -- ---- the records
 

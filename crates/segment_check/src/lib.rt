@@ -3,7 +3,7 @@
 // Slices are lent on as `&*slice`, which keeps pointer and length in registers (docs/DECISIONS.md, what crosses calls).
 #![tactic(auto)]
 
-ghost use Rattle.std.specs.Prelude.{◌≡◌, true, ◌||◌, ℕ, ◌+◌, ◌-◌, ◌*◌, ◌≤◌, ◌<◌, eqb, pos, length, get_or};
+ghost use Rattle.std.specs.Prelude.{◌≡◌, true, ◌||◌, ℕ, ℤ, ◌+◌, ◌-◌, ◌*◌, ◌≤◌, ◌<◌, eqb, pos, length, get_or, IfSome, IsSome, IsSomeAnd};
 ghost use Rattle.words.specs.Lists.{all, is_zero};
 ghost use Rattle.words.specs.Counted.{every};
 ghost use Rattle.words.specs.Flags.{Says};
@@ -12,14 +12,17 @@ ghost use Rattle.segment_index.specs.Control.{free_size};
 ghost use Rattle.segment_blocks.specs.Upkeep.{Sizes};
 ghost use Rattle.calls.specs.Pool.{lengths, stored};
 ghost use Rattle.calls.specs.Step.{GateIs};
+ghost use Rattle.calls.specs.Refusals.{number_in};
 ghost use Rattle.calls.specs.Engines.{segment_engine};
 ghost use Rattle.segment_check.specs.Gate.{segment_pool, RightLengths, Ranged};
 ghost use Rattle.segment_check.specs.Right.{Measured, node_right, tree_right};
 ghost use Rattle.record_table.specs.Partition.{Noted};
 ghost use Rattle.segment_check.specs.BitMaps.{bit_at};
-ghost use Rattle.segment_check.specs.Adjoining.{Adjoining, HeldBlock, FreeBlock, Walked, Matched};
-ghost use Rattle.segment_check.specs.Adjoining.{Walks, WalksAll, Heads, Sets, Good, Joined, Headed, Shown};
+ghost use Rattle.segment_blocks.specs.Blocks.{Scan};
+ghost use Rattle.segment_check.specs.Adjoining.{Adjoining, HeldBlock, FreeBlock, Walked, Matched, Kept, Led};
+ghost use Rattle.segment_check.specs.Adjoining.{WalksAll, Heads, Sets, Good, Joined, Headed, Shown};
 
+use calls::Refusal;
 use ledger::Rule;
 use record_table::{read_row, slot_count};
 use segment_index::{Segments, free_at, is_held, is_segments, segments_of, size_at};
@@ -56,20 +59,21 @@ fn put_bit(map: &mut [u64], k: usize)
 
 // ---- the blocks, from the first word on
 
-// The size of the held block that begins at a word; 0 if the map says that none does, or it ends outside.
-fn held_size(v: &[i32], map: &[u64], at: usize) -> usize
+// The size of the held block that begins at a word; none if the map says that none does, or it has no word or ends
+// outside.
+fn held_size(v: &[i32], map: &[u64], at: usize) -> Option<usize>
     requires { (at < length v.now) × (length v.now ≤ 64 * length map.now) }
-    ensures { (0 < result → HeldBlock v.now map.now at result)
-        × ((k : ℕ) → HeldBlock v.now map.now at k → result ≡ k) }
+    ensures held { IfSome result (λ n. (0 < n) × HeldBlock v.now map.now at n) }
+    ensures none { (k : ℕ) → 0 < k → HeldBlock v.now map.now at k → IsSome result }
 {
     let n = size_at(v, at);
+    if n == 0 {
+        return None;
+    }
     if v.len() - at < n {
-        return 0;
+        return None;
     }
-    if has_bit(map, at) {
-        return n;
-    }
-    0
+    if has_bit(map, at) { Some(n) } else { None }
 }
 
 // Whether the n words that a control word says are free are a free block of a sound pool: inside, and zero behind the
@@ -84,8 +88,8 @@ fn is_free_block(v: &[i32], at: usize, n: usize, after: bool) -> bool
     is_zero_part(v, at + 1, at + n)
 }
 
-// Where a walk over blocks has led: the next one begins at `next`, past the arena's end if one is wrong. So many
-// words are free up to there, `after` says whether the last block is, and `most` is the largest weight.
+// Where a walk over blocks has led: the next one begins at `next`, so many words are free up to there, `after` says
+// whether the last block is, and `most` is the largest weight.
 #[derive(Clone, Copy)]
 struct Walk {
     next: usize,
@@ -94,26 +98,22 @@ struct Walk {
     most: u32,
 }
 
-// Where a wrong block leads in an arena of w words.
-fn nowhere(w: usize) -> Walk
-    requires { w ≤ 16384 }
-    ensures { w < result.next }
-{
-    Walk {
-        next: w + 1,
-        free: 0,
-        after: false,
-        most: 0,
-    }
-}
-
-// Walks the blocks that begin from `from` up to hi, behind others that have led to `from`. A held block weighs 1.
-fn walk_blocks(v: &[i32], map: &[u64], from: usize, hi: usize, free: usize, after: bool) -> Walk
+// Walks the blocks that begin from `from` up to hi, behind others that have led to `from`; None if one is wrong. A held
+// block weighs 1.
+fn walk_blocks(
+    v: &[i32],
+    map: &[u64],
+    from: usize,
+    hi: usize,
+    free: usize,
+    after: bool,
+) -> Option<Walk>
     requires { (length v.now ≤ 16384) × (length v.now ≤ 64 * length map.now) × (hi ≤ length v.now)
         × (from ≤ length v.now) × (free ≤ from) × Adjoining v.now map.now from free after }
-    ensures { (result.next ≤ length v.now
-        → Walked v.now map.now from hi result.next result.free result.after result.most)
-        × Walks v.now map.now from free after result.next result.free result.after }
+    ensures walked { IfSome result (λ walk. (walk.next ≤ length v.now)
+        × Walked v.now map.now from hi walk.next walk.free walk.after walk.most) }
+    ensures walks { (c : ℕ → ℤ) → (sum : ℕ → ℕ) → Kept v.now map.now c sum → Scan v.now c from
+        → Led c sum from free after → IsSomeAnd result (λ walk. Led c sum walk.next walk.free walk.after) }
 {
     let mut at = from;
     let mut sum = free;
@@ -122,16 +122,13 @@ fn walk_blocks(v: &[i32], map: &[u64], from: usize, hi: usize, free: usize, afte
     while at < hi {
         let f = free_at(v, at);
         if f == 0 {
-            let n = held_size(v, map, at);
-            if n == 0 {
-                return nowhere(v.len());
-            }
+            let n = held_size(v, map, at)?;
             most = most.max(1);
             last = false;
             at += n;
         } else {
             if !is_free_block(v, at, f, last) {
-                return nowhere(v.len());
+                return None;
             }
             most = most.max(f as u32);
             sum += f;
@@ -139,23 +136,23 @@ fn walk_blocks(v: &[i32], map: &[u64], from: usize, hi: usize, free: usize, afte
             at += f;
         }
     }
-    Walk {
+    Some(Walk {
         next: at,
         free: sum,
         after: last,
         most,
-    }
+    })
 }
 
-// The words of the free blocks together; more than there are, if blocks don't lie side by side up to the last word, or
-// two free ones do, or the index has another leaf or first block for a segment. One pass does both, since each block
-// that is passed costs a wait for its control word.
-fn walk_segments(v: &[i32], map: &[u64], t: &[u32], segments: Segments) -> usize
+// The words of the free blocks together; None if blocks don't lie side by side up to the last word, or two free ones do,
+// or the index has another leaf or first block for a segment. One pass does both, since each block that is passed costs a
+// wait for its control word.
+fn walk_segments(v: &[i32], map: &[u64], t: &[u32], segments: Segments) -> Option<usize>
     requires { Sizes (length v.now) segments.count segments.size × (length t.now ≡ 3 * segments.count)
         × (length v.now ≤ 64 * length map.now) }
-    ensures { (result ≤ length v.now
-        → Matched v.now map.now t.now segments.count segments.size result)
-        × WalksAll v.now map.now t.now segments.count segments.size result }
+    ensures matched { IfSome result (λ free. (free ≤ length v.now)
+        × Matched v.now map.now t.now segments.count segments.size free) }
+    ensures walks { WalksAll v.now map.now t.now segments.count segments.size result }
 {
     let s = segments.count;
     let g = segments.size;
@@ -163,27 +160,24 @@ fn walk_segments(v: &[i32], map: &[u64], t: &[u32], segments: Segments) -> usize
     let mut at: usize = 0;
     let mut free: usize = 0;
     let mut after = false;
-    let mut k: usize = 0;
-    while k < s {
+    for k in 0..s {
         let hi = ((k + 1) * g).min(w);
         let first = t[2 * s + k] as usize;
         if at < hi {
-            let walk = walk_blocks(&*v, &*map, at, hi, free, after);
-            if (first != at) | (w < walk.next) | (t[s + k] != walk.most) {
-                return w + 1;
+            let walk = walk_blocks(&*v, &*map, at, hi, free, after)?;
+            if (first != at) | (t[s + k] != walk.most) {
+                return None;
             }
             at = walk.next;
             free = walk.free;
             after = walk.after;
-            k += 1;
         } else {
             if (first != w) | (t[s + k] != 0) {
-                return w + 1;
+                return None;
             }
-            k += 1;
         }
     }
-    free
+    Some(free)
 }
 
 // ---- the index above the segments
@@ -200,10 +194,8 @@ fn nodes_right(t: &[u32], s: usize) -> bool
     ensures { result ≡ every (node_right t.now) 1 (s - 1) }
 {
     let mut ok = true;
-    let mut i: usize = 1;
-    while i < s {
+    for i in 1..s {
         ok = ok & node_right(t, i);
-        i += 1;
     }
     ok
 }
@@ -218,8 +210,8 @@ fn tree_right(t: &[u32], s: usize) -> bool
 
 // ---- the records, from the first slot on
 
-// The words of slot i's block, whose first word is set in the map. More than the arena's if the record may not follow
-// those before it, or its control word is another.
+// The words of slot i's block, whose first word is set in the map; None if the record may not follow those before it, or
+// its control word is another.
 fn map_row(
     v: &[i32],
     next: u32,
@@ -227,70 +219,45 @@ fn map_row(
     i: usize,
     map: &mut [u64],
     seen: &mut [u8],
-    m: usize,
-) -> usize
+) -> Option<usize>
     requires { (length v.now ≤ 16384) × (length v.now ≤ 64 * length map.old) × (i < slots table.now)
-        × (0 < m) × (length seen.old ≡ m) × Noted m seen.old table.now i
+        × (0 < length seen.old) × Noted (length seen.old) seen.old table.now i
         × Heads v.now table.now map.old i × Sets table.now map.old i }
-    ensures { (result ≤ length v.now
-        → Joined v.now next table.now map.new seen.new m i result)
-        × (Good v.now next table.now i → result ≤ length v.now) }
+    ensures joined { IfSome result (λ u. (u ≤ length v.now)
+        × Joined v.now next table.now map.new seen.new (length seen.old) i u) }
+    ensures good { Good v.now next table.now i → IsSome result }
 {
-    let words = v.len();
-    let rule = WORDS;
     let r = read_row(table, i);
-    let u = record_table::enter_row(rule, words, next, table, i, r, &mut *seen, m);
+    let u = record_table::enter_row(WORDS, v.len(), next, table, i, r, &mut *seen)?;
     if u == 0 {
-        return 0;
-    }
-    if words < u {
-        return u;
+        return Some(0);
     }
     let at = r.address as usize - 1;
     if !is_held(v, at, u) {
-        return words + 1;
+        return None;
     }
     put_bit(&mut *map, at);
-    u
+    Some(u)
 }
 
-// The words of all blocks together, whose first words are set in a map that is all zero. More than the arena's if a
-// record is wrong.
-fn map_rows(
-    v: &[i32],
-    next: u32,
-    table: &[u32],
-    map: &mut [u64],
-    seen: &mut [u8],
-    m: usize,
-) -> usize
-    requires { (length v.now ≤ 16384) × (length v.now ≤ 64 * length map.old) × (0 < m)
-        × (length seen.old ≡ m) × (all is_zero map.old ≡ true) × (slots table.now ≤ 256) }
-    ensures { (result ≤ length v.now
-        → Headed v.now next table.now map.new seen.new m
-        (slots table.now) result)
-        × (((i : ℕ) → i < slots table.now → Good v.now next table.now i)
-        → Headed v.now next table.now map.new seen.new m
-        (slots table.now) result) }
+// The words of all blocks together, whose first words are set in a map that is all zero; None if a record is wrong.
+fn map_rows(v: &[i32], next: u32, table: &[u32], map: &mut [u64], seen: &mut [u8]) -> Option<usize>
+    requires { (length v.now ≤ 16384) × (length v.now ≤ 64 * length map.old) × (0 < length seen.old)
+        × (all is_zero map.old ≡ true) × (slots table.now ≤ 256) }
+    ensures headed { IfSome result (λ held. (held ≤ 16384 * slots table.now)
+        × Headed v.now next table.now map.new seen.new (length seen.old) (slots table.now) held) }
+    ensures good { ((i : ℕ) → i < slots table.now → Good v.now next table.now i) → IsSome result }
 {
-    let words = v.len();
-    let n = slot_count(&*table);
     let mut held: usize = 0;
-    let mut i = 0;
-    while i < n {
-        let u = map_row(&*v, next, &*table, i, &mut *map, &mut *seen, m);
-        if words < u {
-            return words + 1;
-        }
-        held += u;
-        i += 1;
+    for i in 0..slot_count(&*table) {
+        held += map_row(&*v, next, &*table, i, &mut *map, &mut *seen)?;
     }
-    held
+    Some(held)
 }
 
 // ---- the test
 
-// The test by a map that comes in all zero and m residues of tickets.
+// The test by a map that comes in all zero and the residues of tickets.
 fn is_shown_over(
     next: u32,
     arena: &[i32],
@@ -299,52 +266,43 @@ fn is_shown_over(
     segments: Segments,
     map: &mut [u64],
     seen: &mut [u8],
-    m: usize,
 ) -> bool
     requires measured { Measured arena.now table.now index.now segments.count segments.size }
-    requires arena_len_bound { (length arena.now ≤ 64 * length map.old) × (all is_zero map.old ≡ true) × (0 < m)
-        × (length seen.old ≡ m) }
+    requires arena_len_bound { (length arena.now ≤ 64 * length map.old) × (all is_zero map.old ≡ true)
+        × (0 < length seen.old) }
     ensures { Says result
         (Shown next arena.now table.now index.now segments.count) }
 {
-    let words = arena.len();
-    let held = map_rows(&*arena, next, &*table, &mut *map, &mut *seen, m);
-    if words < held {
+    let Some(held) = map_rows(&*arena, next, &*table, &mut *map, &mut *seen) else {
         return false;
-    }
-    let free = walk_segments(&*arena, &*map, &*index, segments);
-    if words < free {
+    };
+    let Some(free) = walk_segments(&*arena, &*map, &*index, segments) else {
         return false;
-    }
-    if free + held != words {
+    };
+    if free + held != arena.len() {
         return false;
     }
     tree_right(&*index, segments.count)
 }
 
-// The residues and the map are wiped whole, so that few slots get few, and a small pool a small one.
-fn is_shown_by(
+// The same by a map of MAP entries and SEEN residues. Both are wiped whole on every call, so that a small pool gets a
+// small map, and few slots get few residues.
+fn is_shown_in<const MAP: usize, const SEEN: usize>(
     next: u32,
     arena: &[i32],
     table: &[u32],
     index: &[u32],
     segments: Segments,
-    map: &mut [u64],
 ) -> bool
-    requires { Measured arena.now table.now index.now segments.count segments.size
-        × (length arena.now ≤ 64 * length map.old) × (all is_zero map.old ≡ true) }
+    requires measured { Measured arena.now table.now index.now segments.count segments.size }
+    requires sizes { (length arena.now ≤ 64 * MAP) × (0 < SEEN) × (MAP ≤ 256) × (SEEN ≤ 2048) }
     ensures { Says result
         (Shown next arena.now table.now index.now segments.count) }
 {
-    if slot_count(&*table) <= 16 {
-        let mut few: [u8; 128] = [0; 128];
-        return is_shown_over(
-            next, &*arena, &*table, &*index, segments, &mut *map, &mut few, 128,
-        );
-    }
-    let mut many: [u8; 2048] = [0; 2048];
+    let mut map: [u64; MAP] = [0; MAP];
+    let mut seen: [u8; SEEN] = [0; SEEN];
     is_shown_over(
-        next, &*arena, &*table, &*index, segments, &mut *map, &mut many, 2048,
+        next, &*arena, &*table, &*index, segments, &mut map, &mut seen,
     )
 }
 
@@ -354,16 +312,23 @@ fn is_shown(next: u32, arena: &[i32], table: &[u32], index: &[u32], segments: Se
     ensures { Says result
         (Shown next arena.now table.now index.now segments.count) }
 {
+    let few = slot_count(&*table) <= 16;
     if arena.len() <= 128 {
-        let mut small: [u64; 2] = [0; 2];
-        return is_shown_by(next, &*arena, &*table, &*index, segments, &mut small);
+        if few {
+            return is_shown_in::<2, 128>(next, &*arena, &*table, &*index, segments);
+        }
+        return is_shown_in::<2, 2048>(next, &*arena, &*table, &*index, segments);
     }
     if arena.len() <= 2048 {
-        let mut middle: [u64; 32] = [0; 32];
-        return is_shown_by(next, &*arena, &*table, &*index, segments, &mut middle);
+        if few {
+            return is_shown_in::<32, 128>(next, &*arena, &*table, &*index, segments);
+        }
+        return is_shown_in::<32, 2048>(next, &*arena, &*table, &*index, segments);
     }
-    let mut large: [u64; 256] = [0; 256];
-    is_shown_by(next, &*arena, &*table, &*index, segments, &mut large)
+    if few {
+        return is_shown_in::<256, 128>(next, &*arena, &*table, &*index, segments);
+    }
+    is_shown_in::<256, 2048>(next, &*arena, &*table, &*index, segments)
 }
 
 // ---- the tests before every call
@@ -387,10 +352,8 @@ pub fn right_lengths(s: u32, arena: &[i32], table: &[u32], index: &[u32]) -> boo
 pub fn ranged(arena: &[i32])
     ensures { Ranged arena.now }
 {
-    let mut i = 0;
-    while i < arena.len() {
-        let _word = arena[i];
-        i += 1;
+    for word in arena {
+        let _read = *word;
     }
 }
 
@@ -405,16 +368,16 @@ fn is_stored(s: u32, head: Head, arena: &[i32], table: &[u32], index: &[u32]) ->
     is_shown(head.next, &*arena, &*table, &*index, segments)
 }
 
-// The number of the tests that stand before every call: 8, 1, or 0 for a sound pool.
-pub fn gate_number(s: u32, head: Head, arena: &[i32], table: &[u32], index: &[u32]) -> u32
+// The tests that stand before every call: refused by number 8 or 1, or a sound pool.
+pub fn gate(s: u32, head: Head, arena: &[i32], table: &[u32], index: &[u32]) -> Result<(), Refusal>
     ensures { GateIs segment_engine
-        (segment_pool s head arena.now table.now index.now) result }
+        (segment_pool s head arena.now table.now index.now) (number_in result) }
 {
     if !right_lengths(s, &*arena, &*table, &*index) {
-        return 8;
+        return Err(Refusal::BadLengths);
     }
     if !is_stored(s, head, &*arena, &*table, &*index) {
-        return 1;
+        return Err(Refusal::Damaged);
     }
-    0
+    Ok(())
 }

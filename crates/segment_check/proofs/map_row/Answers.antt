@@ -1,18 +1,17 @@
 -- `segment_check::map_row` meets its contract. Assumes nothing.
-use Prim.Native.Nat.{◌-◌, ◌≤◌}
+use Prim.Native.Nat.{ℕ, ◌-◌, ◌≤◌}
 use native.Mathlib.Omega.{arith}
 use mathlib.Core.Path.{◌≡◌, ◌∙◌, sym, ap}
-use mathlib.Core.Bool.{true≢false}
+use mathlib.Core.Bool.{true≢false, false≢true}
 use mathlib.Core.Logic.{◌≢◌}
 use mathlib.Core.List.{List}
-use Prim.Native.Nat.{ℕ}
-use Rattle.words.specs.Lists.{Words}
-use Rattle.ledger.specs.Records.{record_at}
-use Rattle.record_table.specs.Partition.{Joins}
-use Rattle.stored_forms.specs.Segments.{segment_rule}
 use lib.IntN.{ℤ, pos, nat_abs}
 use lib.ListN.{length, get_or}
+use Rattle.words.specs.Lists.{Words}
+use Rattle.ledger.specs.Records.{record_at}
 use Rattle.ledger.specs.declared.Row.{Row}
+use Rattle.record_table.specs.Partition.{Joins}
+use Rattle.stored_forms.specs.Segments.{segment_rule}
 use Rattle.segment_index.specs.Control.{free_size}
 use Rattle.segment_index.proofs.SignLaws.{abs_neg, free_neg}
 use Rattle.segment_check.proofs.HeadLaws.{head_inside, held_word, joined_none, joined_live}
@@ -26,76 +25,61 @@ place v next t i u r joins is some =
     let same = ap (λ (q : Row). q.address) is in
     (omega arith, omega arith)
 
-pub enter_row-u-requires : goal.enter_row-u-requires
-enter_row-u-requires c =
-    let (few, long, below, some, wide, noted, heads, sets) = c.requires in
-    record {
-      unit_nonzero = (omega arith, omega arith, below, c.read_row-r.ensures);
-      m_nonzero = (some, wide, noted);
-    }
+pub returns-in_err-u-clause-good : goal.returns-in_err-u-clause-good
+returns-in_err-u-clause-good c = λ g. absurd (false≢true (c.in_err-u.ensures.accepts g.fits g.new))
 
-pub returns-then-u-eq0 : goal.returns-then-u-eq0
-returns-then-u-eq0 c =
+pub returns-then-u-eq0-clause-joined : goal.returns-then-u-eq0-clause-joined
+returns-then-u-eq0-clause-joined c =
     let a = c.args in
-    let (few, long, below, some, wide, noted, heads, sets) = c.requires in
-    let u = c.enter_row-u.result in
-    let z : u ≡ 0 = c.if-u-eq0.true in
-    let (joins, next) = c.enter_row-u.ensures.joins (omega arith) in (
-      λ h. joined_none a.v.now a.next a.table.now a.i u joins a.map.now
-          c.enter_row-u.new.seen a.m next heads sets z,
-      λ g. omega arith,
+    let (few, long, below, some, noted, heads, sets) = c.requires in
+    let (inside, joins, next) = c.in_ok-u.ensures.joins in (
+      omega arith,
+      joined_none a.v.now a.next a.table.now a.i c.in_ok-u.u joins a.map.now
+          c.enter_row.new.seen (length a.seen.now) next heads sets c.if-u-eq0.true,
     )
-
-pub returns-then-words-u : goal.returns-then-words-u
-returns-then-words-u c =
-    (λ h. absurd (omega arith), λ g. c.enter_row-u.ensures.upper_bound g.fits g.new)
 
 pub overflow_sub-at : goal.overflow_sub-at
 overflow_sub-at c =
     let a = c.args in
-    (place a.v.now a.next a.table.now a.i c.enter_row-u.result c.read_row-r.result
-    (c.enter_row-u.ensures.joins c.if-words-u.false).0 c.read_row-r.ensures c.if-u-eq0.false).0
+    (place a.v.now a.next a.table.now a.i c.in_ok-u.u c.read_row-r.result c.in_ok-u.ensures.joins.1
+    c.read_row-r.ensures c.if-u-eq0.false).0
 
 pub is_held-requires : goal.is_held-requires
 is_held-requires c =
     let a = c.args in
-    let fits = c.if-words-u.false in
-    let (low, high) = place a.v.now a.next a.table.now a.i c.enter_row-u.result c.read_row-r.result
-    (c.enter_row-u.ensures.joins c.if-words-u.false).0 c.read_row-r.ensures c.if-u-eq0.false in
+    let (inside, joins, next) = c.in_ok-u.ensures.joins in
+    let (low, high) = place a.v.now a.next a.table.now a.i c.in_ok-u.u c.read_row-r.result joins c.read_row-r.ensures
+    c.if-u-eq0.false in
     let few = c.requires.0 in
     (omega arith, omega arith)
 
-pub returns-then-not-is_held : goal.returns-then-not-is_held
-returns-then-not-is_held c =
+pub returns-then-not-is_held-clause-good : goal.returns-then-not-is_held-clause-good
+returns-then-not-is_held-clause-good c =
     let a = c.args in
-    let u = c.enter_row-u.result in
-    let joins = (c.enter_row-u.ensures.joins c.if-words-u.false).0 in (
-      λ l. absurd (omega arith),
-      λ g.
-          let word = held_word a.v.now a.next a.table.now a.i u joins c.if-u-eq0.false
-          g.right in
-          let same = ap (λ (q : Row). q.address - 1) c.read_row-r.ensures in
-          let is = ap (λ k. get_or a.v.now k (pos 0)) same ∙ word in
-          absurd (true≢false (sym (c.is_held.ensures.value is) ∙ c.if-not-is_held.true)),
-    )
+    λ g.
+    let word = held_word a.v.now a.next a.table.now a.i c.in_ok-u.u c.in_ok-u.ensures.joins.1 c.if-u-eq0.false
+    g.right in
+    let same = ap (λ (q : Row). q.address - 1) c.read_row-r.ensures in
+    let is = ap (λ k. get_or a.v.now k (pos 0)) same ∙ word in
+    absurd (true≢false (sym (c.is_held.ensures.value is) ∙ c.if-not-is_held.true))
 
 pub put_bit-requires : goal.put_bit-requires
 put_bit-requires c =
     let a = c.args in
-    let (low, high) = place a.v.now a.next a.table.now a.i c.enter_row-u.result c.read_row-r.result
-    (c.enter_row-u.ensures.joins c.if-words-u.false).0 c.read_row-r.ensures c.if-u-eq0.false in
+    let (low, high) = place a.v.now a.next a.table.now a.i c.in_ok-u.u c.read_row-r.result c.in_ok-u.ensures.joins.1
+    c.read_row-r.ensures c.if-u-eq0.false in
     omega (arith, c.requires.1)
 
-pub returns : goal.returns
-returns c =
+pub returns-clause-joined : goal.returns-clause-joined
+returns-clause-joined c =
     let a = c.args in
-    let (few, long, below, some, wide, noted, heads, sets) = c.requires in
-    let u = c.enter_row-u.result in
-    let (joins, next) = c.enter_row-u.ensures.joins c.if-words-u.false in
+    let (few, long, below, some, noted, heads, sets) = c.requires in
+    let u = c.in_ok-u.u in
+    let (inside, joins, next) = c.in_ok-u.ensures.joins in
     let word = c.is_held.ensures.pos_value c.if-not-is_held.false in (
-      λ l. joined_live a.v.now a.next a.table.now a.i u joins a.map.now c.put_bit.new.map
-          c.enter_row-u.new.seen a.m (c.read_row-r.result.address - 1) next heads sets
+      inside,
+      joined_live a.v.now a.next a.table.now a.i u joins a.map.now c.put_bit.new.map
+          c.enter_row.new.seen (length a.seen.now) (c.read_row-r.result.address - 1) next heads sets
           c.if-u-eq0.false (ap (λ (q : Row). q.address - 1) c.read_row-r.ensures)
           (ap nat_abs word ∙ abs_neg (pos u)) (ap free_size word ∙ free_neg u) c.put_bit.ensures,
-      λ g. c.if-words-u.false,
     )

@@ -1,5 +1,5 @@
 -- `segment_check::nodes_right` meets its contract: the flag and the words from i on make the answer. Assumes nothing.
-use Prim.Native.Nat.{◌-◌, ◌≤◌}
+use Prim.Native.Nat.{◌-◌}
 use mathlib.Core.Bool.{◌&&◌}
 use mathlib.Core.Path.{◌≡◌}
 use Rattle.words.specs.Counted.{every}
@@ -7,7 +7,4 @@ use Rattle.segment_check.specs.Right.{node_right}
 use Rattle.segment_check.proofs.nodes_right.Given as goal
 
 abbrev pub invariant-loop-i : goal.invariant-loop-i
-invariant-loop-i l = (1 ≤ l.i) × (l.i ≤ l.s) × ((l.ok && every (node_right l.t) l.i (l.s - l.i)) ≡ every (node_right l.t) 1 (l.s - 1))
-
-abbrev pub decreases-loop-i : goal.decreases-loop-i
-decreases-loop-i l = l.s - l.i
+invariant-loop-i l = (l.ok && every (node_right l.t) l.i (l.s - l.i)) ≡ every (node_right l.t) 1 (l.s - 1)

@@ -1,12 +1,12 @@
--- `segment_check::gate_number` meets its contract, by the test that led to each number. Assumes nothing.
+-- `segment_check::gate` meets its contract, by the test that led to each number. Assumes nothing.
 use mathlib.Core.Bool.{true}
 use mathlib.Core.Path.{◌≡◌, ◌∙◌, refl, sym}
 use Rattle.calls.specs.Pool.{Pool, lengths}
 use Rattle.calls.specs.Engines.{segment_engine}
 use Rattle.calls.proofs.GateLaws.{is_eight, is_one, is_zero}
 use Rattle.segment_check.specs.Gate.{segment_pool}
-use Rattle.segment_check.proofs.gate_number.Goals as goal
-use Rattle.segment_check.proofs.gate_number.Goals.{Else-not-right_lengths}
+use Rattle.segment_check.proofs.gate.Goals as goal
+use Rattle.segment_check.proofs.gate.Goals.{Else-not-right_lengths}
 
 pub returns-then-not-right_lengths : goal.returns-then-not-right_lengths
 unfolding segment_engine

@@ -74,9 +74,9 @@ fn is_clear(f: Fields, state: &[u8]) -> bool
     let arena = 4188;
     let rest = 4188 + 4 * f.words as usize;
     word_bytes::is_without(&state[line..spare], 10)
-        & word_bytes::is_zero(&state[spare..table])
-        & word_bytes::is_zero(&state[behind..arena])
-        & word_bytes::is_zero(&state[rest..])
+        & words::is_zero(&state[spare..table])
+        & words::is_zero(&state[behind..arena])
+        & words::is_zero(&state[rest..])
 }
 
 // Whether there is a pool of at most 1,024 words and 16 records.
@@ -319,12 +319,12 @@ fn clear_for(f: Fields, state: &mut [u8])
 {
     let old = read_fields(&*state);
     if (f.words < old.words) | (f.slots < old.slots) {
-        word_bytes::wipe(state);
+        words::fill(state, 0);
         return;
     }
     let start = 0;
     let front = 92;
-    word_bytes::wipe(&mut state[start..front]);
+    words::fill(&mut state[start..front], 0);
 }
 
 // The state's bytes of a session, over those of another, but for the words of its pool: only what is used is written.
@@ -574,7 +574,7 @@ pub fn start(state: &mut [u8]) -> u32
         next: 0,
     };
     let line = [0u8; 1];
-    word_bytes::wipe(state);
+    words::fill(state, 0);
     put_front(f, &line, 0, state);
     0
 }

@@ -1,16 +1,18 @@
 -- Words are had back from their bytes, and bytes from their words. Assumes nothing.
-use Prim.Native.Nat.{ℕ, zero, suc, ◌+◌, ◌*◌, ◌/◌, ◌%◌, ◌≤◌, ◌<◌}
-use mathlib.Core.Path.{◌≡◌, sym, ap, ◌∙◌}
-use mathlib.Core.List.{[], ◌∷◌, ◌++◌}
+use Prim.Native.Nat.{ℕ, zero, suc, ◌+◌, ◌*◌, ◌/◌, ◌%◌, ◌≤◌, ◌<◌, ◌^◌}
+use mathlib.Core.Path.{◌≡◌, refl, sym, ap, ◌∙◌}
+use mathlib.Core.List.{[], ◌∷◌, ◌++◌, append_assoc}
+use borrow.Rule.Slice.PartMut.{put_mid}
+use mir.Syntax.{w32}
+use lib.Dec.{eqb}
+use Rattle.std.specs.Int.{to_le_bytes}
+use Rattle.std.specs.List.{list_any}
 use native.Mathlib.Omega.{arith}
-use native.Mathlib.Numerals.{add-one}
-use native.Mathlib.Decide.{ℕ_discrete}
-use mathlib.Core.Bool.{Bool}
-use lib.ListN.{length, get_or, set, drop, length-append, drop_of_length-le, get_or-append}
-use lib.Seq.{sets, drop-cons, ext_get_or, get_or-set_same, get_or-set_other, get_or-append-add}
-use Rattle.words.specs.Lists.{Words, list_from}
+use mathlib.Core.Bool.{Bool, true, false, not, ◌&&◌, ◌||◌}
+use lib.ListN.{length, get_or, take, drop, length-append, get_or-append}
+use lib.Seq.{sets, sets-eq, drop-drop, ext_get_or, get_or-append-add}
+use Rattle.words.specs.Lists.{Words, all, list_from}
 use Rattle.words.proofs.ListLaws.{length_list_from, get_d_list_from}
-use Rattle.text.proofs.WriteLaws.{sets_after}
 use Rattle.text.specs.Numbers.{Bytes}
 use Rattle.word_bytes.specs.Little.{word_bytes, word_of, word_at, bytes_of_words, is_other}
 
@@ -20,12 +22,6 @@ word_back x = omega arith
 pub length_bytes : (ws : Words) → length (bytes_of_words ws) ≡ 4 * length ws
 length_bytes [] = omega arith
 length_bytes (x ∷ ws) = omega (arith, length_bytes ws)
-
-pub add_two : (n : ℕ) → n + 2 ≡ suc (suc n)
-add_two n = omega arith
-
-pub add_three : (n : ℕ) → n + 3 ≡ suc (suc (suc n))
-add_three n = omega arith
 
 -- the word at i of the bytes of words is the i-th
 pub word_at_lem : (ws : Words) (i : ℕ) → i < length ws → word_at (bytes_of_words ws) i ≡ get_or ws i 0
@@ -106,41 +102,36 @@ module _ (a b c d : ℕ) (ha : a < 256) (hb : b < 256) (hc : c < 256) where
   pub word_again : word_bytes (word_of a b c d) ≡ a ∷ b ∷ c ∷ d ∷ []
   word_again = rw (first, second, third, fourth)
 
--- ---- steps of loops
+-- ---- what code does
 
--- the byte at place i is not x
-abbrev pub other_at : ℕ → Bytes → ℕ → Bool
-other_at x s i = is_other x (get_or s i 0)
+-- the bytes that std gives
+pub bytes_lem : (w : ℕ) → w < 2 ^ 32 → to_le_bytes w32 w ≡ word_bytes w
+bytes_lem w h =
+    let top : w / 16777216 % 256 ≡ w / 16777216 = omega arith in
+    ap (λ (b : ℕ). w % 256 ∷ w / 256 % 256 ∷ w / 65536 % 256 ∷ b ∷ []) top
+
+-- what a write of a word's bytes to a part leaves
+pub put_bytes : (a k : ℕ) (xs : Bytes) (w : ℕ) (ys : Bytes) → ys ≡ word_bytes w → k ≡ 4 → a + 4 ≤ length xs
+    → put_mid a k xs ys ≡ sets xs a (word_bytes w)
+put_bytes a k xs w ys e f h =
+    rw (e, f, drop-drop 4 a xs)
+    (sym (sets-eq (word_bytes w) xs a h ∙ append_assoc (take a xs) (word_bytes w) (drop (a + 4) xs)))
+
+-- no byte is v where none is found
+pub without_lem : (v : ℕ) (s : Bytes) → not (list_any (λ b. eqb b v) s) ≡ all (is_other v) s
+without_lem v [] = refl
+without_lem v (b ∷ s) = go (eqb b v) (without_lem v s)
+  where
+    go : (t : Bool) → not (list_any (λ b. eqb b v) s) ≡ all (is_other v) s
+        → not (t || list_any (λ b. eqb b v) s) ≡ (not t && all (is_other v) s)
+    go true ih = refl
+    go false ih = ih
 
 -- the first i words are f from, f (from + 1), and so on
 abbrev pub Filled : (ℕ → ℕ) → ℕ → ℕ → Words → Type 0
 Filled f from i out = (j : ℕ) → j < i → get_or out j 0 ≡ f (from + j)
 
-pub filled_next : (f : ℕ → ℕ) (from i : ℕ) (out : Words) (v : ℕ) → i < length out → v ≡ f (from + i)
-    → Filled f from i out → Filled f from (i + 1) (set out i v)
-filled_next f from i out v h e fill j l = at (ℕ_discrete j i)
-  where
-    at : Dec (j ≡ i) → get_or (set out i v) j 0 ≡ f (from + j)
-    at (yes q) = rw q (get_or-set_same out i v 0 h ∙ e)
-    at (no q) = get_or-set_other out i j v 0 q ∙ fill j (omega arith)
-
 pub filled_all : (f : ℕ → ℕ) (from n : ℕ) (out : Words) → length out ≡ n → Filled f from n out → out ≡ list_from f from n
 filled_all f from n out e fill =
     ext_get_or 0 out (list_from f from n) (e ∙ sym (length_list_from f from n))
     (λ i h. let l : i < n = omega arith in fill i l ∙ sym (get_d_list_from f from n i 0 l))
-
--- a step of the loop that puts words
-pub words_next : (ws : Words) (i from : ℕ) (l₀ l₁ : Bytes) → i < length ws
-    → l₁ ≡ sets l₀ (4 * (from + i)) (word_bytes (get_or ws i 0))
-    → sets l₁ (4 * (from + (i + 1))) (bytes_of_words (drop (i + 1) ws)) ≡ sets l₀ (4 * (from + i)) (bytes_of_words (drop i ws))
-words_next ws i from l₀ l₁ h e =
-    let x = get_or ws i 0 in
-    let w : 4 * (from + (i + 1)) ≡ 4 * (from + i) + length (word_bytes x) = omega arith in
-    sets_after (word_bytes x) (bytes_of_words (drop (i + 1) ws)) l₀ l₁ (4 * (from + i)) (4 * (from + (i + 1))) (w, e)
-    ∙ ap (λ (l : Words). sets l₀ (4 * (from + i)) (bytes_of_words l)) (sym here)
-  where
-    here : drop i ws ≡ get_or ws i 0 ∷ drop (i + 1) ws
-    here = rw add-one (drop-cons ws i 0 h)
-
-pub words_end : (ws : Words) (i : ℕ) → length ws ≤ i → bytes_of_words (drop i ws) ≡ []
-words_end ws i h = rw (drop_of_length-le ws h)

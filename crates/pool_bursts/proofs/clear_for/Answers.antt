@@ -12,14 +12,14 @@ use Rattle.pool_bursts.proofs.clear_for.Goals as goal
 
 pub returns-then-f-old : goal.returns-then-f-old
 returns-then-f-old c =
-    ap (is_blank c.args.f) c.wipe.ensures ∙ blank_zeros c.args.f (length c.args.state.now)
+    ap (is_blank c.args.f) c.fill.ensures ∙ blank_zeros c.args.f (length c.args.state.now)
 
 pub returns : goal.returns
 returns c =
     let f = c.args.f in
     let b = c.args.state.now in
     let r = c.read_fields-old in
-    let w = c.wipe-2 in
+    let w = c.fill-2 in
     let old = r.result in
     let few = c.if-f-old.false in
     let wiped = w.ensures ∙ ap (λ (n : ℕ). replicate n 0) (length-take-le 92 b (omega (arith, c.requires.0))) in

@@ -26,7 +26,7 @@ pub returns : goal.returns
 returns c =
     let st = c.args.state.now in
     let p = c.put_front in
-    let w = c.wipe in
+    let w = c.fill in
     let long = c.if-state-ne36956.false in
     let filled = p.ensures
     ∙ ap (λ (l : Bytes). sets (sets l 0 (bytes_of_words (1 ∷ 0 ∷ 0 ∷ 0 ∷ 0 ∷ 0 ∷ []))) 24 []) w.ensures

@@ -1,5 +1,5 @@
 -- `word_bytes::put_words` meets its contract: the words left, set from here on, make all of them. Assumes nothing.
-use Prim.Native.Nat.{◌≤◌, ◌-◌, ◌+◌, ◌*◌}
+use Prim.Native.Nat.{◌+◌, ◌*◌}
 use lib.ListN.{length, drop}
 use lib.Seq.{sets}
 use Rattle.word_bytes.specs.Little.{bytes_of_words}
@@ -8,9 +8,5 @@ use Rattle.word_bytes.proofs.put_words.Given as goal
 
 abbrev pub invariant-loop-i : goal.invariant-loop-i
 invariant-loop-i l =
-    (l.i ≤ length l.words)
-    × (length l.out ≡ length l.initial.out)
+    (length l.out ≡ length l.initial.out)
     × (sets l.out (4 * (l.from + l.i)) (bytes_of_words (drop l.i l.words)) ≡ sets l.initial.out (4 * l.from) (bytes_of_words l.words))
-
-abbrev pub decreases-loop-i : goal.decreases-loop-i
-decreases-loop-i l = length l.words - l.i

@@ -1,13 +1,14 @@
 -- The map of an arena's cells: where it has 0 there is room for a block, and so it is after an insertion.
 -- Assumes nothing.
-use Rattle.std.proofs.Common.{◌≡◌, ℕ, ◌+◌, ◌-◌, ◌/◌, ◌<◌, ◌≤◌, true, ◌||◌, ◌≢◌, List, [], ◌∷◌, ◌++◌, length, get_or, set, replicate, sym, refl, ap, ◌∙◌, subst, true≢false, arith, length-set, get_or-set_other, get_or-set_same}
-use native.Mathlib.Decide.{ℕ_discrete}
+use Rattle.std.proofs.Common.{◌≡◌, ℕ, Bool, false, ◌+◌, ◌-◌, ◌/◌, ◌<◌, ◌≤◌, true, ◌||◌, ◌≢◌, List, [], ◌∷◌, ◌++◌, length, get_or, replicate, sym, refl, ap, ◌∙◌, subst, true≢false, arith}
 use mathlib.Core.Bool.{or_comm, or_assoc}
 use lib.ListN.{length-replicate, get_or-replicate}
 use Rattle.words.specs.Lists.{Words, zero_at}
 use Rattle.words.specs.Counted.{within, every}
+use Rattle.words.specs.Places.{wiped}
 use Rattle.words.proofs.Tests.{false_of, eqb_eq, within_of}
 use Rattle.words.proofs.CountedLaws.{every_at}
+use Rattle.words.proofs.PlaceLaws.{length_wiped, wiped_in, wiped_out}
 use Rattle.ledger.specs.Runs.{Run, run, covered}
 use Rattle.stored_forms.specs.Tree.{Tree, leaf, inorder, form_one, form_two, form_three, form_of}
 use Rattle.stored_forms.specs.Blocks.{In}
@@ -33,25 +34,19 @@ fits_all {map} {x} {n} some before enough all = record {
   free = λ c a b. eqb_eq (get_or map c 0) 0 (every_at (zero_at map) x (x + n - x) (sym all) c a (omega arith));
 }
 
-pub mark_none : (map : Words) (lo : ℕ) → Marked map map lo lo
-mark_none map lo = record { long = refl; other = λ c z. z; away = λ c z a b. omega arith }
-
-pub mark_next : {map map' : Words} {lo i : ℕ} → Marked map map' lo i → i < length map'
-    → Marked map (set map' i 1) lo (i + 1)
-mark_next {map} {map'} {lo} {i} m h = record {
-  long = length-set map' i 1 ∙ m.long;
-  other = λ c z. m.other c (stays c z (ℕ_discrete c i)).0;
-  away = λ c z a b. let (same, n) = stays c z (ℕ_discrete c i) in m.away c same a (omega arith);
-}
+pub marked : {map map' : Words} {lo hi : ℕ} → hi ≤ length map → map' ≡ wiped 1 lo hi map → Marked map map' lo hi
+marked {map} {map'} {lo} {hi} h e = rw e (record {
+  long = length_wiped 1 lo hi map;
+  other = λ c z. go c z (within lo hi c) refl;
+  away = away;
+})
   where
-    stays : (c : ℕ) → get_or (set map' i 1) c 0 ≡ 0 → Dec (c ≡ i) → (get_or map' c 0 ≡ 0) × (c ≢ i)
-    stays c z (yes e) =
-        let is = sym (get_or-set_same map' i 1 0 h) ∙ ap (λ k. get_or (set map' i 1) k 0) (sym e) ∙ z in
-        absurd (omega arith)
-    stays c z (no n) = (sym (get_or-set_other map' i c 1 0 n) ∙ z, n)
+    away : (c : ℕ) → get_or (wiped 1 lo hi map) c 0 ≡ 0 → lo ≤ c → c < hi → ⊥
+    away c z a b = let one = wiped_in 1 lo hi map c 0 a b (omega arith) in omega arith
 
-pub mark_end : {map map' : Words} {lo hi i : ℕ} → Marked map map' lo i → hi ≤ i → Marked map map' lo hi
-mark_end m h = record { long = m.long; other = m.other; away = λ c z a b. m.away c z a (omega arith) }
+    go : (c : ℕ) → get_or (wiped 1 lo hi map) c 0 ≡ 0 → (v : Bool) → within lo hi c ≡ v → get_or map c 0 ≡ 0
+    go c z true w = let (a, b) = within_of lo hi c w in absurd (away c z a b)
+    go c z false w = sym (wiped_out 1 lo hi map c 0 w) ∙ z
 
 -- ---- the cells of a tree with one run more
 

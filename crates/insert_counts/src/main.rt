@@ -8,6 +8,7 @@ ghost use Rattle.free_tree.specs.Links.{link_of};
 ghost use Rattle.insert_counts.specs.Map.{Paired, Mapped, Fits, Marked};
 
 use free_tree::{count_of, link_of};
+use testing::{pick, stirred};
 use tree_nodes::forms::cell_count;
 
 // What a round has come to: the form's number, the root link, the last random number, insertions, links stored, and insertions whose
@@ -45,11 +46,7 @@ fn mark(map: &mut [u32], lo: usize, hi: usize)
     requires { (lo ≤ hi) × (hi ≤ length map.old) }
     ensures { Marked map.old map.new lo hi }
 {
-    let mut i = lo;
-    while i < hi {
-        map[i] = 1;
-        i += 1;
-    }
+    words::fill_part(map, lo, hi, 1);
 }
 
 // Inserts the block of `n` cells at cell `x` if it fits. Returns the root link and how many links were stored.
@@ -73,23 +70,16 @@ fn insert_where_free(
 
 // ---- the count by words
 
-fn one_if(b: bool) -> u64 {
-    if b { 1 } else { 0 }
-}
-
 // How many of the two links in a word differ in another.
 fn halves(a: u32, b: u32) -> u64 {
-    std::num::wrapping_add_u64(
-        one_if(a % 65536 != b % 65536),
-        one_if(a / 65536 != b / 65536),
-    )
+    u64::from(a % 65536 != b % 65536) + u64::from(a / 65536 != b / 65536)
 }
 
 // The same for word `i`, where the form has two links in the second word of a cell, or one in the second and one in the
 // third.
 fn links_in(form: u32, i: usize, a: u32, b: u32) -> u64 {
     if form == 2 {
-        return one_if(((i % 4 == 1) | (i % 4 == 2)) & (a != b));
+        return u64::from(matches!(i % 4, 1 | 2) & (a != b));
     }
     if i % 2 == 0 {
         return 0;
@@ -99,24 +89,16 @@ fn links_in(form: u32, i: usize, a: u32, b: u32) -> u64 {
 
 // A word that is no node's is zero before and after.
 fn links_changed(form: u32, before: &[u32], after: &[u32]) -> u64 {
-    let mut sum = 0;
-    let mut i = 0;
-    while i < after.len() {
-        sum = std::num::wrapping_add_u64(
-            sum,
-            links_in(form, i, testing::word(before, i), after[i]),
-        );
-        i += 1;
+    let mut sum: u64 = 0;
+    for (i, (a, b)) in before.iter().zip(after).enumerate() {
+        sum = sum.wrapping_add(links_in(form, i, *a, *b));
     }
     sum
 }
 
 fn copy(from: &[u32], to: &mut [u32]) {
-    let n = to.len();
-    let mut i = 0;
-    while i < n {
-        testing::put(to, i, testing::word(from, i));
-        i += 1;
+    for (b, a) in to.iter_mut().zip(from) {
+        *b = *a;
     }
 }
 
@@ -128,12 +110,11 @@ fn counted(round: Round, root: usize, said: u64, changed: u64) -> Round
     ensures { (result.form ≡ round.form) × (result.root ≡ root) }
 {
     Round {
-        form: round.form,
         root,
-        seed: round.seed,
-        insertions: std::num::wrapping_add_u64(round.insertions, one_if(changed != 0)),
-        links: std::num::wrapping_add_u64(round.links, said),
-        differences: std::num::wrapping_add_u64(round.differences, one_if(said != changed)),
+        insertions: round.insertions.wrapping_add(u64::from(changed != 0)),
+        links: round.links.wrapping_add(said),
+        differences: round.differences.wrapping_add(u64::from(said != changed)),
+        ..round
     }
 }
 
@@ -154,36 +135,8 @@ fn step(
     copy(arena, before);
     let k = insert_where_free(form, arena, map, old, x, n);
     let root = link_of(k);
-    let changed = std::num::wrapping_add_u64(
-        links_changed(form, before, arena),
-        one_if(root != old),
-    );
+    let changed = links_changed(form, before, arena).wrapping_add(u64::from(root != old));
     counted(round, root, count_of(k), changed)
-}
-
-fn stirred(seed: u64) -> u64 {
-    ((seed % 2147483648) * 1103515245 + 12345) % 2147483648
-}
-
-// A number below n, or 0 where n is 0.
-fn pick(seed: u64, n: usize) -> usize {
-    if n == 0 {
-        return 0;
-    }
-    (seed / 1024) as usize % n
-}
-
-fn with_seed(round: Round, seed: u64) -> Round
-    ensures { (result.form ≡ round.form) × (result.root ≡ round.root) }
-{
-    Round {
-        form: round.form,
-        root: round.root,
-        seed,
-        insertions: round.insertions,
-        links: round.links,
-        differences: round.differences,
-    }
 }
 
 // A block of fewer than `most` cells anywhere.
@@ -193,8 +146,9 @@ fn turn(round: Round, arena: &mut [u32], map: &mut [u32], before: &mut [u32], mo
 {
     let a = stirred(round.seed);
     let b = stirred(a);
-    let x = pick(a, map.len());
-    step(with_seed(round, b), arena, map, before, x, pick(b, most))
+    let x = pick(a, map.len() as u64) as usize;
+    let n = pick(b, most as u64) as usize;
+    step(Round { seed: b, ..round }, arena, map, before, x, n)
 }
 
 fn turns(
@@ -209,10 +163,8 @@ fn turns(
     ensures { Mapped (form_of result.form) arena.new map.new result.root }
 {
     let mut round = start;
-    let mut i = 0;
-    while i < count {
+    for _ in 0..count {
         round = turn(round, arena, map, before, most);
-        i += 1;
     }
     round
 }
@@ -284,37 +236,35 @@ struct Size {
     most: usize,
 }
 
-fn size_of(round: u64) -> Size {
-    match round {
-        0 => Size { words: 2, most: 2 },
-        1 => Size { words: 16, most: 4 },
-        2 => Size { words: 24, most: 6 },
-        3 => Size {
-            words: 1024,
-            most: 3,
-        },
-        4 => Size {
-            words: 1024,
-            most: 40,
-        },
-        5 => Size {
-            words: 4096,
-            most: 12,
-        },
-        6 => Size {
-            words: 16384,
-            most: 2,
-        },
-        7 => Size {
-            words: 16384,
-            most: 20,
-        },
-        _ => Size {
-            words: 16384,
-            most: 300,
-        },
-    }
-}
+const SIZES: [Size; 9] = [
+    Size { words: 2, most: 2 },
+    Size { words: 16, most: 4 },
+    Size { words: 24, most: 6 },
+    Size {
+        words: 1024,
+        most: 3,
+    },
+    Size {
+        words: 1024,
+        most: 40,
+    },
+    Size {
+        words: 4096,
+        most: 12,
+    },
+    Size {
+        words: 16384,
+        most: 2,
+    },
+    Size {
+        words: 16384,
+        most: 20,
+    },
+    Size {
+        words: 16384,
+        most: 300,
+    },
+];
 
 // The same on the first words.
 fn play_on(
@@ -325,27 +275,28 @@ fn play_on(
     size: Size,
     seed: u64,
 ) {
-    let w = testing::least(size.words, arena.len());
-    let m = testing::least(cell_count(form, size.words), map.len());
-    let zero = 0;
-    let lent = &mut arena[zero..w];
-    play(form, lent, &mut map[zero..m], before, size.most, seed);
+    let w = size.words.min(arena.len());
+    let m = cell_count(form, size.words).min(map.len());
+    play(
+        form,
+        &mut arena[..w],
+        &mut map[..m],
+        before,
+        size.most,
+        seed,
+    );
 }
 
 // T8's eight cells.
 fn sheet_on(form: u32, words: usize, arena: &mut [u32], map: &mut [u32], before: &mut [u32]) {
-    let w = testing::least(words, arena.len());
-    let m = testing::least(cell_count(form, words), map.len());
-    let zero = 0;
-    let lent = &mut arena[zero..w];
-    bench_sheet(form, lent, &mut map[zero..m], before);
+    let w = words.min(arena.len());
+    let m = cell_count(form, words).min(map.len());
+    bench_sheet(form, &mut arena[..w], &mut map[..m], before);
 }
 
 fn run(form: u32, arena: &mut [u32], map: &mut [u32], before: &mut [u32]) {
-    let mut i = 0;
-    while i < 9 {
-        play_on(form, arena, map, before, size_of(i), i);
-        i += 1;
+    for (seed, size) in SIZES.iter().enumerate() {
+        play_on(form, arena, map, before, *size, seed as u64);
     }
 }
 

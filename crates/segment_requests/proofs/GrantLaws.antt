@@ -4,7 +4,7 @@ use Prim.Native.Nat.{ℕ, ◌+◌, ◌-◌, ◌*◌, ◌≤◌, ◌<◌}
 use native.Mathlib.Nat.{div-one}
 use native.Mathlib.Decide.{ℕ_discrete}
 use native.Mathlib.Omega.{arith}
-use mathlib.Core.Path.{◌≡◌, refl, sym, ap, ap₂, ◌∙◌}
+use mathlib.Core.Path.{◌≡◌, refl, sym, subst, ap, ap₂, ◌∙◌}
 use mathlib.Core.Logic.{◌≢◌}
 use mathlib.Core.Bool.{true, false, ◌||◌}
 use mathlib.Core.List.{List}
@@ -31,10 +31,11 @@ use Rattle.stored_forms.proofs.SearchLaws.{places_most, most_small}
 use Rattle.segment_index.proofs.SizeLaws.{size_pos}
 use Rattle.segment_index.specs.declared.Segments.{Segments}
 use Rattle.segment_index.specs.Index.{Divided}
-use Rattle.segment_cores.specs.Stores.{Granting, Becomes}
+use Rattle.segment_cores.specs.Cores.{Searching}
+use Rattle.segment_cores.specs.Stores.{Sound, Granting, Becomes}
 use Rattle.segment_cores.proofs.CallLaws.{granting}
 use Rattle.segment_cores.proofs.UnitLaws.{span_words, address_after}
-use Rattle.calls.specs.Pool.{Pool, next_after}
+use Rattle.calls.specs.Pool.{Pool, next_after, sound}
 use Rattle.calls.specs.Step.{ask, success, fit_of, answer_to, pool_after}
 use Rattle.calls.specs.Engines.{segment_engine}
 use Rattle.calls.specs.Search.{places_by}
@@ -44,7 +45,7 @@ use Rattle.record_table.proofs.SlotLaws.{empty_found}
 use Rattle.segment_check.specs.declared.Head.{Head}
 use Rattle.segment_requests.specs.Granting.{Grantable}
 use Rattle.segment_requests.specs.Outcomes.{places_asked}
-use Rattle.segment_check.specs.Gate.{as_words, segment_pool}
+use Rattle.segment_check.specs.Gate.{as_words, segment_pool, Ranged}
 use Rattle.segment_check.proofs.GateLaws.{InRange}
 use Rattle.segment_requests.proofs.StoredLaws.{sound_range, sound_form, stored_pool}
 
@@ -96,6 +97,28 @@ module _ (S W : ℕ) (L : Ledger) (n : ℕ) (some_units : 1 ≤ n) (r : Steps)
 
 pub some_words : (n : ℕ) → (eqb n 0 || ltb 16384 n) ≡ false → 1 ≤ n
 some_words n size = let z = eqb_false n 0 (or_l (eqb n 0) (ltb 16384 n) size) in omega arith
+
+-- the search is asked on a sound pool, and what it finds, in the ledger's units
+module _ (S : ℕ) (h : Head) (v : List ℤ) (t x : Words) (n : ℕ) {r : Segments} (d : Divided S (length v) r) where
+  pub searching : sound segment_engine (segment_pool S h v t x) ≡ true → Ranged v → (eqb n 0 || ltb 16384 n) ≡ false
+      → Searching (records_of t) v x r.count r.log (n + 1)
+  searching ok ranged size =
+      let form = sound_form S h v t x ok ranged d in
+      record {
+        sound = subst (Sound (records_of t) v x r.count) form.sizes.each form;
+        power = d.count ∙ d.power;
+        few = d.few;
+        two = omega (arith, some_words n size);
+      }
+
+  pub search_found : (y : Steps)
+      → y ≡ steps_to r.count (length v) (records_of t) (lowest_fit (free segment_rule (records_of t)) (length v) (n + 1))
+      → y ≡ steps_to S (length v) (records_of t)
+      (lowest_fit (free segment_rule (records_of t)) (length v) (span segment_rule n))
+  search_found y e =
+      let L = records_of t in
+      e ∙ ap₂ (λ (m k : ℕ). steps_to m (length v) L (lowest_fit (free segment_rule L) (length v) k)) d.count
+      (sym (span_words n))
 
 -- ---- the grant
 

@@ -29,7 +29,7 @@ use Rattle.calls.proofs.ActLaws.{named_zero, planned, plan_done}
 use Rattle.calls.proofs.Engines.{segment_laws}
 use Rattle.calls.proofs.TrimLaws.{keeps_all_lem}
 use Rattle.record_table.proofs.SlotLaws.{ticket_found, ticket_settle}
-use Rattle.call_parts.specs.declared.Named.TheVariants.{Slot}
+use Rattle.std.specs.Prelude.{Ok}
 use Rattle.call_parts.specs.Parts.{named_in}
 use Rattle.call_parts.proofs.NamedLaws.{named_at_lem}
 use Rattle.call_parts.proofs.FindLaws.{slot_number}
@@ -39,7 +39,7 @@ use Rattle.segment_check.proofs.GateLaws.{InRange}
 use Rattle.segment_requests.proofs.StoredLaws.{sound_range, sound_good, sound_form, stored_pool}
 
 module _ (h : Head) (S : ℕ) (v : List ℤ) (t x : Words) (r : Row) (slot : ℕ)
-    (ok : sound segment_engine (segment_pool S h v t x) ≡ true) (found : named_in t r ≡ Slot slot) where
+    (ok : sound segment_engine (segment_pool S h v t x) ≡ true) (found : named_in t r ≡ Ok slot) where
   abbrev lent : Pool
   lent = segment_pool S h v t x
 

@@ -2,11 +2,12 @@
 // that they come to. The calls of segment_pool check the pool first.
 #![tactic(auto)]
 
-ghost use Rattle.std.specs.Prelude.{◌≡◌, true, [], ◌+◌, ◌*◌, ◌/◌, ◌%◌, ◌<◌, ◌≤◌, length};
+ghost use Rattle.std.specs.Prelude.{◌≡◌, true, [], ◌+◌, ◌*◌, ◌/◌, ◌%◌, ◌<◌, ◌≤◌, length, Ok};
 ghost use Rattle.ledger.specs.Records.{is_party, keepable, shortened};
 ghost use Rattle.calls.specs.Pool.{sound};
 ghost use Rattle.calls.specs.Step.{ask, give, cut, answer_to, pool_after, partied};
 ghost use Rattle.calls.specs.Engines.{segment_engine};
+ghost use Rattle.calls.specs.Refusals.{number_of, number_in};
 ghost use Rattle.call_parts.specs.Parts.{named_in, act_of, request_at, with_answer};
 ghost use Rattle.call_parts.specs.Results.{acted, ran};
 ghost use Rattle.segment_check.specs.Gate.{segment_pool};
@@ -14,10 +15,9 @@ ghost use Rattle.segment_requests.specs.Granting.{Grantable};
 ghost use Rattle.segment_requests.specs.Outcomes.{handed, refused_with, grant_outcome, release_outcome, effect_in, places_in};
 ghost use Rattle.segment_requests.specs.Outcomes.{places_asked};
 
-use call_parts::{Named, Request};
-use calls::Answer;
+use call_parts::Request;
+use calls::{Answer, Refusal};
 use ledger::Row;
-use record_table::Found as Slot;
 use segment_check::Head;
 
 // A head with the answer.
@@ -48,11 +48,10 @@ pub fn refused_with(head: Head, number: u32) -> Outcome
 // ---- allocate
 
 // The effect of an allocation that is refused: no address, and its number in the upper half.
-fn no_effect(number: u32) -> u32
-    requires { number < 65536 }
-    ensures { result / 65536 ≡ number }
+fn no_effect(refusal: Refusal) -> u32
+    ensures { result / 65536 ≡ number_of refusal }
 {
-    65536 * number
+    65536 * refusal.number()
 }
 
 // Takes the first words of the free block that was found, under the next ticket. What an allocation has come to, as
@@ -116,21 +115,21 @@ pub fn grant(
         party words }
 {
     if (words == 0) | (16384 < words) {
-        return with_places(no_effect(2), 0);
+        return with_places(no_effect(Refusal::BadSize), 0);
     }
-    let Slot::At(slot) = record_table::empty_slot(table) else {
-        return with_places(no_effect(3), 0);
+    let Some(slot) = record_table::empty_slot(table) else {
+        return with_places(no_effect(Refusal::NoRecord), 0);
     };
     let next = head.next;
     if next == 0 {
-        return with_places(no_effect(4), 0);
+        return with_places(no_effect(Refusal::NoTicket), 0);
     }
     segment_check::ranged(arena);
     let segments = segment_index::segments_of(s, arena.len());
     let fit = segment_cores::search(arena, index, segments, words + 1);
     let at = fit.at;
     if at == arena.len() {
-        return with_places(no_effect(5), fit.places);
+        return with_places(no_effect(Refusal::NoRoom), fit.places);
     }
     let effect = place(head, s, arena, table, index, party, words, slot, at);
     with_places(effect, fit.places)
@@ -170,10 +169,10 @@ fn give_back(
     index: &mut [u32],
     named: Row,
     slot: usize,
-) -> u32
+)
     requires { (sound segment_engine (segment_pool s head arena.old table.old index.old)
-        ≡ true) × (named_in table.old named ≡ Named.Slot slot) }
-    ensures { handed s (release_outcome head named result) arena.new table.new index.new []
+        ≡ true) × (named_in table.old named ≡ Ok slot) }
+    ensures { handed s (release_outcome head named 0) arena.new table.new index.new []
         ≡ acted segment_engine (give named)
         (segment_pool s head arena.old table.old index.old) }
 {
@@ -183,10 +182,9 @@ fn give_back(
     let segments = segment_index::segments_of(s, arena.len());
     segment_cores::release(arena, index, segments, at, n);
     record_table::write_row(table, slot, call_parts::EMPTY_ROW);
-    0
 }
 
-// A release on a sound pool: its number.
+// A release on a sound pool.
 pub fn vacate(
     head: Head,
     s: u32,
@@ -194,15 +192,24 @@ pub fn vacate(
     table: &mut [u32],
     index: &mut [u32],
     named: Row,
-) -> u32
+) -> Result<(), Refusal>
     requires { sound segment_engine (segment_pool s head arena.old table.old index.old) ≡ true }
-    ensures { handed s (release_outcome head named result) arena.new table.new index.new []
+    ensures { handed s (release_outcome head named (number_in result)) arena.new table.new index.new []
         ≡ acted segment_engine (give named)
         (segment_pool s head arena.old table.old index.old) }
 {
-    match call_parts::named_slot(table, named) {
-        Named::Refused(number) => number,
-        Named::Slot(slot) => give_back(head, s, arena, table, index, named, slot),
+    let slot = call_parts::named_slot(table, named)?;
+    give_back(head, s, arena, table, index, named, slot);
+    Ok(())
+}
+
+// The number of a release or a trim, 0 where it is not refused.
+pub fn number_in(done: Result<(), Refusal>) -> u32
+    ensures { result ≡ number_in done }
+{
+    match done {
+        Ok(()) => 0,
+        Err(refusal) => refusal.number(),
     }
 }
 
@@ -232,16 +239,16 @@ fn cut_back(
     named: Row,
     slot: usize,
     keep: u32,
-) -> u32
+)
     requires { (sound segment_engine (segment_pool s head arena.old table.old index.old)
-        ≡ true) × (named_in table.old named ≡ Named.Slot slot) × (keepable keep named ≡ true) }
-    ensures { handed s (release_outcome head (shortened keep named) result) arena.new table.new
+        ≡ true) × (named_in table.old named ≡ Ok slot) × (keepable keep named ≡ true) }
+    ensures { handed s (release_outcome head (shortened keep named) 0) arena.new table.new
         index.new []
         ≡ acted segment_engine (cut named keep)
         (segment_pool s head arena.old table.old index.old) }
 {
     if keep == named.words {
-        return 0;
+        return;
     }
     segment_check::ranged(arena);
     let at = record_table::first_unit(segment_check::WORDS, named);
@@ -250,10 +257,9 @@ fn cut_back(
     let segments = segment_index::segments_of(s, arena.len());
     segment_cores::trim(arena, index, segments, at, m, k);
     record_table::write_row(table, slot, call_parts::shortened(named, keep));
-    0
 }
 
-// A trim on a sound pool: its number. Its outcome is that of a release of the shortened record.
+// A trim on a sound pool. Its outcome is that of a release of the shortened record.
 pub fn trim(
     head: Head,
     s: u32,
@@ -262,22 +268,19 @@ pub fn trim(
     index: &mut [u32],
     named: Row,
     keep: u32,
-) -> u32
+) -> Result<(), Refusal>
     requires { sound segment_engine (segment_pool s head arena.old table.old index.old) ≡ true }
-    ensures { handed s (release_outcome head (shortened keep named) result) arena.new table.new
+    ensures { handed s (release_outcome head (shortened keep named) (number_in result)) arena.new table.new
         index.new []
         ≡ acted segment_engine (cut named keep)
         (segment_pool s head arena.old table.old index.old) }
 {
-    match call_parts::named_slot(table, named) {
-        Named::Refused(n) => n,
-        Named::Slot(slot) => {
-            if !call_parts::can_keep(named, keep) {
-                return 2;
-            }
-            cut_back(head, s, arena, table, index, named, slot, keep)
-        }
+    let at = call_parts::named_slot(table, named)?;
+    if !call_parts::can_keep(named, keep) {
+        return Err(Refusal::BadSize);
     }
+    cut_back(head, s, arena, table, index, named, at, keep);
+    Ok(())
 }
 
 // ---- list
@@ -289,7 +292,7 @@ fn serve(
     arena: &mut [i32],
     table: &mut [u32],
     index: &mut [u32],
-    request: Request,
+    request: Option<Request>,
 ) -> Outcome
     requires { (sound segment_engine (segment_pool s head arena.old table.old index.old) ≡ true) × (partied (act_of request) ≡ true) }
     ensures { handed s result arena.new table.new index.new []
@@ -297,15 +300,15 @@ fn serve(
         (segment_pool s head arena.old table.old index.old) }
 {
     match request {
-        Request::Ask(party, words) => {
+        Some(Request::Ask { party, words }) => {
             let done = grant(head, s, arena, table, index, party, words);
             outcome_of_grant(head, words, done)
         }
-        Request::Give(named) => {
+        Some(Request::Give(named)) => {
             let done = vacate(head, s, arena, table, index, named);
-            outcome_of_release(head, named, done)
+            outcome_of_release(head, named, number_in(done))
         }
-        Request::Bad => refused_with(head, 9),
+        None => refused_with(head, Refusal::BadRequest.number()),
     }
 }
 
@@ -356,10 +359,8 @@ pub fn serve_all(
         (segment_pool s head arena.old table.old index.old) }
 {
     let mut after = head;
-    let mut i = 0;
-    while i < asked.len() / 4 {
+    for i in 0..asked.len() / 4 {
         after = serve_at(after, s, arena, table, index, party, asked, answers, i);
-        i += 1;
     }
     after
 }

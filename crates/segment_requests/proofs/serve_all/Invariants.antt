@@ -1,6 +1,6 @@
 -- `segment_requests::serve_all` meets its contract: before request i, pool and answers are those of the first i
 -- requests. Assumes nothing.
-use Prim.Native.Nat.{◌-◌, ◌*◌, ◌/◌, ◌≤◌}
+use Prim.Native.Nat.{◌*◌, ◌≤◌}
 use mathlib.Core.Path.{◌≡◌}
 use mathlib.Core.Bool.{true}
 use lib.ListN.{length}
@@ -16,6 +16,3 @@ invariant-loop-i l =
     × (4 * l.i ≤ length l.asked) × (sound segment_engine (segment_pool l.s l.after l.arena l.table l.index) ≡ true)
     × Running segment_engine (segment_pool l.s l.initial.after l.initial.arena l.initial.table l.initial.index) l.party l.asked l.initial.answers l.i
     (segment_pool l.s l.after l.arena l.table l.index) l.answers
-
-abbrev pub decreases-loop-i : goal.decreases-loop-i
-decreases-loop-i l = length l.asked / 4 - l.i

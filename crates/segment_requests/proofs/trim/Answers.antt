@@ -1,34 +1,32 @@
 -- `segment_requests::trim` meets its contract: the rows 6 and 7, then 2, then the cut. Assumes nothing.
-use mathlib.Core.Path.{◌∙◌, sym, refl}
-use Rattle.words.proofs.Tests.{eqb_ne}
+use mathlib.Core.Path.{◌≡◌, ◌∙◌, sym, refl}
+use borrow.Author.Rules.{rules}
+use Rattle.std.specs.Prelude.{Err}
 use Rattle.ledger.specs.Records.{shortened}
-use Rattle.calls.specs.Pool.{Pool}
 use Rattle.calls.specs.Step.{cut}
 use Rattle.calls.specs.Engines.{segment_engine}
+use Rattle.calls.proofs.RefusalLaws.{number_no_zero}
 use Rattle.segment_check.specs.Gate.{segment_pool}
-use Rattle.call_parts.proofs.FindLaws.{named_refused, cut_refused, cut_two}
+use Rattle.call_parts.proofs.FindLaws.{cut_refused, cut_two}
 use Rattle.segment_requests.proofs.RefusedLaws.{named_refusal}
 use Rattle.segment_requests.proofs.trim.Goals as goal
-use Rattle.segment_requests.proofs.trim.Goals.{Start}
 
-abbrev pool : Start → Pool
-pool s =
-    segment_pool s.args.s s.args.head s.args.arena.now s.args.table.now s.args.index.now
+pub returns-in_err-at : goal.returns-in_err-at
+returns-in_err-at c =
+    let a = c.args in
+    let r = a.named in
+    let x = c.in_err-at.field-0.0 in
+    let is : c.from_residual.result ≡ Err x = search rules in
+    rw is
+    (named_refusal a.head a.s a.arena.now a.table.now a.index.now (cut r a.keep) (shortened a.keep r) _ (number_no_zero x)
+    (cut_refused segment_engine (segment_pool a.s a.head a.arena.now a.table.now a.index.now) r a.keep x
+    (sym c.named_slot.ensures ∙ c.in_err-at.was)))
 
 pub returns-then-not-can_keep : goal.returns-then-not-can_keep
 returns-then-not-can_keep c =
-    let r = c.args.named in
-    let e = sym c.named_slot.ensures ∙ c.in-Slot.is in
-    named_refusal c.args.head c.args.s c.args.arena.now c.args.table.now c.args.index.now
-    (cut r c.args.keep) (shortened c.args.keep r) 2 refl
-    (cut_two segment_engine (pool (goal.at.returns-then-not-can_keep c).Start) r c.args.keep _ e
+    let a = c.args in
+    let r = a.named in
+    let e = sym c.named_slot.ensures ∙ c.in_ok-at.was in
+    named_refusal a.head a.s a.arena.now a.table.now a.index.now (cut r a.keep) (shortened a.keep r) 2 refl
+    (cut_two segment_engine (segment_pool a.s a.head a.arena.now a.table.now a.index.now) r a.keep _ e
     (sym c.can_keep.ensures ∙ c.if-not-can_keep.true))
-
-pub returns-in-Refused : goal.returns-in-Refused
-returns-in-Refused c =
-    let r = c.args.named in
-    let e = sym c.named_slot.ensures ∙ c.in-Refused.is in
-    let x = c.in-Refused.n in
-    named_refusal c.args.head c.args.s c.args.arena.now c.args.table.now c.args.index.now
-    (cut r c.args.keep) (shortened c.args.keep r) x (eqb_ne x 0 (named_refused c.args.table.now r x e))
-    (cut_refused segment_engine (pool (goal.at.returns-in-Refused c).Start) r c.args.keep x e)

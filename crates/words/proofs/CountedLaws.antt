@@ -1,6 +1,6 @@
 -- Laws of tests of consecutive numbers, and of the loops that decide them by counting up. Assumes nothing.
 use Prim.Native.Nat.{ℕ, zero, suc, ◌+◌, ◌-◌, ◌≤◌, ◌<◌}
-use native.Mathlib.Nat.{sub-zero, add-zero, zero-add, add-suc, suc-add}
+use native.Mathlib.Nat.{sub-zero}
 use native.Mathlib.Numerals.{add-one}
 use native.Mathlib.Omega.{arith}
 use native.Mathlib.Decide.{ℕ_discrete}
@@ -40,36 +40,11 @@ every_fails f k (suc n) e = go (f k) refl e (every_fails f (suc k) n)
 pub every_breaks : (f : ℕ → Bool) (k n u : ℕ) → k ≤ u → u < k + n → f u ≡ false → every f k n ≡ false
 every_breaks f k n u a b c = false_of (every f k n) (λ e. true≢false (sym (every_at f k n e u a b) ∙ c))
 
-every_add : (p : ℕ → Bool) (i m n : ℕ) → every p i (m + n) ≡ (every p i m && every p (i + m) n)
-every_add p i zero n = rw (zero-add, add-zero)
-every_add p i (suc m) n =
-    rw (suc-add, add-suc, ← suc-add)
-    (ap (λ b. p i && b) (every_add p (suc i) m n) ∙ sym (and_assoc (p i) (every p (suc i) m) (every p (suc i + m) n)))
-
-every_split : (p : ℕ → Bool) (n i e : ℕ) → i ≤ e → e ≤ n → every p i (n - i) ≡ (every p i (e - i) && every p e (n - e))
-every_split p n i e h k =
-    let a : n - i ≡ (e - i) + (n - e) = omega arith in
-    let b : i + (e - i) ≡ e = omega arith in
-    ap (every p i) a ∙ every_add p i (e - i) (n - e) ∙ ap (λ j. every p i (e - i) && every p j (n - e)) b
-
 every_none : (p : ℕ → Bool) (n i : ℕ) → n ≤ i → every p i (n - i) ≡ true
 every_none p n i h = let z : n - i ≡ 0 = omega arith in rw z
 
 every_more : (p : ℕ → Bool) (n i : ℕ) → i < n → every p i (n - i) ≡ (p i && every p (i + 1) (n - (i + 1)))
 every_more p n i h = let z : n - i ≡ suc (n - (i + 1)) = omega arith in rw (z, add-one)
-
--- r is the whole answer, and the loop has come to i with nothing decided
-module _ (r : Bool) (p : ℕ → Bool) (n i : ℕ) (inv : r ≡ every p i (n - i)) where
-  -- a turn that decides the numbers from i up to e at once
-  module _ (e : ℕ) (block : Bool) (low : i ≤ e) (high : e ≤ n) (is : block ≡ every p i (e - i)) where
-    parts : r ≡ (block && every p e (n - e))
-    parts = inv ∙ every_split p n i e low high ∙ ap (λ b. b && every p e (n - e)) (sym is)
-
-    pub every_skip : block ≡ true → r ≡ every p e (n - e)
-    every_skip t = parts ∙ ap (λ b. b && every p e (n - e)) t
-
-    pub every_stop : block ≡ false → false ≡ r
-    every_stop t = sym (parts ∙ ap (λ b. b && every p e (n - e)) t)
 
 -- ---- a flag that each turn may clear: whole is the answer, and ok what the turns before i found
 
@@ -156,34 +131,3 @@ lowest_is p i (suc n) k l = go (lowest_is p (suc i) n k) (ℕ_discrete k i)
           below = omega arith;
           least = λ j a b. l.least j (omega arith) b;
         })
-
-lowest_more : (p : ℕ → Bool) (n i : ℕ) → i < n → lowest p i (n - i) ≡ choose i (lowest p (i + 1) (n - (i + 1))) (p i)
-lowest_more p n i h =
-    let z : n - i ≡ suc (n - (i + 1)) = omega arith in
-    ap (lowest p i) z ∙ ap (λ j. choose i (lowest p j (n - (i + 1))) (p i)) (sym (add-one i))
-
--- d numbers that do not pass
-lowest_past : (p : ℕ → Bool) (i n d : ℕ) → ((j : ℕ) → i ≤ j → j < i + d → p j ≡ false)
-    → lowest p i (d + n) ≡ lowest p (i + d) n
-lowest_past p i n zero off = let z : i + 0 ≡ i = omega arith in rw (z, zero-add)
-lowest_past p i n (suc d) off =
-    let up : suc d + n ≡ suc (d + n) = omega arith in
-    let on : suc i + d ≡ i + suc d = omega arith in
-    ap (lowest p i) up
-    ∙ ap (choose i (lowest p (suc i) (d + n))) (off i (omega arith) (omega arith))
-    ∙ lowest_past p (suc i) n d (λ j a b. off j (omega arith) (omega arith))
-    ∙ ap (λ k. lowest p k n) on
-
-module _ (r : Option ℕ) (p : ℕ → Bool) (n i : ℕ) (inv : r ≡ lowest p i (n - i)) where
-  pub lowest_skip : (e : ℕ) → i ≤ e → e ≤ n → ((j : ℕ) → i ≤ j → j < e → p j ≡ false) → r ≡ lowest p e (n - e)
-  lowest_skip e h l off =
-      let all : n - i ≡ e - i + (n - e) = omega arith in
-      let at : i + (e - i) ≡ e = omega arith in
-      inv ∙ ap (lowest p i) all ∙ lowest_past p i (n - e) (e - i) (λ j a b. off j a (omega arith))
-      ∙ ap (λ k. lowest p k (n - e)) at
-
-  pub lowest_end : n ≤ i → none ≡ r
-  lowest_end h = let z : n - i ≡ 0 = omega arith in sym (inv ∙ rw z)
-
-  pub lowest_here : i < n → p i ≡ true → some i ≡ r
-  lowest_here h e = sym (inv ∙ lowest_more p n i h ∙ ap (choose i (lowest p (i + 1) (n - (i + 1)))) e)

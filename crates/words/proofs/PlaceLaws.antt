@@ -1,20 +1,19 @@
 -- Laws of memory that is set by its places: `stamp` and `wiped`. Assumes nothing.
 use Prim.Native.Nat.{ℕ, zero, suc, ◌+◌, ◌-◌, ◌≤◌, ◌<◌}
-use native.Mathlib.Nat.{sub-zero, add-zero, zero-add, add-suc, suc-add, not-suc-le-zero, le_of_suc-le-suc}
-use native.Mathlib.Decide.{ℕ_discrete, dec_le}
+use native.Mathlib.Nat.{add-zero, zero-add, add-suc, suc-add, not-suc-le-zero, le_of_suc-le-suc}
+use native.Mathlib.Decide.{dec_le}
 use native.Mathlib.Omega.{arith}
 use mathlib.Core.Path.{◌≡◌, refl, sym, ap, ap₂, ◌∙◌}
-use mathlib.Core.Logic.{◌≢◌}
-use mathlib.Core.Bool.{Bool, true, false, cond, not, true≢false}
-use mathlib.Core.List.{List, [], ◌∷◌, ◌++◌, map, append-nil, append_assoc}
+use mathlib.Core.Bool.{Bool, true, false, cond, not}
+use mathlib.Core.List.{List, [], ◌∷◌, ◌++◌, map, append_assoc}
 use borrow.Rule.Slice.PartMut.{mid_of, put_mid, mid_len}
-use lib.ListN.{length, get_or, set, take, drop, replicate}
-use lib.ListN.{length-append, length-set, length-drop, length-replicate, get_or-replicate, get_or-append}
-use lib.Seq.{drop-length, drop-drop, length-take-le, ext_get_or}
-use lib.Seq.{get_or-append-add, get_or-set_same, get_or-set_other, get_or-take, get_or-drop}
+use lib.ListN.{length, get_or, take, drop, replicate}
+use lib.ListN.{length-append, length-drop, length-replicate, get_or-replicate, get_or-append}
+use lib.Seq.{drop-drop, length-take-le, ext_get_or}
+use lib.Seq.{get_or-append-add, get_or-take, get_or-drop}
 use Rattle.words.specs.Counted.{within, outside}
 use Rattle.words.specs.Places.{stamp_from, stamp, constant, wiped}
-use Rattle.words.proofs.Tests.{bool_iff, not_false, not_true, within_in, within_low, within_high, within_of}
+use Rattle.words.proofs.Tests.{within_in, within_low, within_high}
 
 module _ {A : Type 0} where
   cons_same : {x y : A} {a b : List A} → x ≡ y → a ≡ b → x ∷ a ≡ y ∷ b
@@ -150,55 +149,12 @@ module _ {A : Type 0} where
           ∙ sym (ap (λ j. get_or (front ++ drop hi a) j z) (sym q) ∙ get_or-append-add front (drop hi a) (k - hi) z
           ∙ get_or-drop hi a (k - hi) z ∙ ap (λ j. get_or a j z) r)
 
-  pub wiped_all : (z : A) (a : List A) → wiped z 0 (length a) a ≡ replicate (length a) z
-  wiped_all z a = wiped_part z 0 (length a) a (omega arith) (omega arith) ∙ rw (sub-zero, drop-length, append-nil)
-
   -- what a write of one value to a part leaves
   pub wiped_put : (z : A) (lo hi : ℕ) (a b : List A) → lo ≤ hi → hi ≤ length a
       → b ≡ replicate (length (mid_of lo (hi - lo) a)) z → put_mid lo (hi - lo) a b ≡ wiped z lo hi a
   wiped_put z lo hi a b h l e =
       let n : lo + (hi - lo) ≡ hi = omega arith in
       rw (e, mid_len lo hi a l, drop-drop (hi - lo) lo a, n, ← append_assoc) (sym (wiped_part z lo hi a h l))
-
-  -- ---- a part that a loop wipes from its front: nothing yet, one element more, and the whole part
-
-  pub wipe_start : (z : A) (lo : ℕ) (a : List A) → a ≡ wiped z lo lo a
-  unfolding wiped
-  wipe_start z lo a = sym (stamp_none (outside lo lo) (constant z) a (λ k l. go k (dec_le lo k)))
-    where
-      go : (k : ℕ) → Dec (lo ≤ k) → outside lo lo k ≡ true
-      go k (yes h) = ap not (within_high lo lo k h)
-      go k (no h) = ap not (within_low lo lo k (omega arith))
-
-  pub wipe_next : (z : A) (lo i : ℕ) (a b : List A) → lo ≤ i → b ≡ wiped z lo i a → set b i z ≡ wiped z lo (i + 1) a
-  unfolding wiped
-  wipe_next z lo i a b h e =
-      stamp_is (outside lo (i + 1)) (constant z) a (set b i z) z (length-set b i z ∙ long)
-      (λ k m q. stays k (not_true (within lo (i + 1) k) q) (ℕ_discrete k i))
-      (λ k m q. sets k m (within_of lo (i + 1) k (not_false (within lo (i + 1) k) q)) (ℕ_discrete k i))
-    where
-      long : length b ≡ length a
-      long = ap length e ∙ length_wiped z lo i a
-
-      one_less : (k : ℕ) → k ≢ i → within lo (i + 1) k ≡ within lo i k
-      one_less k n =
-          bool_iff (within lo (i + 1) k) (within lo i k)
-          (λ q. let w = within_of lo (i + 1) k q in within_in lo i k w.0 (omega arith))
-          (λ q. let w = within_of lo i k q in within_in lo (i + 1) k w.0 (omega arith))
-
-      other : (k : ℕ) → k ≢ i → get_or (set b i z) k z ≡ get_or (wiped z lo i a) k z
-      other k n = get_or-set_other b i k z z n ∙ ap (λ s. get_or s k z) e
-
-      stays : (k : ℕ) → within lo (i + 1) k ≡ false → Dec (k ≡ i) → get_or (set b i z) k z ≡ get_or a k z
-      stays k q (yes x) = absurd (true≢false (sym (within_in lo (i + 1) k (omega arith) (omega arith)) ∙ q))
-      stays k q (no x) = other k x ∙ wiped_out z lo i a k z (sym (one_less k x) ∙ q)
-
-      sets : (k : ℕ) → k < length a → (lo ≤ k) × (k < i + 1) → Dec (k ≡ i) → get_or (set b i z) k z ≡ z
-      sets k m w (yes x) = rw x (get_or-set_same b i z z (rw long (rw x at m)))
-      sets k m w (no x) = other k x ∙ wiped_in z lo i a k z w.0 (omega arith) m
-
-  pub wipe_end : (z : A) (lo hi i : ℕ) (a b : List A) → b ≡ wiped z lo i a → i ≤ hi → hi ≤ i → b ≡ wiped z lo hi a
-  wipe_end z lo hi i a b e h k = let q : i ≡ hi = omega arith in e ∙ ap (λ m. wiped z lo m a) q
 
 module _ {A B : Type 0} (g : A → B) where
   map_stamp_from : (o : ℕ → Bool) (v : ℕ → A) (i : ℕ) (a : List A)

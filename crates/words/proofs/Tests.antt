@@ -1,19 +1,19 @@
--- Laws of tests: what a Bool says, and what a comparison of numbers says. Assumes nothing.
+-- Laws of tests: what a Bool says, and what a comparison of numbers says, std's by shorter names. Assumes nothing.
 use Prim.Native.Nat.{ℕ, ◌≤◌, ◌<◌}
 use native.Mathlib.Decide.{ℕ_discrete}
 use native.Mathlib.Omega.{arith}
 use mathlib.Core.Path.{◌≡◌, refl, sym, ap, ◌∙◌}
-use mathlib.Core.Logic.{◌≢◌}
-use mathlib.Core.Bool.{Bool, true, false, not, ◌&&◌, ◌||◌, false≢true, true≢false, and-false, or-true}
+use mathlib.Core.Bool.{Bool, true, false, ◌&&◌, ◌||◌, false≢true, true≢false, and-false, or-true}
 use mathlib.Core.Option.{none, some}
 use lib.Bits.{bit_or, or_zero_l, or_add_and, and_le_r}
 use lib.Dec.{eqb, leb, ltb}
-use borrow.Author.Tests as author
+use borrow.Author.Tests.{eq-eqb}
 use Rattle.words.specs.Counted.{within}
-
-pub false_of : (b : Bool) → (b ≡ true → ⊥) → b ≡ false
-false_of true h = absurd (h refl)
-false_of false h = refl
+pub use Rattle.std.proofs.lemmas.Bool.{false_from_ne_true as false_of, and_from as and_i, not_from_false as of_not}
+pub use borrow.Author.Tests.{not-true as not_true, not-false as not_false}
+pub use borrow.Author.Tests.{eqb-true as eqb_eq, eqb-false as eqb_false, ne_eqb as eqb_ne}
+pub use borrow.Author.Tests.{leb-true as le_of, leb-false as not_le, le-leb as of_le, lt-leb as of_gt}
+pub use borrow.Author.Tests.{ltb-true as lt_of, ltb-false as not_lt, lt-ltb as of_lt, le-ltb as of_ge}
 
 pub bool_iff : (a b : Bool) → (a ≡ true → b ≡ true) → (b ≡ true → a ≡ true) → a ≡ b
 bool_iff true b f g = sym (f refl)
@@ -30,9 +30,6 @@ pub and_r : (a b : Bool) → (a && b) ≡ true → b ≡ true
 and_r true b e = e
 and_r false b e = absurd (false≢true e)
 
-pub and_i : (a b : Bool) → a ≡ true → b ≡ true → (a && b) ≡ true
-and_i a b p q = rw (p, q)
-
 pub or_l : (a b : Bool) → (a || b) ≡ false → a ≡ false
 or_l true b e = e
 or_l false b e = refl
@@ -48,52 +45,10 @@ or_map false b c d f g h = rw (g h) (or-true c)
 pub and_map : (a b c d : Bool) → (a ≡ true → c ≡ true) → (b ≡ true → d ≡ true) → (a && b) ≡ true → (c && d) ≡ true
 and_map a b c d f g h = and_i c d (f (and_l a b h)) (g (and_r a b h))
 
-pub not_true : (a : Bool) → not a ≡ true → a ≡ false
-not_true a e = author.not-true a e
-
-pub not_false : (a : Bool) → not a ≡ false → a ≡ true
-not_false a e = author.not-false a e
-
-pub of_not : (a : Bool) → a ≡ false → not a ≡ true
-of_not a e = rw e
-
 -- ---- numbers
 
-pub eqb_eq : (m n : ℕ) → eqb m n ≡ true → m ≡ n
-eqb_eq m n e = author.eqb-true m n e
-
 pub eqb_same : (n : ℕ) → eqb n n ≡ true
-eqb_same n = author.eq-eqb n n refl
-
-pub eqb_ne : (m n : ℕ) → m ≢ n → eqb m n ≡ false
-eqb_ne m n h = author.ne_eqb m n h
-
-pub eqb_false : (m n : ℕ) → eqb m n ≡ false → m ≢ n
-eqb_false m n e = author.eqb-false m n e
-
-pub le_of : (m n : ℕ) → leb m n ≡ true → m ≤ n
-le_of m n e = author.leb-true m n e
-
-pub of_le : (m n : ℕ) → m ≤ n → leb m n ≡ true
-of_le m n h = author.le-leb m n h
-
-pub lt_of : (m n : ℕ) → ltb m n ≡ true → m < n
-lt_of m n e = author.ltb-true m n e
-
-pub of_lt : (m n : ℕ) → m < n → ltb m n ≡ true
-of_lt m n h = author.lt-ltb m n h
-
-pub not_le : (m n : ℕ) → leb m n ≡ false → n < m
-not_le m n e = author.leb-false m n e
-
-pub not_lt : (m n : ℕ) → ltb m n ≡ false → n ≤ m
-not_lt m n e = author.ltb-false m n e
-
-pub of_gt : (m n : ℕ) → n < m → leb m n ≡ false
-of_gt m n h = author.lt-leb m n h
-
-pub of_ge : (m n : ℕ) → n ≤ m → ltb m n ≡ false
-of_ge m n h = author.le-ltb m n h
+eqb_same n = eq-eqb n n refl
 
 -- two numbers have no bit between them if both are 0
 pub or_none : (a b : ℕ) → eqb (bit_or a b) 0 ≡ (eqb a 0 && eqb b 0)

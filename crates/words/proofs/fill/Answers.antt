@@ -1,18 +1,13 @@
-use lib.ListN.{length}
+use lib.ListN.{length, replicate, length-replicate, get_or-replicate}
+use lib.Seq.{ext_get_or}
 use native.Mathlib.Omega.{arith}
-use mathlib.Core.Path.{◌≡◌, ◌∙◌, ap}
-use borrow.Author.Rules.{rules}
-use Rattle.words.specs.Places.{wiped}
-use Rattle.words.proofs.PlaceLaws.{wipe_start, wipe_next, wiped_all}
+use mathlib.Core.Path.{sym, ◌∙◌}
 use Rattle.words.proofs.fill.Goals as goal
-
-pub loop-y-init : goal.loop-y-init
-loop-y-init g c = search (rules, wipe_start)
-
-pub loop-y-preserved : goal.loop-y-preserved
-loop-y-preserved g c = search (rules, wipe_next)
 
 pub returns : goal.returns
 returns g c =
-    let full : c.loop-y.y-index ≡ length c.args.s.now = omega arith in
-    c.loop-y.invariant ∙ ap (λ n. wiped c.args.x 0 n c.args.s.now) full ∙ wiped_all c.args.x c.args.s.now
+    let n = length c.args.s.now in
+    let x = c.args.x in
+    let s = c.loop-y in
+    ext_get_or x s.s (replicate n x) (s.auto.s ∙ sym (length-replicate n x))
+    (λ k h. s.invariant k (omega arith) ∙ sym (get_or-replicate n k x x (omega arith)))

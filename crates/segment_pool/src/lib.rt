@@ -6,17 +6,37 @@
 #![tactic(auto)]
 
 ghost use Rattle.std.specs.Prelude.{◌≡◌, [], ◌∷◌};
-ghost use Rattle.calls.specs.Step.{format, release, find, look, trim, list, step};
+ghost use Rattle.calls.specs.Step.{format, release, find, look, trim, list, pool_number, step};
 ghost use Rattle.calls.specs.Engines.{segment_engine};
+ghost use Rattle.calls.specs.Refusals.{number_in};
+ghost use Rattle.call_parts.specs.Parts.{with_party};
 ghost use Rattle.call_parts.specs.Results.{result_of, whole_slice, slice_of};
 ghost use Rattle.segment_check.specs.Gate.{as_words, segment_pool, no_head};
 ghost use Rattle.segment_requests.specs.Outcomes.{handed, outcome_of, allocated};
 
-use call_parts::Named;
-use calls::Answer;
+use calls::{Answer, Refusal};
 use ledger::Row;
 use segment_check::Head;
 use segment_requests::{Allocation, Outcome};
+
+// ---- the gate
+
+// The tests before a call of this party: the pool's own, then 12.
+fn gate_for(
+    s: u32,
+    head: Head,
+    arena: &[i32],
+    table: &[u32],
+    index: &[u32],
+    party: u32,
+) -> Result<(), Refusal>
+    ensures { number_in result
+        ≡ with_party
+        (pool_number segment_engine (segment_pool s head arena.now table.now index.now)) party }
+{
+    segment_check::gate(s, head, &*arena, &*table, &*index)?;
+    call_parts::party_test(party)
+}
 
 // ---- find and look
 
@@ -26,14 +46,12 @@ pub fn find(head: Head, s: u32, arena: &[i32], table: &[u32], index: &[u32], nam
         ≡ (step segment_engine (find named)
         (segment_pool s head arena.now table.now index.now)).answer }
 {
-    let gate = segment_check::gate_number(s, head, &*arena, &*table, &*index);
-    let number = call_parts::with_party(gate, named.party);
-    if number != 0 {
-        return call_parts::refused(number);
+    if let Err(refusal) = gate_for(s, head, &*arena, &*table, &*index, named.party) {
+        return Answer::from(refusal);
     }
     match call_parts::named_slot(table, named) {
-        Named::Slot(_) => call_parts::succeeded(named),
-        Named::Refused(n) => call_parts::refused(n),
+        Ok(_) => call_parts::succeeded(named),
+        Err(refusal) => Answer::from(refusal),
     }
 }
 
@@ -78,11 +96,10 @@ pub fn format(
         (segment_pool s no_head arena.old table.old index.old)) }
 {
     let right = segment_check::right_lengths(s, &*arena, &*table, &*index);
-    let number = call_parts::format_number(true, right, first);
-    if number != 0 {
+    if let Err(refusal) = call_parts::format_test(true, right, first) {
         return Outcome {
             head: Head { next: 0 },
-            answer: call_parts::refused(number),
+            answer: Answer::from(refusal),
         };
     }
     let segments = segment_index::segments_of(s, arena.len());
@@ -99,11 +116,9 @@ pub fn format(
 fn with_places(done: Outcome, places: u32) -> Allocation
     ensures { (outcome_of result ≡ done) × (result.places ≡ places) }
 {
-    let head = done.head;
-    let answer = done.answer;
     Allocation {
-        head,
-        answer,
+        head: done.head,
+        answer: done.answer,
         places,
     }
 }
@@ -123,10 +138,8 @@ pub fn allocate(
         ≡ allocated (segment_pool s head arena.old table.old index.old)
         party words }
 {
-    let gate = segment_check::gate_number(s, head, &*arena, &*table, &*index);
-    let number = call_parts::with_party(gate, party);
-    if number != 0 {
-        let refused = segment_requests::refused_with(head, number);
+    if let Err(refusal) = gate_for(s, head, &*arena, &*table, &*index, party) {
+        let refused = segment_requests::refused_with(head, refusal.number());
         return with_places(refused, 0);
     }
     let done = segment_requests::grant(head, s, arena, table, index, party, words);
@@ -148,13 +161,11 @@ pub fn release(
         ≡ result_of (step segment_engine (release named)
         (segment_pool s head arena.old table.old index.old)) }
 {
-    let gate = segment_check::gate_number(s, head, &*arena, &*table, &*index);
-    let number = call_parts::with_party(gate, named.party);
-    if number != 0 {
-        return segment_requests::refused_with(head, number);
+    if let Err(refusal) = gate_for(s, head, &*arena, &*table, &*index, named.party) {
+        return segment_requests::refused_with(head, refusal.number());
     }
     let done = segment_requests::vacate(head, s, arena, table, index, named);
-    segment_requests::outcome_of_release(head, named, done)
+    segment_requests::outcome_of_release(head, named, segment_requests::number_in(done))
 }
 
 // Keeps the first words of the block that is named as for a release, and frees the units beyond their rounding; free
@@ -172,14 +183,12 @@ pub fn trim(
         ≡ result_of (step segment_engine (trim named keep)
         (segment_pool s head arena.old table.old index.old)) }
 {
-    let gate = segment_check::gate_number(s, head, &*arena, &*table, &*index);
-    let number = call_parts::with_party(gate, named.party);
-    if number != 0 {
-        return segment_requests::refused_with(head, number);
+    if let Err(refusal) = gate_for(s, head, &*arena, &*table, &*index, named.party) {
+        return segment_requests::refused_with(head, refusal.number());
     }
     let done = segment_requests::trim(head, s, arena, table, index, named, keep);
     let kept = call_parts::shortened(named, keep);
-    segment_requests::outcome_of_release(head, kept, done)
+    segment_requests::outcome_of_release(head, kept, segment_requests::number_in(done))
 }
 
 // ---- list
@@ -201,12 +210,10 @@ pub fn list(
         (segment_pool s head arena.old table.old index.old)) }
 {
     if !call_parts::list_suits(asked, answers) {
-        return segment_requests::refused_with(head, 8);
+        return segment_requests::refused_with(head, Refusal::BadLengths.number());
     }
-    let gate = segment_check::gate_number(s, head, &*arena, &*table, &*index);
-    let number = call_parts::with_party(gate, party);
-    if number != 0 {
-        return segment_requests::refused_with(head, number);
+    if let Err(refusal) = gate_for(s, head, &*arena, &*table, &*index, party) {
+        return segment_requests::refused_with(head, refusal.number());
     }
     let after = segment_requests::serve_all(head, s, arena, table, index, party, asked, answers);
     Outcome {

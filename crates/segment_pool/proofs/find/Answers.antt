@@ -2,34 +2,34 @@
 use mathlib.Core.Path.{◌∙◌, sym, ap, refl}
 use Rattle.calls.specs.Step.{Outcome, find}
 use Rattle.calls.specs.Engines.{segment_engine}
-use Rattle.call_parts.proofs.ResultLaws.{stopped_step, gate_passed}
 use Rattle.call_parts.proofs.FindLaws.{find_slot, find_refused}
 use Rattle.segment_check.specs.Gate.{segment_pool}
+use Rattle.segment_pool.proofs.GateLaws.{stopped, passed}
 use Rattle.segment_pool.proofs.find.Goals as goal
 
-pub returns-then-number-ne0 : goal.returns-then-number-ne0
-returns-then-number-ne0 c =
-    let p = segment_pool c.args.s c.args.head c.args.arena.now c.args.table.now
-    c.args.index.now in
-    c.refused.ensures
+pub returns-in-Err : goal.returns-in-Err
+returns-in-Err c =
+    let a = c.args in
+    c.from.ensures
     ∙ sym (ap (λ (o : Outcome). o.answer)
-    (stopped_step segment_engine p c.gate_number-gate.result c.args.named.party c.with_party-number.result
-    c.gate_number-gate.ensures c.with_party-number.ensures c.if-number-ne0.true (find c.args.named) refl refl refl))
+    (stopped a.s a.head a.arena.now a.table.now a.index.now a.named.party c.gate_for.result c.gate_for.ensures
+    c.in-Err.refusal c.in-Err.is (find a.named) refl refl refl))
 
-pub returns-in-Slot : goal.returns-in-Slot
-returns-in-Slot c =
-    let p = segment_pool c.args.s c.args.head c.args.arena.now c.args.table.now
-    c.args.index.now in
-    let (ok, party) = gate_passed segment_engine p c.gate_number-gate.result c.args.named.party
-    c.with_party-number.result c.gate_number-gate.ensures c.with_party-number.ensures c.if-number-ne0.false in
-    c.succeeded.ensures ∙ sym (find_slot segment_engine p c.args.named ok party c.in-Slot.field-0
-    (sym c.named_slot.ensures ∙ c.in-Slot.is))
+pub returns-in-Ok : goal.returns-in-Ok
+returns-in-Ok c =
+    let a = c.args in
+    let p = segment_pool a.s a.head a.arena.now a.table.now a.index.now in
+    let (ok, party) = passed a.s a.head a.arena.now a.table.now a.index.now a.named.party c.gate_for.result
+    c.gate_for.ensures _ c.in_default.is in
+    c.succeeded.ensures
+    ∙ sym (find_slot segment_engine p a.named ok party c.in-Ok.field-0 (sym c.named_slot.ensures ∙ c.in-Ok.is))
 
-pub returns-in-Refused : goal.returns-in-Refused
-returns-in-Refused c =
-    let p = segment_pool c.args.s c.args.head c.args.arena.now c.args.table.now
-    c.args.index.now in
-    let (ok, party) = gate_passed segment_engine p c.gate_number-gate.result c.args.named.party
-    c.with_party-number.result c.gate_number-gate.ensures c.with_party-number.ensures c.if-number-ne0.false in
-    c.refused-in-Refused.ensures ∙ sym (find_refused segment_engine p c.args.named ok party c.in-Refused.n
-    (sym c.named_slot.ensures ∙ c.in-Refused.is))
+pub returns-in-Err-named_slot : goal.returns-in-Err-named_slot
+returns-in-Err-named_slot c =
+    let a = c.args in
+    let p = segment_pool a.s a.head a.arena.now a.table.now a.index.now in
+    let (ok, party) = passed a.s a.head a.arena.now a.table.now a.index.now a.named.party c.gate_for.result
+    c.gate_for.ensures _ c.in_default.is in
+    c.from-in-Err-named_slot.ensures
+    ∙ sym (find_refused segment_engine p a.named ok party c.in-Err-named_slot.refusal
+    (sym c.named_slot.ensures ∙ c.in-Err-named_slot.is))

@@ -1,39 +1,35 @@
 -- `segment_pool::release` meets its contract: the gate, then one act, and the outcome of its effect. Assumes nothing.
 use mathlib.Core.Path.{refl, ap, ◌∙◌}
 use mathlib.Core.List.{[]}
-use Rattle.calls.specs.Pool.{Pool}
 use Rattle.calls.specs.Engines.{segment_engine}
-use Rattle.segment_check.specs.Gate.{segment_pool}
-use Rattle.segment_requests.specs.Outcomes.{handed}
 use Rattle.calls.specs.Step.{release, give}
-use Rattle.call_parts.proofs.ResultLaws.{gate_result, gate_passed, single_result}
+use Rattle.call_parts.proofs.ResultLaws.{single_result}
+use Rattle.segment_check.specs.Gate.{segment_pool}
 use Rattle.segment_requests.specs.declared.Outcome.{Outcome}
+use Rattle.segment_requests.specs.Outcomes.{handed, release_outcome}
+use Rattle.segment_pool.proofs.GateLaws.{stopped_result, passed}
 use Rattle.segment_pool.proofs.release.Goals as goal
-use Rattle.segment_pool.proofs.release.Goals.{Start}
 
-abbrev pool : Start → Pool
-pool s =
-    segment_pool s.args.s s.args.head s.args.arena.now s.args.table.now s.args.index.now
-
-pub returns-then-number-ne0 : goal.returns-then-number-ne0
-returns-then-number-ne0 c =
-    ap (λ (o : Outcome). handed c.args.s o c.args.arena.now c.args.table.now c.args.index.now [])
-    c.refused_with.ensures
-    ∙ gate_result segment_engine (pool (goal.at.returns-then-number-ne0 c).Start) c.gate_number-gate.result c.args.named.party c.with_party-number.result
-    c.gate_number-gate.ensures c.with_party-number.ensures c.if-number-ne0.true (release c.args.named) refl refl refl
+pub returns-in-Err : goal.returns-in-Err
+returns-in-Err c =
+    let a = c.args in
+    stopped_result a.s a.head a.arena.now a.table.now a.index.now a.named.party c.gate_for.result c.gate_for.ensures
+    c.in-Err.refusal c.in-Err.is _ _ c.refused_with.ensures c.number.ensures (release a.named) refl refl refl
 
 pub vacate-done-requires : goal.vacate-done-requires
 vacate-done-requires c =
-    (gate_passed segment_engine (pool (goal.at.vacate-done-requires c).Start) c.gate_number-gate.result c.args.named.party c.with_party-number.result
-    c.gate_number-gate.ensures c.with_party-number.ensures c.if-number-ne0.false).0
+    let a = c.args in
+    (passed a.s a.head a.arena.now a.table.now a.index.now a.named.party c.gate_for.result c.gate_for.ensures _
+    c.in_default.is).0
 
 pub returns : goal.returns
 returns c =
-    let b = c.vacate-done.new.arena in
-    let u = c.vacate-done.new.table in
-    let x = c.vacate-done.new.index in
-    let (ok, party) = gate_passed segment_engine (pool (goal.at.returns c).Start) c.gate_number-gate.result c.args.named.party
-    c.with_party-number.result c.gate_number-gate.ensures c.with_party-number.ensures
-    c.if-number-ne0.false in
-    ap (λ (y : Outcome). handed c.args.s y b u x []) c.outcome_of_release.ensures ∙ c.vacate-done.ensures
-    ∙ single_result segment_engine (give c.args.named) (pool (goal.at.returns c).Start) ok party
+    let a = c.args in
+    let new = c.vacate-done.new in
+    let p = segment_pool a.s a.head a.arena.now a.table.now a.index.now in
+    let (ok, party) = passed a.s a.head a.arena.now a.table.now a.index.now a.named.party c.gate_for.result
+    c.gate_for.ensures _ c.in_default.is in
+    ap (λ (y : Outcome). handed a.s y new.arena new.table new.index [])
+    (c.outcome_of_release.ensures ∙ ap (release_outcome a.head a.named) c.number_in.ensures)
+    ∙ c.vacate-done.ensures
+    ∙ single_result segment_engine (give a.named) p ok party

@@ -168,14 +168,13 @@ pub fn map_rows(
     let first = record_table::first_live(table);
     let rule = rule_of(form);
     let per = cells_per_unit(form);
-    let m = seen.len();
     let mut held: usize = 0;
     for i in first..count {
         let r = record_table::read_row(table, i);
         if record_table::is_empty(r) {
             continue;
         }
-        if !record_table::may_enter(rule, words, next, table, i, r, &mut *seen, m) {
+        if !record_table::may_enter(rule, words, next, table, i, r, &mut *seen) {
             return None;
         }
         let n = record_table::span_of(rule, r.words);

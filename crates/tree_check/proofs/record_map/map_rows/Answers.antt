@@ -128,7 +128,7 @@ loop-i-preserved c =
     c.note_row.ensures in
     map_next unit per units map c.may_enter.new.seen l.invariant
     (omega (arith, c.loop-i-test.true, c.slot_count-count.ensures)) (omega arith) joins residues
-    c.note_row.auto.map grown
+    c.may_enter.auto.seen c.note_row.auto.map grown
 
 pub returns-clause-mapped : goal.returns-clause-mapped
 returns-clause-mapped c =

@@ -3,4 +3,4 @@ use Rattle.tree_check.proofs.MapLaws.{Mapping}
 use Rattle.tree_check.proofs.record_map.map_rows.Given as goal
 
 abbrev pub invariant-loop-i : goal.invariant-loop-i
-invariant-loop-i l = Mapping l.rule l.per l.words l.next l.table l.m l.map l.seen l.held l.i
+invariant-loop-i l = Mapping l.rule l.per l.words l.next l.table l.map l.seen l.held l.i

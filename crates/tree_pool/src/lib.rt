@@ -3,6 +3,7 @@
 #![tactic(auto)]
 
 ghost use Rattle.std.specs.Prelude.{◌≡◌, [], ◌∷◌};
+ghost use Rattle.calls.specs.Refusals.{number_in};
 ghost use Rattle.calls.specs.Step.{format, allocate, release, find, look, trim, list, pool_number, step};
 ghost use Rattle.calls.specs.Engines.{tree_engine};
 ghost use Rattle.call_parts.specs.Parts.{with_party};
@@ -10,8 +11,7 @@ ghost use Rattle.call_parts.specs.Results.{result_of, whole_slice, slice_of};
 ghost use Rattle.tree_check.specs.Gate.{tree_pool, no_head};
 ghost use Rattle.tree_requests.specs.Outcomes.{handed, formatted};
 
-use call_parts::Named;
-use calls::Answer;
+use calls::{Answer, Refusal};
 use ledger::Row;
 use tree_check::Head;
 use tree_nodes::forms::{cell_count, is_form};
@@ -19,13 +19,13 @@ use tree_requests::Outcome;
 
 // ---- the gate
 
-// The number that stops a call of this party: the pool's own, then 12; 0 lets it pass.
-fn gate_for(head: Head, arena: &[u32], table: &[u32], party: u32) -> u32
-    ensures { result
+// What stops a call of this party: the pool's own refusal, then 12.
+fn gate_for(head: Head, arena: &[u32], table: &[u32], party: u32) -> Result<(), Refusal>
+    ensures { number_in result
         ≡ with_party (pool_number tree_engine (tree_pool head arena.now table.now)) party }
 {
-    let own = tree_check::gate_number(head, &*arena, &*table);
-    call_parts::with_party(own, party)
+    tree_check::gate(head, &*arena, &*table)?;
+    call_parts::party_test(party)
 }
 
 // ---- find and look
@@ -35,13 +35,12 @@ pub fn find(head: Head, arena: &[u32], table: &[u32], named: Row) -> Answer
     ensures { result
         ≡ (step tree_engine (find named) (tree_pool head arena.now table.now)).answer }
 {
-    let number = gate_for(head, &*arena, &*table, named.party);
-    if number != 0 {
-        return call_parts::refused(number);
+    if let Err(why) = gate_for(head, &*arena, &*table, named.party) {
+        return why.into();
     }
     match call_parts::named_slot(table, named) {
-        Named::Slot(_) => call_parts::succeeded(named),
-        Named::Refused(n) => call_parts::refused(n),
+        Ok(_) => call_parts::succeeded(named),
+        Err(why) => why.into(),
     }
 }
 
@@ -58,8 +57,7 @@ pub fn look<'a>(
         arena.now table.now)).shown arena.entry placeholder.entry }
 {
     let answer = find(head, arena, table, named);
-    let number = answer.number;
-    if number != 0 {
+    if answer.number != 0 {
         return placeholder;
     }
     let from = named.address as usize;
@@ -83,9 +81,8 @@ pub fn format(form: u32, arena: &mut [u32], table: &mut [u32], first: u32) -> Ou
         ≡ result_of (step tree_engine (format first) (tree_pool (no_head form) arena.old table.old)) }
 {
     let right = tree_check::right_lengths(form, arena, table);
-    let number = call_parts::format_number(is_form(form), right, first);
-    if number != 0 {
-        return tree_requests::refused_with(NO_HEAD, number);
+    if let Err(why) = call_parts::format_test(is_form(form), right, first) {
+        return tree_requests::refused_with(NO_HEAD, why.number());
     }
     let cells = cell_count(form, arena.len()) as u32;
     words::fill(arena, 0);
@@ -108,9 +105,8 @@ pub fn allocate(head: Head, arena: &mut [u32], table: &mut [u32], party: u32, wo
     ensures { handed result arena.new table.new []
         ≡ result_of (step tree_engine (allocate party words) (tree_pool head arena.old table.old)) }
 {
-    let number = gate_for(head, &*arena, &*table, party);
-    if number != 0 {
-        return tree_requests::refused_with(head, number);
+    if let Err(why) = gate_for(head, &*arena, &*table, party) {
+        return tree_requests::refused_with(head, why.number());
     }
     let done = tree_requests::grant(head, arena, table, party, words);
     tree_requests::outcome_of_grant(head, words, done)
@@ -122,9 +118,8 @@ pub fn release(head: Head, arena: &mut [u32], table: &mut [u32], named: Row) -> 
     ensures { handed result arena.new table.new []
         ≡ result_of (step tree_engine (release named) (tree_pool head arena.old table.old)) }
 {
-    let number = gate_for(head, &*arena, &*table, named.party);
-    if number != 0 {
-        return tree_requests::refused_with(head, number);
+    if let Err(why) = gate_for(head, &*arena, &*table, named.party) {
+        return tree_requests::refused_with(head, why.number());
     }
     let done = tree_requests::vacate(head, arena, table, named);
     tree_requests::outcome_of_release(head, named, done)
@@ -136,9 +131,8 @@ pub fn trim(head: Head, arena: &mut [u32], table: &mut [u32], named: Row, keep: 
     ensures { handed result arena.new table.new []
         ≡ result_of (step tree_engine (trim named keep) (tree_pool head arena.old table.old)) }
 {
-    let number = gate_for(head, &*arena, &*table, named.party);
-    if number != 0 {
-        return tree_requests::refused_with(head, number);
+    if let Err(why) = gate_for(head, &*arena, &*table, named.party) {
+        return tree_requests::refused_with(head, why.number());
     }
     let done = tree_requests::trim(head, arena, table, named, keep);
     let kept = call_parts::shortened(named, keep);
@@ -162,14 +156,13 @@ pub fn list(
         arena.old table.old)) }
 {
     if !is_form(head.form) {
-        return tree_requests::refused_with(head, 11);
+        return tree_requests::refused_with(head, Refusal::UnknownForm.number());
     }
     if !call_parts::list_suits(asked, answers) {
-        return tree_requests::refused_with(head, 8);
+        return tree_requests::refused_with(head, Refusal::BadLengths.number());
     }
-    let number = gate_for(head, &*arena, &*table, party);
-    if number != 0 {
-        return tree_requests::refused_with(head, number);
+    if let Err(why) = gate_for(head, &*arena, &*table, party) {
+        return tree_requests::refused_with(head, why.number());
     }
     let after = tree_requests::serve_all(head, arena, table, party, asked, answers);
     Outcome {

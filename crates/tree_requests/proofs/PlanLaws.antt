@@ -33,7 +33,7 @@ use Rattle.calls.specs.Step.{told, answer_to, pool_after}
 use Rattle.calls.specs.Engines.{tree_engine}
 use Rattle.calls.proofs.ActLaws.{named_zero, planned, plan_done}
 use Rattle.record_table.proofs.SlotLaws.{ticket_found, ticket_settle}
-use Rattle.call_parts.specs.declared.Named.TheVariants.{Slot}
+use Rattle.std.specs.Prelude.{Ok}
 use Rattle.call_parts.specs.Parts.{named_in}
 use Rattle.call_parts.proofs.NamedLaws.{named_at_lem}
 use Rattle.call_parts.proofs.FindLaws.{slot_number}
@@ -46,7 +46,7 @@ use Rattle.tree_requests.proofs.StoredLaws.{Shows, stored_pool}
 use Rattle.tree_requests.proofs.SoundLaws.{sound_range, sound_good, sound_lies, held_word}
 
 module _ (h : Head) (a t : Words) (r : Row) (slot : ℕ) (ok : sound tree_engine (tree_pool h a t) ≡ true)
-    (found : named_in t r ≡ Slot slot) where
+    (found : named_in t r ≡ Ok slot) where
   abbrev lent : Pool
   lent = tree_pool h a t
 

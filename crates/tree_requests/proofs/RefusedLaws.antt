@@ -1,22 +1,21 @@
 -- What an effect comes to: the refusal of a request that is refused in its effect alone, or the record. Assumes nothing.
-use mathlib.Core.Path.{◌≡◌, ap, ◌∙◌, subst}
-use mathlib.Core.Bool.{Bool, true, false, cond}
-use mathlib.Core.Option.{Option, none, some}
+use mathlib.Core.Path.{◌≡◌, ap, ◌∙◌}
+use mathlib.Core.Bool.{false}
 use mathlib.Core.List.{[]}
 use Prim.Native.Nat.{ℕ, ◌<◌}
 use native.Mathlib.Omega.{arith}
 use lib.Dec.{eqb}
 use Rattle.words.specs.Lists.{Words}
 use Rattle.ledger.specs.declared.Row.{Row}
-use Rattle.ledger.specs.Records.{Ledger, record_of, same_block}
-use Rattle.calls.specs.Pool.{Pool, next_after, ledger}
-use Rattle.calls.specs.Step.{Act, ask, success, named}
+use Rattle.calls.specs.Pool.{next_after}
+use Rattle.calls.specs.Step.{Act, ask, success}
 use Rattle.calls.specs.Engines.{tree_engine}
-use Rattle.call_parts.specs.declared.Named.TheVariants.{Refused}
-use Rattle.call_parts.specs.Parts.{named_in}
+use Rattle.calls.specs.declared.Refusal.{Refusal}
+use Rattle.calls.specs.declared.Refusal.TheVariants.{Damaged, BadSize, NoRecord, NoTicket, NoRoom, UnknownTicket}
+use Rattle.calls.specs.declared.Refusal.TheVariants.{Mismatch, BadLengths, BadRequest, UnknownForm, NoParty}
+use Rattle.calls.specs.Refusals.{number_of}
 use Rattle.call_parts.specs.Results.{acted}
 use Rattle.call_parts.proofs.AskLaws.{RefusedBy}
-use Rattle.call_parts.proofs.FindLaws.{refused_number}
 use Rattle.call_parts.proofs.ResultLaws.{acted_refused}
 use Rattle.tree_check.specs.declared.Head.{Head}
 use Rattle.tree_requests.specs.declared.Outcome.{Outcome}
@@ -24,23 +23,19 @@ use Rattle.tree_check.specs.Gate.{tree_pool}
 use Rattle.tree_requests.specs.Outcomes.{handed, refused_with, grant_outcome, release_outcome}
 use Rattle.tree_requests.specs.Outcomes.{effect_number, effect_root, effect_address}
 
--- an effect has room for the number of a release that is refused
-named_few : (L : Ledger) (r : Row) → named L r < 16
-unfolding named
-named_few L r = go (record_of r.ticket L)
-  where
-    wrong : (a b : Bool) → cond {A = ℕ} a (cond b 0 7) 6 < 16
-    wrong true true = omega arith
-    wrong true false = omega arith
-    wrong false b = omega arith
-
-    go : (o : Option Row)
-        → elim o [ none ↦ 6 | some s ↦ cond (eqb s.party r.party) (cond (same_block s r) 0 7) 6 ] < 16
-    go none = omega arith
-    go (some s) = wrong (eqb s.party r.party) (same_block s r)
-
-pub refused_few : (p : Pool) (r : Row) (n : ℕ) → named_in p.table r ≡ Refused n → n < 16
-refused_few p r n e = subst (λ (x : ℕ). x < 16) (refused_number p r n e) (named_few (ledger p) r)
+-- an effect has room for each number
+pub number_few : (why : Refusal) → number_of why < 16
+number_few Damaged = omega arith
+number_few BadSize = omega arith
+number_few NoRecord = omega arith
+number_few NoTicket = omega arith
+number_few NoRoom = omega arith
+number_few UnknownTicket = omega arith
+number_few Mismatch = omega arith
+number_few BadLengths = omega arith
+number_few BadRequest = omega arith
+number_few UnknownForm = omega arith
+number_few NoParty = omega arith
 
 -- the effect of a request that was served
 module _ (h : Head) (e root : ℕ) (number : effect_number e ≡ 0) (rooted : effect_root e ≡ root) where

@@ -4,10 +4,11 @@
 
 pub mod sizes;
 
-ghost use Rattle.std.specs.Prelude.{◌≡◌, List, [], ◌+◌, ◌*◌, ◌/◌, ◌%◌, ◌<◌, ◌≤◌, length, true};
+ghost use Rattle.std.specs.Prelude.{◌≡◌, List, [], ◌+◌, ◌*◌, ◌/◌, ◌%◌, ◌<◌, ◌≤◌, length, true, Ok};
 ghost use Rattle.calls.specs.Pool.{sound};
 ghost use Rattle.ledger.specs.Runs.{Run};
 ghost use Rattle.ledger.specs.Records.{is_party, keepable, shortened};
+ghost use Rattle.calls.specs.Refusals.{number_of};
 ghost use Rattle.calls.specs.Step.{ask, give, cut, answer_to, pool_after, partied};
 ghost use Rattle.calls.specs.Engines.{tree_engine};
 ghost use Rattle.stored_forms.specs.Tree.{form_of};
@@ -20,16 +21,15 @@ ghost use Rattle.tree_requests.specs.Granting.{Grantable};
 ghost use Rattle.tree_requests.specs.Outcomes.{handed, refused_with, grant_outcome, release_outcome};
 ghost use Rattle.tree_requests.specs.Outcomes.{effect_number, effect_root, effect_address};
 
-use call_parts::{Named, Request};
-use calls::Answer;
+use call_parts::Request;
+use calls::{Answer, Refusal};
 use ledger::Row;
-use record_table::Found as Slot;
 use sizes::cells_of;
 use tree_check::Head;
 use tree_nodes::forms::cell_count;
 
 // A head with the answer: what a call hands back.
-#[derive(Clone, Copy)]
+#[derive(Clone, Copy, PartialEq, Eq)]
 pub struct Outcome {
     pub head: Head,
     pub answer: Answer,
@@ -52,11 +52,10 @@ pub fn refused_with(head: Head, number: u32) -> Outcome
 // is read there at once costs a wait.
 
 // The effect of a request that is refused: none.
-fn no_effect(number: u32) -> u64
-    requires { number < 16 }
-    ensures { effect_number result ≡ number }
+fn no_effect(why: Refusal) -> u64
+    ensures { effect_number result ≡ number_of why }
 {
-    number as u64
+    why.number() as u64
 }
 
 // The effect of a request that was served.
@@ -108,21 +107,21 @@ pub fn grant(head: Head, arena: &mut [u32], table: &mut [u32], party: u32, words
 {
     let form = head.form;
     if (words == 0) | (sizes::limit_of(form) < words) {
-        return no_effect(2);
+        return no_effect(Refusal::BadSize);
     }
-    let Slot::At(slot) = record_table::empty_slot(table) else {
-        return no_effect(3);
+    let Some(slot) = record_table::empty_slot(table) else {
+        return no_effect(Refusal::NoRecord);
     };
     let next = head.next;
     if next == 0 {
-        return no_effect(4);
+        return no_effect(Refusal::NoTicket);
     }
     let cells = cells_of(form, words);
     let found = free_tree::leftmost_fit(form, arena, head.root as usize, cells as u32);
     let block = found.at;
     let father = found.over;
     if block == 0 {
-        return no_effect(5);
+        return no_effect(Refusal::NoRoom);
     }
     place(head, arena, table, party, words, slot, block, father, cells)
 }
@@ -139,7 +138,7 @@ pub fn outcome_of_grant(head: Head, words: u32, done: u64) -> Outcome
         head: Head {
             root: (done / 16 % 4294967296) as u32,
             next: call_parts::next_after(head.next),
-            form: head.form,
+            ..head
         },
         answer: Answer {
             number: 0,
@@ -170,7 +169,7 @@ fn give_tail(form: u32, arena: &mut [u32], root: usize, named: Row, kept: usize)
 // Gives back the cells of the named record, which stands in the slot, and empties the slot.
 fn give_back(head: Head, arena: &mut [u32], table: &mut [u32], named: Row, slot: usize) -> u64
     requires { (sound tree_engine (tree_pool head arena.old table.old)
-        ≡ true) × (named_in table.old named ≡ Named.Slot slot) }
+        ≡ true) × (named_in table.old named ≡ Ok slot) }
     ensures { handed (release_outcome head named result) arena.new table.new []
         ≡ acted tree_engine (give named) (tree_pool head arena.old table.old) }
 {
@@ -186,8 +185,8 @@ pub fn vacate(head: Head, arena: &mut [u32], table: &mut [u32], named: Row) -> u
         ≡ acted tree_engine (give named) (tree_pool head arena.old table.old) }
 {
     match call_parts::named_slot(table, named) {
-        Named::Refused(number) => no_effect(number),
-        Named::Slot(slot) => give_back(head, arena, table, named, slot),
+        Ok(slot) => give_back(head, arena, table, named, slot),
+        Err(why) => no_effect(why),
     }
 }
 
@@ -199,12 +198,10 @@ pub fn outcome_of_release(head: Head, named: Row, done: u64) -> Outcome
     if number != 0 {
         return refused_with(head, number);
     }
-    let form = head.form;
     Outcome {
         head: Head {
             root: (done / 16 % 4294967296) as u32,
-            next: head.next,
-            form,
+            ..head
         },
         answer: call_parts::succeeded(named),
     }
@@ -223,7 +220,7 @@ fn cut_back(
     keep: u32,
 ) -> u64
     requires { (sound tree_engine (tree_pool head arena.old table.old)
-        ≡ true) × (named_in table.old named ≡ Named.Slot slot) × (keepable keep named ≡ true) }
+        ≡ true) × (named_in table.old named ≡ Ok slot) × (keepable keep named ≡ true) }
     ensures { handed (release_outcome head (shortened keep named) result) arena.new table.new []
         ≡ acted tree_engine (cut named keep) (tree_pool head arena.old table.old) }
 {
@@ -244,34 +241,34 @@ pub fn trim(head: Head, arena: &mut [u32], table: &mut [u32], named: Row, keep: 
         ≡ acted tree_engine (cut named keep) (tree_pool head arena.old table.old) }
 {
     match call_parts::named_slot(table, named) {
-        Named::Refused(n) => no_effect(n),
-        Named::Slot(slot) => {
+        Ok(slot) => {
             if !call_parts::can_keep(named, keep) {
-                return no_effect(2);
+                return no_effect(Refusal::BadSize);
             }
             cut_back(head, arena, table, named, slot, keep)
         }
+        Err(why) => no_effect(why),
     }
 }
 
 // ---- requests
 
-// One request of a party's list on a sound pool.
-fn serve(head: Head, arena: &mut [u32], table: &mut [u32], request: Request) -> Outcome
+// One request of a party's list on a sound pool; what is no request is refused.
+fn serve(head: Head, arena: &mut [u32], table: &mut [u32], request: Option<Request>) -> Outcome
     requires { (sound tree_engine (tree_pool head arena.old table.old) ≡ true) × (partied (act_of request) ≡ true) }
     ensures { handed result arena.new table.new []
         ≡ acted tree_engine (act_of request) (tree_pool head arena.old table.old) }
 {
     match request {
-        Request::Ask(party, words) => {
+        Some(Request::Ask { party, words }) => {
             let done = grant(head, arena, table, party, words);
             outcome_of_grant(head, words, done)
         }
-        Request::Give(named) => {
+        Some(Request::Give(named)) => {
             let done = vacate(head, arena, table, named);
             outcome_of_release(head, named, done)
         }
-        Request::Bad => refused_with(head, 9),
+        None => refused_with(head, Refusal::BadRequest.number()),
     }
 }
 
@@ -315,10 +312,8 @@ pub fn serve_all(
         ≡ ran tree_engine party asked.now answers.old (tree_pool head arena.old table.old) }
 {
     let mut after = head;
-    let mut i = 0;
-    while i < asked.len() / 4 {
+    for i in 0..asked.len() / 4 {
         after = serve_at(after, arena, table, party, asked, answers, i);
-        i += 1;
     }
     after
 }

@@ -3,15 +3,16 @@ use mathlib.Core.Path.{◌≡◌, ◌∙◌, sym, ap, refl}
 use mathlib.Core.Bool.{true}
 use mathlib.Core.List.{[], ◌∷◌}
 use Rattle.calls.specs.Pool.{Pool}
-use Rattle.calls.specs.Step.{list, list_suits, pool_number}
+use Rattle.calls.specs.Step.{list, list_suits}
 use Rattle.calls.specs.Engines.{tree_engine}
-use Rattle.call_parts.proofs.ResultLaws.{gate_result, gate_passed, unknown_result, unsuited_result}
+use Rattle.call_parts.proofs.ResultLaws.{unknown_result, unsuited_result}
 use Rattle.call_parts.proofs.ResultLaws.{list_result}
 use Rattle.call_parts.specs.Results.{Result}
 use Rattle.call_parts.proofs.WholeLists.{suited_lengths}
 use Rattle.tree_requests.specs.declared.Outcome.{Outcome}
 use Rattle.tree_check.specs.Gate.{tree_pool}
-use Rattle.tree_requests.specs.Outcomes.{handed}
+use Rattle.tree_requests.specs.Outcomes.{handed, refused_with}
+use Rattle.tree_pool.proofs.StopLaws.{stops, passes}
 use Rattle.tree_pool.proofs.list.Goals as goal
 use Rattle.tree_pool.proofs.list.Goals.{Start, Else-not-list_suits}
 
@@ -33,7 +34,7 @@ unfolding tree_engine
 returns-then-not-is_form c =
     let s = (goal.at.returns-then-not-is_form c).Start in
     let p = lent s in
-    ap (same s) c.refused_with.ensures
+    ap (same s) (c.refused_with.ensures ∙ ap (refused_with c.args.head) c.number.ensures)
     ∙ unknown_result tree_engine p c.args.party c.args.asked.now c.args.answers.now
     (sym c.is_form.ensures ∙ c.if-not-is_form.true)
 
@@ -42,34 +43,29 @@ unfolding tree_engine
 returns-then-not-list_suits c =
     let s = (goal.at.returns-then-not-list_suits c).Start in
     let p = lent s in
-    ap (same s) c.refused_with-then-not-list_suits.ensures
+    ap (same s)
+    (c.refused_with-then-not-list_suits.ensures ∙ ap (refused_with c.args.head) c.number-then-not-list_suits.ensures)
     ∙ unsuited_result tree_engine p c.args.party c.args.asked.now c.args.answers.now
     (sym c.is_form.ensures ∙ c.if-not-is_form.false)
     (sym c.list_suits.ensures ∙ c.if-not-list_suits.true)
 
-pub returns-then-number-ne0 : goal.returns-then-number-ne0
-returns-then-number-ne0 c =
-    let s = (goal.at.returns-then-number-ne0 c).Start in
-    let p = lent s in
-    ap (same s) c.refused_with-then-number-ne0.ensures
-    ∙ gate_result tree_engine p (pool_number tree_engine p) c.args.party c.gate_for-number.result refl
-    c.gate_for-number.ensures c.if-number-ne0.true
-    (list c.args.party c.args.asked.now c.args.answers.now) refl (suits (goal.at.returns-then-number-ne0 c).Else-not-list_suits) refl
+pub returns-in-Err : goal.returns-in-Err
+returns-in-Err c =
+    stops c.args.head c.args.arena.now c.args.table.now c.args.party c.in-Err.why c.refused_with-in-Err.ensures
+    c.number-in-Err.ensures c.in-Err.ensures (list c.args.party c.args.asked.now c.args.answers.now) refl
+    (suits (goal.at.returns-in-Err c).Else-not-list_suits) refl
 
 pub serve_all-after-requires : goal.serve_all-after-requires
 serve_all-after-requires c =
-    let p = lent (goal.at.serve_all-after-requires c).Start in
     record {
-      table_value = gate_passed tree_engine p (pool_number tree_engine p) c.args.party c.gate_for-number.result refl
-          c.gate_for-number.ensures c.if-number-ne0.false;
+      table_value = passes c.args.head c.args.arena.now c.args.table.now c.args.party c.in_default.ensures;
       asked_len = suited_lengths c.args.asked.now c.args.answers.now (suits (goal.at.serve_all-after-requires c).Else-not-list_suits);
     }
 
 pub returns : goal.returns
 returns c =
     let p = lent (goal.at.returns c).Start in
-    let (ok, partied) = gate_passed tree_engine p (pool_number tree_engine p) c.args.party
-    c.gate_for-number.result refl c.gate_for-number.ensures c.if-number-ne0.false in
+    let (ok, partied) = passes c.args.head c.args.arena.now c.args.table.now c.args.party c.in_default.ensures in
     list_result tree_engine p c.args.party c.args.asked.now c.args.answers.now (suits (goal.at.returns c).Else-not-list_suits) ok partied
     c.succeeded.result
     (tree_pool c.serve_all-after.result c.serve_all-after.new.arena c.serve_all-after.new.table)

@@ -1,35 +1,28 @@
 -- `tree_pool::release` meets its contract: the gate, then one act, and the outcome of its effect. Assumes nothing.
 use mathlib.Core.Path.{refl, ap, ◌∙◌}
 use mathlib.Core.List.{[]}
-use Rattle.calls.specs.Step.{release, give, pool_number}
+use Rattle.calls.specs.Step.{release, give}
 use Rattle.calls.specs.Engines.{tree_engine}
 use Rattle.tree_check.specs.Gate.{tree_pool}
 use Rattle.tree_requests.specs.Outcomes.{handed}
-use Rattle.call_parts.proofs.ResultLaws.{gate_result, gate_passed, single_result}
+use Rattle.call_parts.proofs.ResultLaws.{single_result}
 use Rattle.tree_requests.specs.declared.Outcome.{Outcome}
+use Rattle.tree_pool.proofs.StopLaws.{stops, passes}
 use Rattle.tree_pool.proofs.release.Goals as goal
 
-pub returns-then-number-ne0 : goal.returns-then-number-ne0
-returns-then-number-ne0 c =
-    let a = c.args.arena.now in
-    let t = c.args.table.now in
-    let p = tree_pool c.args.head a t in
-    ap (λ (o : Outcome). handed o a t []) c.refused_with.ensures
-    ∙ gate_result tree_engine p (pool_number tree_engine p) c.args.named.party c.gate_for-number.result refl c.gate_for-number.ensures
-    c.if-number-ne0.true (release c.args.named) refl refl refl
+pub returns-in-Err : goal.returns-in-Err
+returns-in-Err c =
+    stops c.args.head c.args.arena.now c.args.table.now c.args.named.party c.in-Err.why c.refused_with.ensures
+    c.number.ensures c.in-Err.ensures (release c.args.named) refl refl refl
 
 pub vacate-done-requires : goal.vacate-done-requires
 vacate-done-requires c =
-    let p = tree_pool c.args.head c.args.arena.now c.args.table.now in
-    (gate_passed tree_engine p (pool_number tree_engine p) c.args.named.party c.gate_for-number.result refl c.gate_for-number.ensures
-    c.if-number-ne0.false).0
+    (passes c.args.head c.args.arena.now c.args.table.now c.args.named.party c.in_default.ensures).0
 
 pub returns : goal.returns
 returns c =
-    let b = c.vacate-done.new.arena in
-    let u = c.vacate-done.new.table in
     let p = tree_pool c.args.head c.args.arena.now c.args.table.now in
-    let (ok, partied) = gate_passed tree_engine p (pool_number tree_engine p) c.args.named.party c.gate_for-number.result refl
-    c.gate_for-number.ensures c.if-number-ne0.false in
-    ap (λ (o : Outcome). handed o b u []) c.outcome_of_release.ensures ∙ c.vacate-done.ensures
-    ∙ single_result tree_engine (give c.args.named) p ok partied
+    let (ok, partied) = passes c.args.head c.args.arena.now c.args.table.now c.args.named.party c.in_default.ensures in
+    ap (λ (o : Outcome). handed o c.vacate-done.new.arena c.vacate-done.new.table [])
+    c.outcome_of_release.ensures
+    ∙ c.vacate-done.ensures ∙ single_result tree_engine (give c.args.named) p ok partied

@@ -15,7 +15,7 @@ use Rattle.stored_forms.specs.Tree.{Form, form_of, form_rule, cells_per_unit}
 use Rattle.free_blocks.specs.Blocks.{Changed, Gives, Given}
 use Rattle.calls.specs.Pool.{sound}
 use Rattle.calls.specs.Step.{cut}
-use Rattle.call_parts.specs.declared.Named.TheVariants.{Slot}
+use Rattle.std.specs.Prelude.{Ok}
 use Rattle.call_parts.specs.Parts.{named_in}
 use Rattle.calls.specs.Engines.{tree_engine}
 use Rattle.call_parts.specs.Results.{acted}
@@ -35,7 +35,7 @@ add_same : (k : ℕ) {m n : ℕ} → k + m ≡ k + n → m ≡ n
 add_same k e = omega arith
 
 module _ (h : Head) (a t : Words) (r : Row) (slot n : ℕ) (ok : sound tree_engine (tree_pool h a t) ≡ true)
-    (found : named_in t r ≡ Slot slot) (can : keepable n r ≡ true) where
+    (found : named_in t r ≡ Ok slot) (can : keepable n r ≡ true) where
   abbrev form : Form
   form = form_of h.form
 

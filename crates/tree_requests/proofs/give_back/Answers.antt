@@ -12,7 +12,7 @@ use Rattle.stored_forms.specs.Tree.{form_of}
 use Rattle.free_blocks.specs.Blocks.{Changed, Gives, Given}
 use Rattle.calls.specs.Pool.{sound}
 use Rattle.calls.specs.Step.{give}
-use Rattle.call_parts.specs.declared.Named.TheVariants.{Slot}
+use Rattle.std.specs.Prelude.{Ok}
 use Rattle.call_parts.specs.Parts.{named_in}
 use Rattle.calls.specs.Engines.{tree_engine}
 use Rattle.call_parts.proofs.ResultLaws.{acted_by}
@@ -31,7 +31,7 @@ add_none : (n : ℕ) → n + 0 ≡ n
 add_none n = omega arith
 
 module _ (h : Head) (a t : Words) (r : Row) (slot : ℕ) (ok : sound tree_engine (tree_pool h a t) ≡ true)
-    (found : named_in t r ≡ Slot slot) where
+    (found : named_in t r ≡ Ok slot) where
   -- its first cell, behind none that are kept
   abbrev named_cell : ℕ
   named_cell = r.address / (form_of h.form).cell + 0

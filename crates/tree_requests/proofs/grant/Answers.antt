@@ -50,11 +50,11 @@ unfolding tree_engine
 returns-then-next-eq0 c =
     let good = size c.args.head.form c.args.words c.limit_of.ensures c.if-words-limit_of.false in
     let p = tree_pool c.args.head c.args.arena.now c.args.table.now in
-    let found = sym c.empty_slot.ensures ∙ c.in-At.is in
+    let found = sym c.empty_slot.ensures ∙ c.in-Some.is in
     grant_refused c.args.head c.args.arena.now c.args.table.now c.no_effect-then-next-eq0.result 4
     c.no_effect-then-next-eq0.ensures refl c.args.party c.args.words
     (ask_four tree_engine p c.args.party c.args.words c.requires.1 good
-    (empty_found c.args.table.now c.in-At.slot found).1
+    (empty_found c.args.table.now c.in-Some.slot found).1
     (eq-eqb _ _ c.if-next-eq0.true))
 
 pub overflow_cast-cells : goal.overflow_cast-cells
@@ -82,11 +82,11 @@ returns-then-block-eq0 c =
     let fit =
     subst (λ (x : ℕ). LeftmostFound (form_of h.form) c.args.arena.now h.root x at) c.cells_of-cells.ensures
     c.leftmost_fit-found.ensures.leftmost_found in
-    let found = sym c.empty_slot.ensures ∙ c.in-At.is in
+    let found = sym c.empty_slot.ensures ∙ c.in-Some.is in
     grant_refused h c.args.arena.now c.args.table.now c.no_effect-then-block-eq0.result 5
     c.no_effect-then-block-eq0.ensures refl c.args.party c.args.words
     (ask_five tree_engine p c.args.party c.args.words c.requires.1 good
-    (empty_found c.args.table.now c.in-At.slot found).1 (ne_eqb _ _ c.if-next-eq0.false)
+    (empty_found c.args.table.now c.in-Some.slot found).1 (ne_eqb _ _ c.if-next-eq0.false)
     (none_fits h c.args.arena.now c.args.table.now c.requires.0 c.args.words at (some_units h.form c.args.words good) fit
     c.if-block-eq0.true))
 
@@ -97,7 +97,7 @@ place-requires c =
         ok = c.requires.0;
         party = c.requires.1;
         size = size c.args.head.form c.args.words c.limit_of.ensures c.if-words-limit_of.false;
-        empty = sym c.empty_slot.ensures ∙ c.in-At.is;
+        empty = sym c.empty_slot.ensures ∙ c.in-Some.is;
         ticket = c.if-next-eq0.false;
         fit = subst (λ (x : ℕ). LeftmostFound (form_of c.args.head.form) c.args.arena.now c.args.head.root x
             c.leftmost_fit-found.result.at) c.cells_of-cells.ensures c.leftmost_fit-found.ensures.leftmost_found;
@@ -105,6 +105,3 @@ place-requires c =
       };
       cells_value = c.cells_of-cells.ensures;
     }
-
-pub returns : goal.returns
-returns c = c.place.ensures

@@ -1,7 +1,6 @@
 -- `tree_requests::serve_all` meets its contract: before request i, pool and answers are those of the first i requests.
 -- Assumes nothing.
 use native.Mathlib.Omega.{arith}
-use mathlib.Core.Path.{◌∙◌, refl}
 use mathlib.Core.Path.{ap₂}
 use Rattle.words.specs.Lists.{Words}
 use Rattle.calls.specs.Pool.{Pool}
@@ -16,20 +15,14 @@ use Rattle.tree_requests.proofs.serve_all.Goals as goal
 pub loop-i-init : goal.loop-i-init
 loop-i-init c =
     let p = tree_pool c.args.head c.args.arena.now c.args.table.now in
-    (refl, refl, omega arith, c.requires.table_value.0, list_start tree_engine p c.args.party c.args.asked.now c.args.answers.now)
+    (c.requires.table_value.0, list_start tree_engine p c.args.party c.args.asked.now c.args.answers.now)
 
 pub serve_at-after-requires : goal.serve_at-after-requires
 serve_at-after-requires c =
     record {
-      table_value = (c.loop-i.invariant.3, c.requires.table_value.1);
-      i_in_bounds = (omega arith, omega (arith, c.loop-i.invariant.4.size, c.requires.asked_len.1));
+      table_value = (c.loop-i.invariant.0, c.requires.table_value.1);
+      i_in_bounds = (omega arith, omega (arith, c.loop-i.invariant.1.size, c.requires.asked_len.1));
     }
-
-pub overflow_add-i : goal.overflow_add-i
-overflow_add-i c = omega arith
-
-pub loop-i-smaller : goal.loop-i-smaller
-loop-i-smaller c = omega arith
 
 pub loop-i-preserved : goal.loop-i-preserved
 loop-i-preserved c =
@@ -38,24 +31,12 @@ loop-i-preserved c =
     let q = tree_pool x.after x.arena x.table in
     let q' = tree_pool c.serve_at-after.result c.serve_at-after.new.arena c.serve_at-after.new.table in
     let rs = c.args.asked.now in
-    let v = x.invariant.4 in
+    let v = x.invariant.1 in
     let e = c.serve_at-after.ensures.table_after in (
-      c.serve_at-after.auto.arena ∙ x.invariant.0,
-      c.serve_at-after.auto.table ∙ x.invariant.1,
-      omega arith,
-      acted_sound tree_engine tree_laws q (request_at c.args.party rs x.i) q' e x.invariant.3,
+      acted_sound tree_engine tree_laws q (request_at c.args.party rs x.i) q' e x.invariant.0,
       list_next tree_engine p c.args.party rs c.args.answers.now x.i q q' x.answers c.serve_at-after.new.answers
           (omega arith) (omega (arith, v.size, c.requires.asked_len.1)) e c.serve_at-after.ensures.answers_after v,
     )
-
-pub shape_of-arena : goal.shape_of-arena
-shape_of-arena c = c.loop-i.invariant.0
-
-pub shape_of-table : goal.shape_of-table
-shape_of-table c = c.loop-i.invariant.1
-
-pub shape_of-answers : goal.shape_of-answers
-shape_of-answers c = c.loop-i.invariant.4.size
 
 pub returns : goal.returns
 returns c =
@@ -64,5 +45,5 @@ returns c =
     let rs = c.args.asked.now in
     let (a, b) =
     list_end tree_engine p c.args.party rs c.args.answers.now x.i (tree_pool x.after x.arena x.table) x.answers
-    (omega (arith, c.requires.asked_len.0)) x.invariant.4 in
+    (omega (arith, c.requires.asked_len.0)) x.invariant.1 in
     ap₂ (λ (y : Pool) (z : Words). (y, z)) a b

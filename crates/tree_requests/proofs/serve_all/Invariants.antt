@@ -1,8 +1,6 @@
--- The invariants and measures of the loops of `tree_requests::serve_all`.
+-- The invariants of the loops of `tree_requests::serve_all`.
 use mathlib.Core.Path.{◌≡◌}
-use Prim.Native.Nat.{◌-◌, ◌*◌, ◌/◌, ◌≤◌}
 use mathlib.Core.Bool.{true}
-use lib.ListN.{length}
 use Rattle.calls.specs.Pool.{sound}
 use Rattle.calls.specs.Engines.{tree_engine}
 use Rattle.call_parts.proofs.ListLaws.{Running}
@@ -11,10 +9,6 @@ use Rattle.tree_requests.proofs.serve_all.Given as goal
 
 abbrev pub invariant-loop-i : goal.invariant-loop-i
 invariant-loop-i l =
-    (length l.arena ≡ length l.initial.arena) × (length l.table ≡ length l.initial.table) × (4 * l.i ≤ length l.asked)
-    × (sound tree_engine (tree_pool l.after l.arena l.table) ≡ true)
+    (sound tree_engine (tree_pool l.after l.arena l.table) ≡ true)
     × Running tree_engine (tree_pool l.initial.after l.initial.arena l.initial.table) l.party l.asked l.initial.answers l.i
     (tree_pool l.after l.arena l.table) l.answers
-
-abbrev pub decreases-loop-i : goal.decreases-loop-i
-decreases-loop-i l = length l.asked / 4 - l.i

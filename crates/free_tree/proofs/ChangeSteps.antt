@@ -136,9 +136,6 @@ module _ {F : Form} (readable : Readable F F.links) where
   room_no_node {r = r} {t = t} p =
       apart_no_node r t r.start p.apart (omega arith) (omega (arith, p.filled))
 
-  pub room_tree : {m : Words} {l : ℕ} {r : Run} → ((t : Tree) × Room F m l r t) → (t : Tree) × At F m l t
-  room_tree (t, p) = (t, p.tree)
-
   -- the tree at the link l is split, and its parts are the sons of the run's node
   module _ {m m₁ : Words} {l x n lo hi i : ℕ} (post : Parts F m m₁ l x lo hi i) where
     pub parts_ready : {a b : ℕ} → a ≡ lo → b ≡ hi → ((t : Tree) × Room F m l (run x n) t)

@@ -35,9 +35,6 @@ module _ {F : Form} (readable : Readable F F.links) where
   seek_start stop x T p = (T, p, whole)
 
   module _ {m : Words} {l at over x : ℕ} {stop : Run → Bool} (inv : Seeking F m l stop x at over) where
-    pub seek_tree : ((T : Tree) × At F m l T) → (t : Tree) × At F m at t
-    seek_tree (T, p) = let (t, q, w) = inv T p in (t, q)
-
     pub seek_end : at ≡ 0 → Placed F m l stop x at over
     seek_end z T p =
         let (t, q, w) = inv T p in
@@ -68,22 +65,6 @@ module _ {F : Form} (readable : Readable F F.links) where
   pub place_at : {m : Words} {l at over x : ℕ} {stop : Run → Bool} → Placed F m l stop x at over
       → ((T : Tree) × At F m l T) → (t : Tree) × At F m at t
   place_at placed (T, p) = let w = placed T p in (w.sub, w.tree)
-
--- ---- attached to the father
-
-pub attached_none : {over k : ℕ} (F : Form) (m : Words) (root x q : ℕ) → over ≡ 0 → k ≡ q
-    → Attached F m m root over x q k
-attached_none {k = k} F m root x q z e = subst (λ o. Attached F m m root o x q k) (sym z) (refl, e)
-
-module _ {F : Form} {m m' : Words} {root over x q k : ℕ} (z : over ≢ 0) (same : k ≡ root) where
-  to_father : Attached F m m' root (suc (over - 1)) x q k → Attached F m m' root over x q k
-  to_father h = let e : suc (over - 1) ≡ over = omega arith in subst (λ o. Attached F m m' root o x q k) e h
-
-  pub attached_left : x < over - 1 → LeftSet F m m' (over - 1) q → Attached F m m' root over x q k
-  attached_left h put = to_father (same, (λ i. put), λ i. absurd (omega arith))
-
-  pub attached_right : over - 1 ≤ x → RightSet F m m' (over - 1) q → Attached F m m' root over x q k
-  attached_right h put = to_father (same, (λ i. absurd (omega arith)), λ i. put)
 
 -- ---- the change of a son
 

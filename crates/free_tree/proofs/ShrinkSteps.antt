@@ -14,9 +14,9 @@ use Rattle.ledger.specs.Runs.{Run, run}
 use Rattle.stored_forms.specs.Tree.{Tree, leaf, node, inorder, Form, length_at, left_at, right_at}
 use Rattle.stored_forms.proofs.NodeLaws.{Readable, within_le}
 use Rattle.tree_nodes.specs.Nodes.{cells, NodePut, LeftSet, RightSet}
-use Rattle.free_tree.specs.Shapes.{top, stands_above, stands_over, heavier, on_top, heapify, shrink, Stops, begins_at}
+use Rattle.free_tree.specs.Shapes.{stands_above, stands_over, heavier, on_top, heapify, shrink, Stops, begins_at}
 use Rattle.free_tree.specs.Held.{At, Became, NoNodeNor, Placed, OverRoot, Heavier, Between, NoNodeOfNor}
-use Rattle.free_tree.specs.Held.{OverRoots, OnTop, Heapified, Longer}
+use Rattle.free_tree.specs.Held.{OnTop, Heapified, Longer}
 use Rattle.free_tree.proofs.RunOrder.{wider}
 use Rattle.free_tree.proofs.CellLaws.{no_node_below, no_node_above}
 use Rattle.free_tree.proofs.StepLaws.{count, count_at, rooted, rooted_length, at_none, at_in, at_small, at_left}
@@ -57,9 +57,6 @@ pub record SinkLeft (F : Form) (m : Words) (a b : ℕ) (r : Run) (c s : ℕ) : T
 module _ {F : Form} (readable : Readable F F.links) where
   -- ---- above a root
 
-  pub over_none : {m : Words} {l : ℕ} (r : Run) → l ≡ 0 → OverRoot F m l r true
-  over_none r z = at_none (λ t. true ≡ stands_over r t) z refl
-
   pub over_some : {m : Words} {l k : ℕ} (r : Run) {v : Bool} → l ≢ 0 → k ≡ length_at F m (l - 1)
       → v ≡ stands_above r (run (l - 1) k) → OverRoot F m l r v
   over_some r {v} z len e = rooted_length readable (λ t. v ≡ stands_over r t) z len (λ a b p. e)
@@ -77,14 +74,6 @@ module _ {F : Form} (readable : Readable F F.links) where
   -- ---- which of two roots is heavier, from the lengths that are read
 
   module _ {m : Words} {a b : ℕ} where
-    pub heavier_none : a ≡ 0 → Heavier F m a b false
-    heavier_none z ta tb p q = at_none (λ t. false ≡ heavier t tb) z refl ta p
-
-    pub heavier_alone : a ≢ 0 → b ≡ 0 → Heavier F m a b true
-    heavier_alone x z ta tb p q =
-        rooted (λ t. true ≡ heavier t tb) x
-        (λ c n d w. at_none (λ t. true ≡ leb (top t) n) z (sym (of_le 0 n (omega arith))) tb q) ta p
-
     pub heavier_both : {i k : ℕ} → a ≢ 0 → b ≢ 0 → k ≡ length_at F m (b - 1) → i ≡ length_at F m (a - 1)
         → Heavier F m a b (leb k i)
     heavier_both {i} {k} x y g f ta tb p q =
@@ -154,29 +143,6 @@ module _ {F : Form} (readable : Readable F F.links) where
         (within_heapify r ta x 0 c w.left_within w.filled w.right_within.0) none_outside)
 
   -- ---- which stays on top
-
-  pub over_roots_not : {m : Words} {a : ℕ} (b : ℕ) (r : Run) {v : Bool} → OverRoot F m a r v → v ≡ false
-      → OverRoots F m a b r false
-  over_roots_not b r low e ta tb p q = ap (λ w. w && stands_over r tb) (sym e ∙ low ta p)
-
-  pub over_roots_both : {m : Words} {a b : ℕ} (r : Run) {v w : Bool} → OverRoot F m a r v → v ≡ true
-      → OverRoot F m b r w → OverRoots F m a b r w
-  over_roots_both r low e high ta tb p q = high tb q ∙ ap (λ x. x && stands_over r tb) (sym e ∙ low ta p)
-
-  module _ {m : Words} {a b : ℕ} (r : Run) {v : Bool} (both : OverRoots F m a b r v) where
-    pub on_top_run : v ≡ true → OnTop F m a b r 0
-    on_top_run e ta tb p q = sym (rw (sym (both ta tb p q) ∙ e) refl)
-
-    module _ {w : Bool} (e : v ≡ false) (which : Heavier F m a b w) where
-      on_top_root : OnTop F m a b r (cond w 1 2)
-      on_top_root ta tb p q =
-          ap (λ x. cond x 1 2) (which ta tb p q) ∙ sym (rw (sym (both ta tb p q) ∙ e) refl)
-
-      pub on_top_first : w ≡ true → OnTop F m a b r 1
-      on_top_first f = rw f at on_top_root
-
-      pub on_top_second : w ≡ false → OnTop F m a b r 2
-      on_top_second f = rw f at on_top_root
 
   top_run : (r : Run) (s t : Tree) → 0 ≡ on_top r s t → (stands_over r s && stands_over r t) ≡ true
   top_run r s t = go (stands_over r s && stands_over r t) (heavier s t)
@@ -322,11 +288,6 @@ module _ {F : Form} (readable : Readable F F.links) where
           stays = λ post. keep_right_side which e son post;
           turns = λ post put. down_right_side which e son post put;
         }
-
-  -- the words are still those that the step began with
-  pub fewer_still : {m m' : Words} {n : ℕ} (a b : ℕ) → m ≡ m' → n < count F m a + count F m b
-      → n < count F m' a + count F m' b
-  fewer_still a b e h = rw e at h
 
   module _ {m : Words} {a b c d s u : ℕ} {r : Run} where
     pub sink_right_on : SinkRight F m a b r c s → SinkRight F m s b r d u → SinkRight F m a b r d u

@@ -176,17 +176,6 @@ module _ {F : Form} (readable : Readable F F.links) {m : Words} {root lo hi : �
     pub flank_tree : ((T : Tree) × Clear F m root lo hi T) → (t : Tree) × At F m l t
     flank_tree (T, p) = let f = inv T p in (f.sub, f.here.tree)
 
-    -- the block at the link a lies in the arena
-    pub flank_in : ((T : Tree) × Clear F m root lo hi T)
-        → (a ≤ cells F m) × (a ≢ 0 → a - 1 + length_at F m (a - 1) < F.links)
-    flank_in (T, p) =
-        let f = inv T p in
-        let inside = f.inside in
-        let low = f.low in
-        let small = p.tree.small in
-        let order = within_le f.sub f.from f.to f.range in
-        (omega arith, λ z. omega (arith, f.ended z))
-
     pub flank_end : l ≡ 0 → TouchFound F m root lo hi (if_ends F m lo a) (if_begins hi b)
     flank_end z T p =
         let f = inv T p in

@@ -2,12 +2,10 @@
 -- tree. A loop's invariant: what the split of the tree at the link `s` leaves is the split of the whole; its measure is
 -- the number of nodes there. Assumes nothing.
 use native.Mathlib.Omega.{arith}
-use mathlib.Core.Path.{◌∙◌, refl, sym}
-use mathlib.Core.Logic.{◌≢◌}
-use Rattle.stored_forms.specs.Tree.{form_of}
+use mathlib.Core.Path.{sym}
 use Rattle.stored_forms.proofs.NodeLaws.{readable}
 use Rattle.tree_nodes.proofs.FormLaws.{few_links}
-use Rattle.free_tree.proofs.Numbers.{falls_below, in_kept, cell_below, some_up_to, some_past}
+use Rattle.free_tree.proofs.Numbers.{cell_below, some_up_to, some_past}
 use Rattle.free_tree.proofs.StepLaws.{at_in, down_left, down_right}
 use Rattle.free_tree.proofs.PartSteps.{parts_none, parts_small, lower_read, upper_read}
 use Rattle.free_tree.proofs.PartSteps.{left_start, left_on, right_start, right_on}
@@ -19,9 +17,6 @@ lower_part-left_of-s-requires t c = at_in (readable _) c.requires.0 c.requires.2
 pub lower_part-loop-s-init : goal.lower_part-loop-s-init
 lower_part-loop-s-init t c =
     left_start (readable _) c.requires.0 c.requires.2 c.left_of-s.ensures c.requires.1
-
-pub lower_part-overflow_sub-c-in-loop-s : goal.lower_part-overflow_sub-c-in-loop-s
-lower_part-overflow_sub-c-in-loop-s t c = omega arith
 
 pub lower_part-left_of-s-requires-in-loop-s : goal.lower_part-left_of-s-requires-in-loop-s
 lower_part-left_of-s-requires-in-loop-s t c = at_in (readable _) (λ e. omega arith) c.loop-s.invariant.son
@@ -36,39 +31,22 @@ lower_part-loop-s-preserved t c =
     left_on (readable _) inv
     (left_start (readable _) (λ e. omega arith) inv.son c.left_of-s-in-loop-s.ensures (omega arith))
 
-pub lower_part-shape_of-arena-then-s-eq0 : goal.lower_part-shape_of-arena-then-s-eq0
-lower_part-shape_of-arena-then-s-eq0 t c = refl
-
 pub lower_part-returns-then-s-eq0 : goal.lower_part-returns-then-s-eq0
 lower_part-returns-then-s-eq0 t c =
     let none = c.if-s-eq0.true in
     c.loop-s.invariant.stays (parts_none (readable _) c.args.x none) (sym none)
 
-pub lower_part-upper_part-p-requires : goal.lower_part-upper_part-p-requires
-lower_part-upper_part-p-requires t c =
-    let inv = c.loop-s.invariant in
-    let some = c.if-s-eq0.false in
-    (falls_below c.decreases inv.fewer, (some, cell_below some c.loop-s-test.false, inv.son))
-
-pub lower_part-store_left-stored-requires : goal.lower_part-store_left-stored-requires
-lower_part-store_left-stored-requires t c =
-    let made = c.upper_part-p in
-    let inv = c.loop-s.invariant in
-    let small = parts_small (readable _) made.ensures inv.son in
-    let few = few_links c.args.form in record {
-      c_bound = in_kept (form_of c.args.form).cell made.auto.arena inv.inside;
-      l_bound = (rw c.link_of.ensures small.1, omega (arith, c.count_of.ensures, small.2));
-    }
+pub lower_part-store_left-stored-requires-clause-l_bound : goal.lower_part-store_left-stored-requires-clause-l_bound
+lower_part-store_left-stored-requires-clause-l_bound t c =
+    let small = parts_small (readable _) c.upper_part-p.ensures c.loop-s.invariant.son in
+    let few = few_links c.args.form in
+    (rw c.link_of.ensures small.1, omega (arith, c.count_of.ensures, small.2))
 
 pub lower_part-with_count-requires : goal.lower_part-with_count-requires
 lower_part-with_count-requires t c =
     let small = parts_small (readable _) c.upper_part-p.ensures c.loop-s.invariant.son in
     let few = few_links c.args.form in
     (omega (arith, small.0), omega (arith, c.store_left-stored.ensures.1, c.count_of.ensures, small.2))
-
-pub lower_part-shape_of-arena : goal.lower_part-shape_of-arena
-lower_part-shape_of-arena t c =
-    c.store_left-stored.auto.arena ∙ c.upper_part-p.auto.arena
 
 pub lower_part-returns : goal.lower_part-returns
 lower_part-returns t c =
@@ -84,10 +62,6 @@ upper_part-right_of-s-requires t c = at_in (readable _) c.requires.0 c.requires.
 pub upper_part-loop-s-init : goal.upper_part-loop-s-init
 upper_part-loop-s-init t c =
     right_start (readable _) c.requires.0 c.requires.2 c.right_of-s.ensures c.requires.1
-
-pub upper_part-overflow_sub-c-in-loop-s : goal.upper_part-overflow_sub-c-in-loop-s
-upper_part-overflow_sub-c-in-loop-s t c =
-    let some : c.loop-s.s ≢ 0 = (some_up_to c.loop-s-test.true).0 in omega (arith, some)
 
 pub upper_part-right_of-s-requires-in-loop-s : goal.upper_part-right_of-s-requires-in-loop-s
 upper_part-right_of-s-requires-in-loop-s t c =
@@ -105,39 +79,22 @@ upper_part-loop-s-preserved t c =
     right_on (readable _) inv
     (right_start (readable _) (some_up_to test).0 inv.son c.right_of-s-in-loop-s.ensures (some_up_to test).1)
 
-pub upper_part-shape_of-arena-then-s-eq0 : goal.upper_part-shape_of-arena-then-s-eq0
-upper_part-shape_of-arena-then-s-eq0 t c = refl
-
 pub upper_part-returns-then-s-eq0 : goal.upper_part-returns-then-s-eq0
 upper_part-returns-then-s-eq0 t c =
     let none = c.if-s-eq0.true in
     c.loop-s.invariant.stays (parts_none (readable _) c.args.x none) (sym none)
 
-pub upper_part-lower_part-p-requires : goal.upper_part-lower_part-p-requires
-upper_part-lower_part-p-requires t c =
-    let inv = c.loop-s.invariant in
-    let some = c.if-s-eq0.false in
-    (falls_below c.decreases inv.fewer, (some, some_past some c.loop-s-test.false, inv.son))
-
-pub upper_part-store_right-stored-requires : goal.upper_part-store_right-stored-requires
-upper_part-store_right-stored-requires t c =
-    let made = c.lower_part-p in
-    let inv = c.loop-s.invariant in
-    let small = parts_small (readable _) made.ensures inv.son in
-    let few = few_links c.args.form in record {
-      c_bound = in_kept (form_of c.args.form).cell made.auto.arena inv.inside;
-      r_bound = (rw c.link_of.ensures small.0, omega (arith, c.count_of.ensures, small.2));
-    }
+pub upper_part-store_right-stored-requires-clause-r_bound : goal.upper_part-store_right-stored-requires-clause-r_bound
+upper_part-store_right-stored-requires-clause-r_bound t c =
+    let small = parts_small (readable _) c.lower_part-p.ensures c.loop-s.invariant.son in
+    let few = few_links c.args.form in
+    (rw c.link_of.ensures small.0, omega (arith, c.count_of.ensures, small.2))
 
 pub upper_part-with_count-requires : goal.upper_part-with_count-requires
 upper_part-with_count-requires t c =
     let small = parts_small (readable _) c.lower_part-p.ensures c.loop-s.invariant.son in
     let few = few_links c.args.form in
     (omega (arith, small.1), omega (arith, c.store_right-stored.ensures.1, c.count_of.ensures, small.2))
-
-pub upper_part-shape_of-arena : goal.upper_part-shape_of-arena
-upper_part-shape_of-arena t c =
-    c.store_right-stored.auto.arena ∙ c.lower_part-p.auto.arena
 
 pub upper_part-returns : goal.upper_part-returns
 upper_part-returns t c =

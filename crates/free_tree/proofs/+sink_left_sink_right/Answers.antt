@@ -5,12 +5,11 @@ use Rattle.std.proofs.Common.{ap, arith, refl}
 use Rattle.stored_forms.proofs.NodeLaws.{readable}
 use Rattle.tree_nodes.proofs.FormLaws.{few_links}
 use Rattle.free_tree.specs.Tops.{top_number}
-use Rattle.free_tree.proofs.Numbers.{falls_below}
 use Rattle.free_tree.proofs.StepLaws.{at_in}
 use Rattle.free_tree.proofs.ChangeSteps.{between_ready}
 use Rattle.free_tree.proofs.ShrinkSteps.{sink_left_start, sink_left_on, sink_right_start}
 use Rattle.free_tree.proofs.ShrinkSteps.{sink_right_on, between_in, left_root, right_root, heapify_top}
-use Rattle.free_tree.proofs.ShrinkSteps.{fewer_still, heapified_small}
+use Rattle.free_tree.proofs.ShrinkSteps.{heapified_small}
 use Rattle.free_tree.proofs.+sink_left_sink_right.Goals as goal
 
 pub sink_left-overflow_sub-c : goal.sink_left-overflow_sub-c
@@ -48,11 +47,6 @@ sink_left-returns-in-Block t c =
     rw c.loop-arena.invariant.same at
     (c.loop-arena.invariant.sinks.turns
     (heapify_top (readable _) c.on_top.ensures (ap top_number c.in-Block.is) c.put_first.ensures.node_put) c.set_left.ensures)
-
-pub sink_left-sink_right-requires : goal.sink_left-sink_right-requires
-sink_left-sink_right-requires t c =
-    let inv = c.loop-arena.invariant.sinks in
-    (falls_below c.decreases (fewer_still (readable _) c.args.lo c.args.hi c.loop-arena.invariant.same inv.fewer), (inv.inner, rw c.in-Low.is at c.on_top.ensures))
 
 pub sink_left-set_left-requires-in-Low-clause-l_bound : goal.sink_left-set_left-requires-in-Low-clause-l_bound
 sink_left-set_left-requires-in-Low-clause-l_bound t c = heapified_small (readable _) c.sink_right.ensures c.loop-arena.invariant.sinks.inner
@@ -121,11 +115,6 @@ sink_right-returns-in-Block t c =
     rw c.loop-arena.invariant.same at
     (c.loop-arena.invariant.sinks.turns
     (heapify_top (readable _) c.on_top.ensures (ap top_number c.in-Block.is) c.put_first.ensures.node_put) c.set_right.ensures)
-
-pub sink_right-sink_left-requires : goal.sink_right-sink_left-requires
-sink_right-sink_left-requires t c =
-    let inv = c.loop-arena.invariant.sinks in
-    (falls_below c.decreases (fewer_still (readable _) c.args.lo c.args.hi c.loop-arena.invariant.same inv.fewer), (inv.inner, rw c.in-High.is at c.on_top.ensures))
 
 pub sink_right-set_right-requires-in-High-clause-r_bound : goal.sink_right-set_right-requires-in-High-clause-r_bound
 sink_right-set_right-requires-in-High-clause-r_bound t c = heapified_small (readable _) c.sink_left.ensures c.loop-arena.invariant.sinks.inner

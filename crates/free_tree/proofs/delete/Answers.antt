@@ -2,11 +2,10 @@
 -- or by the join of both. Assumes nothing.
 use native.Mathlib.Omega.{arith}
 use Rattle.stored_forms.proofs.NodeLaws.{readable}
-use Rattle.tree_nodes.proofs.FormLaws.{few_links}
-use Rattle.free_tree.proofs.StepLaws.{at_in, at_small}
+use Rattle.free_tree.proofs.StepLaws.{at_in}
 use Rattle.free_tree.proofs.JoinSteps.{both_none}
 use Rattle.free_tree.proofs.PlaceSteps.{place_at, place_kept, place_ready, place_attached}
-use Rattle.free_tree.proofs.ChangeSteps.{deletes, delete_none, delete_here, sons_beside, placed_node, node_deleted}
+use Rattle.free_tree.proofs.ChangeSteps.{deletes, delete_none, delete_here, placed_node, node_deleted}
 use Rattle.free_tree.proofs.delete.Goals as goal
 
 pub returns-then-at-eq0 : goal.returns-then-at-eq0
@@ -22,13 +21,6 @@ left_of-a-requires c =
 pub right_of-b-requires : goal.right_of-b-requires
 right_of-b-requires c =
     at_in (readable _) c.if-at-eq0.false (place_at (readable _) c.place_of-p.ensures c.requires)
-
-pub overflow_add-a : goal.overflow_add-a
-overflow_add-a c =
-    let (ta, tb, w) =
-    sons_beside (readable _) c.if-at-eq0.false c.left_of-a.ensures c.right_of-b.ensures
-    (place_at (readable _) c.place_of-p.ensures c.requires) in
-    omega (arith, few_links c.args.form, at_small (readable _) w.left, at_small (readable _) w.right)
 
 pub attach-requires : goal.attach-requires
 attach-requires c =
@@ -50,12 +42,8 @@ returns-then-a-b c =
     (delete_here (readable _) c.if-at-eq0.false c.left_of-a.ensures c.right_of-b.ensures x
     (both_none (readable _) c.if-a-b.true)) c.attach.ensures.attached)
 
-pub delete_at-requires : goal.delete_at-requires
-delete_at-requires c =
-    record {
-      at = c.requires;
-      node_of = placed_node (readable _) c.place_of-p.ensures c.if-at-eq0.false c.requires;
-    }
+pub delete_at-requires-clause-node_of : goal.delete_at-requires-clause-node_of
+delete_at-requires-clause-node_of c = placed_node (readable _) c.place_of-p.ensures c.if-at-eq0.false c.requires
 
 pub returns : goal.returns
 returns c =

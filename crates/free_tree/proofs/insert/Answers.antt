@@ -12,11 +12,6 @@ pub put_over-stored-requires : goal.put_over-stored-requires
 put_over-stored-requires c =
     place_there (readable _) (inserts (readable _) (run c.args.x c.args.n)) c.place_for-p.ensures c.requires
 
-pub overflow_add-x : goal.overflow_add-x
-overflow_add-x c =
-    let (t, room) = c.requires in
-    omega (arith, few_links c.args.form, room.filled, room.inside, room.tree.small)
-
 pub attach-requires : goal.attach-requires
 attach-requires c =
     let local = inserts (readable _) (run c.args.x c.args.n) in

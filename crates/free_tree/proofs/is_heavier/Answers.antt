@@ -1,14 +1,8 @@
 -- `free_tree::is_heavier` meets its contract. Assumes nothing.
 use Rattle.stored_forms.proofs.NodeLaws.{readable}
 use Rattle.free_tree.proofs.StepLaws.{at_in}
-use Rattle.free_tree.proofs.ShrinkSteps.{heavier_none, heavier_alone, heavier_both}
+use Rattle.free_tree.proofs.ShrinkSteps.{heavier_both}
 use Rattle.free_tree.proofs.is_heavier.Goals as goal
-
-pub returns-then-a-eq0 : goal.returns-then-a-eq0
-returns-then-a-eq0 c = heavier_none (readable _) c.if-a-eq0.true
-
-pub returns-then-b-eq0 : goal.returns-then-b-eq0
-returns-then-b-eq0 c = heavier_alone (readable _) c.if-a-eq0.false c.if-b-eq0.true
 
 pub length_of-requires : goal.length_of-requires
 length_of-requires c = at_in (readable _) c.if-b-eq0.false c.requires.1

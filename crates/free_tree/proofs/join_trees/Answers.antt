@@ -1,15 +1,9 @@
 -- `free_tree::join_trees` meets its contract: the pair joins where both trees have a root. Assumes nothing.
 use Rattle.stored_forms.proofs.NodeLaws.{readable}
 use Rattle.free_tree.proofs.Numbers.{read_le, read_lt}
-use Rattle.free_tree.proofs.JoinSteps.{roots, left_wins, right_wins, both_none_left, both_none_right}
+use Rattle.free_tree.proofs.JoinSteps.{roots, left_wins, right_wins}
 use Rattle.free_tree.proofs.JoinSteps.{both_left, both_right}
 use Rattle.free_tree.proofs.join_trees.Goals as goal
-
-pub returns-then-a-eq0 : goal.returns-then-a-eq0
-returns-then-a-eq0 c = both_none_left (readable _) c.if-a-eq0.true
-
-pub returns-then-b-eq0 : goal.returns-then-b-eq0
-returns-then-b-eq0 c = both_none_right (readable _) c.if-b-eq0.true
 
 pub length_of-requires : goal.length_of-requires
 length_of-requires c =

@@ -2,7 +2,6 @@
 -- link `l` if its root fits, else the last link that fitted; and the way to both goes left alone. The measure is the
 -- number of nodes at `l`. Assumes nothing.
 use mathlib.Core.Path.{refl}
-use native.Mathlib.Omega.{arith}
 use Rattle.stored_forms.proofs.NodeLaws.{readable}
 use Rattle.free_tree.proofs.StepLaws.{at_in, down_left}
 use Rattle.free_tree.proofs.SeekSteps.{fit_start, fit_tree, fit_stop, fit_next, fit_end}
@@ -11,9 +10,6 @@ use Rattle.free_tree.proofs.leftmost_fit.Goals as goal
 
 pub loop-l-init : goal.loop-l-init
 loop-l-init c = (fit_start (readable _) c.args.cells, left_start (readable _), λ z. absurd (z refl))
-
-pub overflow_sub-c : goal.overflow_sub-c
-overflow_sub-c c = omega arith
 
 pub length_of-requires : goal.length_of-requires
 length_of-requires c =

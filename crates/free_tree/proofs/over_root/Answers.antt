@@ -2,13 +2,8 @@
 use Rattle.ledger.specs.Runs.{run}
 use Rattle.stored_forms.proofs.NodeLaws.{readable}
 use Rattle.free_tree.proofs.StepLaws.{at_in}
-use Rattle.free_tree.proofs.ShrinkSteps.{over_none, over_some}
+use Rattle.free_tree.proofs.ShrinkSteps.{over_some}
 use Rattle.free_tree.proofs.over_root.Goals as goal
-
-pub returns-then-l-eq0 : goal.returns-then-l-eq0
-returns-then-l-eq0 c =
-    let a = c.args in
-    over_none (readable _) (run a.x a.n) c.if-l-eq0.true
 
 pub length_of-k-requires : goal.length_of-k-requires
 length_of-k-requires c = at_in (readable _) c.if-l-eq0.false c.requires

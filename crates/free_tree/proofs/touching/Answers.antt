@@ -4,15 +4,12 @@ use native.Mathlib.Omega.{arith}
 use Rattle.stored_forms.proofs.NodeLaws.{readable}
 use Rattle.tree_nodes.proofs.FormLaws.{few_links}
 use Rattle.free_tree.proofs.StepLaws.{at_in, down_left, down_right}
-use Rattle.free_tree.proofs.TouchSteps.{flank_start, flank_tree, flank_in, flank_left, flank_right}
+use Rattle.free_tree.proofs.TouchSteps.{flank_start, flank_tree, flank_left, flank_right}
 use Rattle.free_tree.proofs.TouchSteps.{flank_end}
 use Rattle.free_tree.proofs.touching.Goals as goal
 
 pub loop-l-init : goal.loop-l-init
 loop-l-init c = flank_start (readable _)
-
-pub overflow_sub-c : goal.overflow_sub-c
-overflow_sub-c c = omega arith
 
 pub left_of-l-requires : goal.left_of-l-requires
 left_of-l-requires c =
@@ -27,10 +24,6 @@ pub loop-l-preserved-then-lo-c : goal.loop-l-preserved-then-lo-c
 loop-l-preserved-then-lo-c c =
     flank_left (readable _) c.loop-l.invariant c.loop-l-test.true c.left_of-l.ensures c.if-lo-c.true
 
-pub right_of-l-requires : goal.right_of-l-requires
-right_of-l-requires c =
-    at_in (readable _) c.loop-l-test.true (flank_tree (readable _) c.loop-l.invariant c.requires.clear)
-
 pub loop-l-smaller : goal.loop-l-smaller
 loop-l-smaller c =
     (down_right (readable _) c.loop-l-test.true c.right_of-l.ensures
@@ -39,11 +32,6 @@ loop-l-smaller c =
 pub loop-l-preserved : goal.loop-l-preserved
 loop-l-preserved c =
     flank_right (readable _) c.loop-l.invariant c.loop-l-test.true c.right_of-l.ensures c.if-lo-c.false
-
-pub if_ends-requires : goal.if_ends-requires
-if_ends-requires c =
-    let (inside, ended) = flank_in (readable _) c.loop-l.invariant c.requires.clear in
-    record { l_bound = inside; l_bound_2 = ended }
 
 pub if_begins-requires : goal.if_begins-requires
 if_begins-requires c =

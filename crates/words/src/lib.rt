@@ -110,8 +110,7 @@ pub fn is_zero<T: Bits>(s: &[T]) -> bool
     ensures { result ≡ all T.is_zero s.now }
 {
     let mut rest = s;
-    while rest.len() >= 256 {
-        let (block, tail) = rest.split_at(256);
+    while let Some((block, tail)) = rest.split_at_checked(256) {
         if !is_zero_block(block) {
             return false;
         }

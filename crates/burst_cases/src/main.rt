@@ -15,28 +15,15 @@
 //   cut TEXT           the text in one burst and in many cuttings
 #![tactic(auto)]
 
-use burst_runs::{NOTHING, UNTOUCHED, fill, is_untouched, put};
+use burst_runs::{NOTHING, UNTOUCHED, is_untouched};
 use pool_bursts::Counts;
-use testing::{byte, is, least, print, print_number, read_line, until, word};
+use std::alloc::{AllocError, Global};
+use std::io;
+use std::io::{Read, Write};
+use testing::script::{Given, read_line};
 
-// ---- bytes
-
-fn copy(from: &[u8], to: &mut [u8]) {
-    let n = least(from.len(), to.len());
-    let start = 0;
-    text::put_bytes(to, 0, &from[start..n]);
-}
-
-// The given words from the second on as bytes, to the places from the first one's value on.
-fn put_given(s: &mut [u8], given: &[u32], count: usize) {
-    let from = word(given, 0) as usize;
-    let mut i = 1;
-    while i < count {
-        let v = (word(given, i) % 256) as u8;
-        put(s, std::num::wrapping_add_usize(from, i - 1), v);
-        i += 1;
-    }
-}
+// A buffer for a state and a few bytes more.
+type Buffer = [u8; 36960];
 
 // ---- texts
 
@@ -58,247 +45,182 @@ fn shown(b: u8) -> u8 {
     }
 }
 
-// What a part of a line means, at the start of `out`: how many bytes.
-fn read_text(line: &[u8], from: usize, out: &mut [u8]) -> usize {
-    let mut n = 0;
-    let mut i = from;
-    while i < line.len() {
-        put(out, n, meant(line[i]));
-        n = std::num::wrapping_add_usize(n, 1);
-        i += 1;
+// The text that a line has behind so many blanks.
+fn read_text(alloc: Global, line: &[u8], blanks: usize) -> Result<Vec<u8>, AllocError> {
+    let part = line.splitn(blanks + 1, |b| *b == b' ').nth(blanks);
+    part.unwrap_or(&[])
+        .iter()
+        .take(4096)
+        .map(|b| meant(*b))
+        .collect(alloc)
+}
+
+fn show_text(rt: &HostRuntime, s: &[u8]) -> io::Result<()> {
+    for b in s {
+        io::writer(rt).write_all(&[shown(*b)])?;
     }
-    n
-}
-
-// The place behind the next blank.
-fn behind(line: &[u8], from: usize) -> usize {
-    let at = until(line, least(from, line.len()), b' ');
-    std::num::wrapping_add_usize(at, 1)
-}
-
-fn show_byte(b: u8) {
-    let one = [shown(b)];
-    print(&one);
-}
-
-fn show_text(s: &[u8], n: usize) {
-    let mut i = 0;
-    while i < n {
-        show_byte(byte(s, i));
-        i += 1;
-    }
+    Ok(())
 }
 
 // ---- what came of a call
 
-fn show_place(i: usize, v: u8) {
-    if v == 0 {
-        return;
+fn show_bytes(rt: &HostRuntime, s: &[u8]) -> io::Result<()> {
+    print!(rt; "  bytes")?;
+    for (i, v) in s.iter().enumerate() {
+        if *v != 0 {
+            print!(rt; " {i}:{v}")?;
+        }
     }
-    print_number((i % 4294967296) as u32);
-    print(b":");
-    io::print_decimal(1, v as u64);
-}
-
-fn show_bytes(s: &[u8]) {
-    print(b"  bytes");
-    let mut i = 0;
-    while i < s.len() {
-        show_place(i, s[i]);
-        i += 1;
-    }
-    print(b"\n");
-}
-
-// Whether the buffer is as it was, at a line's end.
-fn show_change(state: &[u8], before: &[u8]) {
-    if check::same(state, before) {
-        print(b"; the buffer as it was\n");
-    } else {
-        print(b"\n");
-    }
+    println!(rt)
 }
 
 // A call's numbers and its answers, and whether it wrote behind them.
-fn show_counts(c: Counts, answers: &[u8]) {
-    print(b"  number");
-    print_number(c.number);
-    print(b" taken");
-    print_number((c.taken % 4294967296) as u32);
-    print(b" written");
-    print_number((c.written % 4294967296) as u32);
+fn show_counts(rt: &HostRuntime, c: Counts, answers: &[u8]) -> io::Result<()> {
+    print!(rt;
+        "  number {} taken {} written {}",
+        c.number, c.taken, c.written
+    )?;
+    let (said, behind) = answers.split_at(c.written.min(answers.len()));
     if c.written > 0 {
-        print(b" answers ");
-        show_text(answers, least(c.written, answers.len()));
+        print!(rt; " answers ")?;
+        show_text(rt, said)?;
     }
-    if !is_untouched(answers, c.written, answers.len()) {
-        print(b"; bytes behind the answers changed");
+    if !is_untouched(behind) {
+        print!(rt; "; bytes behind the answers changed")?;
     }
+    Ok(())
 }
 
 // ---- commands
 
-fn run_start(state: &mut [u8]) {
-    let number = pool_bursts::start(state);
-    print(b"  number");
-    print_number(number);
+// A call on the session in the lent bytes.
+#[derive(Clone, Copy)]
+enum Call {
+    Start,
+    Burst,
+    End,
 }
 
-fn run_burst(state: &mut [u8], bytes: &[u8], room: usize, answers: &mut [u8]) {
-    let n = least(room, answers.len());
-    let start = 0;
-    let c = pool_bursts::burst(state, bytes, &mut answers[start..n]);
-    show_counts(c, answers);
+#[derive(Clone, Copy)]
+enum Command {
+    Lend,
+    OnSession(Call),
+    Cut,
+    Fill,
+    Put,
+    Show,
+    Save,
+    Back,
 }
 
-fn run_end(state: &mut [u8], room: usize, answers: &mut [u8]) {
-    let n = least(room, answers.len());
-    let start = 0;
-    let c = pool_bursts::end(state, &mut answers[start..n]);
-    show_counts(c, answers);
-}
-
-fn run_cut(bytes: &[u8], answers: &mut [u8]) {
-    let due = burst_runs::run(bytes, answers, 0, NOTHING);
-    print(b"  answers ");
-    show_text(answers, least(due.all, answers.len()));
-    print(b"\n ");
-    let tally = due.tally;
-    burst_runs::report(tally);
-}
-
-// The commands that call the session; the first given number is the room.
-fn call(line: &[u8], given: &[u32], state: &mut [u8], asked: &mut [u8], answers: &mut [u8]) {
-    let room = word(given, 0) as usize;
-    if is(line, b's', b't') {
-        return run_start(state);
+// The command of a line, or none, and then the line does nothing.
+fn command_of(line: &[u8]) -> Option<Command> {
+    match line {
+        [b'l', b'e', ..] => Some(Command::Lend),
+        [b's', b't', ..] => Some(Command::OnSession(Call::Start)),
+        [b'b', b'u', ..] => Some(Command::OnSession(Call::Burst)),
+        [b'e', b'n', ..] => Some(Command::OnSession(Call::End)),
+        [b'c', b'u', ..] => Some(Command::Cut),
+        [b'f', b'i', ..] => Some(Command::Fill),
+        [b'p', b'u', ..] => Some(Command::Put),
+        [b's', b'h', ..] => Some(Command::Show),
+        [b's', b'a', ..] => Some(Command::Save),
+        [b'b', b'a', ..] => Some(Command::Back),
+        _ => None,
     }
-    if is(line, b'e', b'n') {
-        return run_end(state, room, answers);
-    }
-    let n = least(
-        read_text(line, behind(line, behind(line, 0)), asked),
-        asked.len(),
-    );
-    let start = 0;
-    run_burst(state, &asked[start..n], room, answers)
 }
 
-// A call on the first bytes of the buffer.
-fn call_lent(
-    lent: usize,
+// The first given number is the room for answers.
+fn call(
+    rt: &HostRuntime,
+    call: Call,
     line: &[u8],
-    given: &[u32],
+    room: usize,
     state: &mut [u8],
-    before: &mut [u8],
-    asked: &mut [u8],
     answers: &mut [u8],
-) {
-    fill(answers, UNTOUCHED);
-    copy(state, before);
-    let n = least(lent, state.len());
-    let start = 0;
-    call(line, given, &mut state[start..n], asked, answers);
-    show_change(state, before);
+) -> io::Result<()> {
+    let n = room.min(answers.len());
+    let c = match call {
+        Call::Start => {
+            let number = pool_bursts::start(state);
+            return print!(rt; "  number {number}");
+        }
+        Call::Burst => {
+            let text = read_text(rt.alloc(), line, 2)?;
+            pool_bursts::burst(state, &text, &mut answers[..n])
+        }
+        Call::End => pool_bursts::end(state, &mut answers[..n]),
+    };
+    show_counts(rt, c, answers)
 }
 
-// Whether a line calls the session.
-fn is_call(line: &[u8]) -> bool {
-    is(line, b's', b't') | is(line, b'b', b'u') | is(line, b'e', b'n')
+// A call on the first bytes of the buffer, and whether the buffer is as it was.
+fn call_lent(
+    rt: &HostRuntime,
+    kind: Call,
+    line: &[u8],
+    given: &Given,
+    lent: usize,
+    state: &mut Buffer,
+) -> io::Result<()> {
+    let mut answers = [UNTOUCHED; 4096];
+    let before = *state;
+    let n = lent.min(state.len());
+    let room = given.word(0) as usize;
+    call(rt, kind, line, room, &mut state[..n], &mut answers)?;
+    let change = if *state == before {
+        "; the buffer as it was"
+    } else {
+        ""
+    };
+    println!(rt; "{change}")
 }
 
-// The commands that set or show the buffer; any other line does nothing.
-fn set(line: &[u8], given: &[u32], count: usize, state: &mut [u8], saved: &mut [u8]) {
-    if is(line, b'f', b'i') {
-        return fill(state, (word(given, 0) % 256) as u8);
-    }
-    if is(line, b'p', b'u') {
-        return put_given(state, given, count);
-    }
-    if is(line, b's', b'h') {
-        return show_bytes(state);
-    }
-    if is(line, b's', b'a') {
-        return copy(state, saved);
-    }
-    if is(line, b'b', b'a') {
-        copy(saved, state);
-    }
+fn run_cut(rt: &HostRuntime, line: &[u8]) -> io::Result<()> {
+    let mut answers = [UNTOUCHED; 4096];
+    let mut tally = NOTHING;
+    let text = read_text(rt.alloc(), line, 1)?;
+    let all = tally.run(rt, &text, &mut answers, 0)?;
+    print!(rt; "  answers ")?;
+    show_text(rt, answers.get(..all).unwrap_or(&answers))?;
+    println!(rt)?;
+    println!(rt; " {tally}")
 }
 
 // Runs a line; answers how many bytes of the buffer are lent from here on.
 fn run_line(
-    lent: usize,
+    rt: &HostRuntime,
     line: &[u8],
-    given: &mut [u32],
-    state: &mut [u8],
-    saved: &mut [u8],
-    before: &mut [u8],
-    asked: &mut [u8],
-    answers: &mut [u8],
-) -> usize {
-    let count = read_line(line, given);
-    if is(line, b'l', b'e') {
-        return word(given, 0) as usize;
+    lent: usize,
+    state: &mut Buffer,
+    saved: &mut Buffer,
+) -> io::Result<usize> {
+    let given = read_line(rt, line)?;
+    let Some(command) = command_of(line) else {
+        return Ok(lent);
+    };
+    match command {
+        Command::Lend => return Ok(given.word(0) as usize),
+        Command::OnSession(kind) => call_lent(rt, kind, line, &given, lent, state)?,
+        Command::Cut => run_cut(rt, line)?,
+        Command::Fill => state.fill((given.word(0) % 256) as u8),
+        Command::Put => given.write(state),
+        Command::Show => show_bytes(rt, state)?,
+        Command::Save => *saved = *state,
+        Command::Back => *state = *saved,
     }
-    if is(line, b'c', b'u') {
-        let n = least(read_text(line, behind(line, 0), asked), asked.len());
-        let start = 0;
-        run_cut(&asked[start..n], answers);
-        return lent;
-    }
-    if is_call(line) {
-        call_lent(lent, line, given, state, before, asked, answers);
-        return lent;
-    }
-    set(line, given, count, state, saved);
-    lent
+    Ok(lent)
 }
 
-fn run(
-    script: &[u8],
-    given: &mut [u32],
-    state: &mut [u8],
-    saved: &mut [u8],
-    before: &mut [u8],
-    asked: &mut [u8],
-    answers: &mut [u8],
-) {
+fn main(rt: HostRuntime) -> io::Result<()> {
+    let mut script = Vec::new(rt.alloc());
+    rt.stdin().take(65536).read_to_end(&mut script)?;
+    let mut state = [0; 36960];
+    let mut saved = [0; 36960];
     let mut lent = 0;
-    let mut at = 0;
-    while at < script.len() {
-        let end = until(script, at, b'\n');
-        let next = end + 1;
-        lent = run_line(
-            lent,
-            &script[at..end],
-            given,
-            state,
-            saved,
-            before,
-            asked,
-            answers,
-        );
-        at = next;
+    for line in script.split_inclusive(|b| *b == b'\n') {
+        let line = line.strip_suffix(b"\n").unwrap_or(line);
+        lent = run_line(&rt, line, lent, &mut state, &mut saved)?;
     }
-}
-
-fn main() {
-    let mut script = [0u8; 65536];
-    let n = io::read_full(0, &mut script);
-    let mut given = [0u32; 256];
-    let mut state = [0u8; 36960];
-    let mut saved = [0u8; 36960];
-    let mut before = [0u8; 36960];
-    let mut asked = [0u8; 4096];
-    let mut answers = [0u8; 4096];
-    run(
-        &script[..n],
-        &mut given,
-        &mut state,
-        &mut saved,
-        &mut before,
-        &mut asked,
-        &mut answers,
-    );
+    Ok(())
 }

@@ -13,19 +13,255 @@
 //   copy N T V..       an old table of N words, V over and over, copied into the first T words of the table
 #![tactic(auto)]
 
-ghost use Rattle.std.specs.Prelude.{◌<◌};
-
-use ledger::Row;
 use segment_check::Head;
 use segment_requests::Outcome;
-use testing::{
-    first_ticket, is, least, mixed, print, print_number, put_all, read_line, row, show,
-    show_answer, show_sum, until, word, write, write_list,
-};
+use std::io;
+use std::io::Read;
+use testing::printing::{Shown, Told};
+use testing::script::{Given, read_line};
+
+// ---- the pool
+
+// A pool in the words that are lent to it, and the party that calls.
+#[derive(Drop)]
+struct Pool<'a> {
+    head: Head,
+    segments: u32,
+    party: u32,
+    arena: &'a mut [i32],
+    table: &'a mut [u32],
+    index: &'a mut [u32],
+}
+
+impl Pool<'_> {
+    fn show(&self, rt: &impl Print) -> io::Result<()> {
+        println!(rt; "  head {}", self.head.next)?;
+        println!(rt; "  arena{}", Shown(self.arena))?;
+        println!(rt; "  table{}", Shown(self.table))?;
+        println!(rt; "  index{}", Shown(self.index))
+    }
+
+    // What came of a call: the outcome's head is the pool's.
+    fn show_outcome(&mut self, rt: &impl Print, outcome: Outcome) -> io::Result<()> {
+        self.head = outcome.head;
+        println!(rt; "{}", Told(outcome.answer))?;
+        self.show(rt)
+    }
+
+    // A refused format hands back a head of zeros; the pool keeps the head that it had.
+    fn format(&mut self, rt: &impl Print, given: &Given) -> io::Result<()> {
+        let head = self.head;
+        let first = given.word_or_one(0);
+        let outcome = segment_pool::format(
+            self.segments,
+            self.arena,
+            self.table,
+            self.index,
+            first,
+        );
+        self.show_outcome(rt, outcome)?;
+        if outcome.answer.number != 0 {
+            self.head = head;
+        }
+        Ok(())
+    }
+
+    fn allocate(&mut self, rt: &impl Print, words: u32) -> io::Result<()> {
+        let done = segment_pool::allocate(
+            self.head,
+            self.segments,
+            self.arena,
+            self.table,
+            self.index,
+            self.party,
+            words,
+        );
+        self.head = done.head;
+        println!(rt; "{}", Told(done.answer))?;
+        println!(rt; "  places {}", done.places)?;
+        self.show(rt)
+    }
+
+    fn release(&mut self, rt: &impl Print, given: &Given) -> io::Result<()> {
+        let named = given.row(self.party);
+        let outcome = segment_pool::release(
+            self.head,
+            self.segments,
+            self.arena,
+            self.table,
+            self.index,
+            named,
+        );
+        self.show_outcome(rt, outcome)
+    }
+
+    // The fourth given number is the words to keep.
+    fn trim(&mut self, rt: &impl Print, given: &Given) -> io::Result<()> {
+        let (named, keep) = (given.row(self.party), given.word(3));
+        let outcome = segment_pool::trim(
+            self.head,
+            self.segments,
+            self.arena,
+            self.table,
+            self.index,
+            named,
+            keep,
+        );
+        self.show_outcome(rt, outcome)
+    }
+
+    fn find(&self, rt: &impl Print, given: &Given) -> io::Result<()> {
+        let named = given.row(self.party);
+        let answer = segment_pool::find(
+            self.head,
+            self.segments,
+            self.arena,
+            self.table,
+            self.index,
+            named,
+        );
+        println!(rt; "{}", Told(answer))?;
+        self.show(rt)
+    }
+
+    fn look(&self, rt: &impl Print, given: &Given) -> io::Result<()> {
+        let named = given.row(self.party);
+        let placeholder = [777777777, 888888888];
+        let shown = segment_pool::look(
+            self.head,
+            self.segments,
+            self.arena,
+            self.table,
+            self.index,
+            &placeholder,
+            named,
+        );
+        println!(rt; "  shown{}", Shown(shown))?;
+        self.show(rt)
+    }
+
+    // A list is made of the given words.
+    fn list(
+        &mut self,
+        rt: &impl Print,
+        given: &Given,
+        asked: &mut [u32],
+        answers: &mut [u32],
+    ) -> io::Result<()> {
+        given.write_list(asked);
+        let n = (given.word(0) as usize).min(asked.len());
+        let k = (given.word(1) as usize).min(answers.len());
+        let answers = &mut answers[..k];
+        answers.fill(7);
+        let outcome = segment_pool::list(
+            self.head,
+            self.segments,
+            self.arena,
+            self.table,
+            self.index,
+            self.party,
+            &asked[..n],
+            answers,
+        );
+        self.head = outcome.head;
+        println!(rt; "{}", Told(outcome.answer))?;
+        println!(rt; "  answers{}", Shown(answers))?;
+        self.show(rt)
+    }
+
+    // An old table is made of the given words, and copied into the table.
+    fn copy(&mut self, rt: &impl Print, given: &Given, old: &mut [u32]) -> io::Result<()> {
+        given.write_list(old);
+        let n = (given.word(0) as usize).min(old.len());
+        let t = (given.word(1) as usize).min(self.table.len());
+        let copied = old_tables::copy_table(&old[..n], &mut self.table[..t]);
+        let number = copied.map_or_else(|why| why.number(), |_| 0);
+        println!(rt; "  number {number}")?;
+        self.show(rt)
+    }
+}
+
+// ---- commands
+
+// What a line asks of a pool.
+#[derive(Clone, Copy)]
+enum Call {
+    Arena,
+    Table,
+    Index,
+    Head,
+    Format,
+    Allocate,
+    Release,
+    Find,
+    Look,
+    Trim,
+    List,
+    Copy,
+}
+
+#[derive(Clone, Copy)]
+enum Command {
+    Lend,
+    Party,
+    OnPool(Call),
+}
+
+// The command of a line, or none, and then the line does nothing.
+fn command_of(line: &[u8]) -> Option<Command> {
+    let call = match line {
+        [b'l', b'e', ..] => return Some(Command::Lend),
+        [b'p', b'a', ..] => return Some(Command::Party),
+        [b'a', b'r', ..] => Call::Arena,
+        [b't', b'a', ..] => Call::Table,
+        [b'i', b'n', ..] => Call::Index,
+        [b'h', b'e', ..] => Call::Head,
+        [b'f', b'o', ..] => Call::Format,
+        [b'a', b'l', ..] => Call::Allocate,
+        [b'r', b'e', ..] => Call::Release,
+        [b'f', b'i', ..] => Call::Find,
+        [b'l', b'o', ..] => Call::Look,
+        [b't', b'r', ..] => Call::Trim,
+        [b'l', b'i', ..] => Call::List,
+        [b'c', b'o', ..] => Call::Copy,
+        _ => return None,
+    };
+    Some(Command::OnPool(call))
+}
+
+// `asked` and `answers` are memory for a list, and `asked` for an old table.
+fn serve(
+    rt: &impl Print,
+    pool: &mut Pool,
+    call: Call,
+    given: &Given,
+    asked: &mut [u32],
+    answers: &mut [u32],
+) -> io::Result<()> {
+    match call {
+        Call::Arena => given.write(pool.arena),
+        Call::Table => given.write(pool.table),
+        Call::Index => given.write(pool.index),
+        Call::Head => {
+            pool.head = Head {
+                next: given.word(0),
+            }
+        }
+        Call::Format => pool.format(rt, given)?,
+        Call::Allocate => pool.allocate(rt, given.word(0))?,
+        Call::Release => pool.release(rt, given)?,
+        Call::Find => pool.find(rt, given)?,
+        Call::Look => pool.look(rt, given)?,
+        Call::Trim => pool.trim(rt, given)?,
+        Call::List => pool.list(rt, given, asked, answers)?,
+        Call::Copy => pool.copy(rt, given, asked)?,
+    }
+    Ok(())
+}
 
 // The head of the pool, the number of segments, the party that calls, and how many words of the three buffers are lent.
 #[derive(Clone, Copy)]
-struct Pool {
+struct Lent {
     head: Head,
     segments: u32,
     party: u32,
@@ -34,474 +270,86 @@ struct Pool {
     index_words: usize,
 }
 
-// ---- printing
-
-fn print_signed(x: i32) {
-    if x < 0 {
-        print(b" -");
-    } else {
-        print(b" ");
-    }
-    io::print_decimal(1, segment_index::size_of(x) as u64);
-}
-
-fn print_signed_words(s: &[i32]) {
-    let mut i = 0;
-    while i < s.len() {
-        let x = s[i];
-        print_signed(x);
-        i += 1;
-    }
-}
-
-// The step for a signed word: its sign, 1 below 0, then its magnitude.
-fn mixed_signed(sum: u64, x: i32) -> u64
-    requires { sum < 4294967291 }
-    ensures { result < 4294967291 }
-{
-    let sign = if x < 0 { 1 } else { 0 };
-    mixed(mixed(sum, sign), segment_index::size_of(x))
-}
-
-fn checksum_signed(s: &[i32]) -> u64
-    ensures { result < 4294967291 }
-{
-    let mut sum = 0;
-    let mut i = 0;
-    while i < s.len() {
-        let x = s[i];
-        sum = mixed_signed(sum, x);
-        i += 1;
-    }
-    sum
-}
-
-// As `show`, for signed words.
-fn show_signed(name: &[u8], s: &[i32]) {
-    print(name);
-    if s.len() <= 64 {
-        print_signed_words(s);
-    } else {
-        show_sum(s.len(), checksum_signed(s));
-    }
-    print(b"\n");
-}
-
-fn show_memory(head: Head, arena: &[i32], table: &[u32], index: &[u32]) {
-    print(b"  head");
-    print_number(head.next);
-    print(b"\n");
-    show_signed(b"  arena", arena);
-    show(b"  table", table);
-    show(b"  index", index);
-}
-
-fn show_outcome(outcome: Outcome, arena: &[i32], table: &[u32], index: &[u32]) -> Head {
-    show_answer(outcome.answer);
-    show_memory(outcome.head, arena, table, index);
-    outcome.head
-}
-
-// ---- commands
-
-// Writes the signed word whose 32 bits are those of v.
-fn put_signed(s: &mut [i32], i: usize, v: u32) {
-    if i >= s.len() {
-        return;
-    }
-    if v < 2147483648 {
-        segment_index::put_free(s, i, v as usize);
-        return;
-    }
-    if v == 2147483648 {
-        s[i] = -2147483648;
-        return;
-    }
-    segment_index::put_held(s, i, 4294967296 - v as usize);
-}
-
-fn write_signed(s: &mut [i32], given: &[u32], count: usize) {
-    let from = word(given, 0) as usize;
-    let mut i = 1;
-    while i < count {
-        put_signed(s, std::num::wrapping_add_usize(from, i - 1), word(given, i));
-        i += 1;
-    }
-}
-
-// A refused format hands back a head of zeros; the pool keeps the head that it had.
-fn run_format(
-    head: Head,
-    s: u32,
-    arena: &mut [i32],
-    table: &mut [u32],
-    index: &mut [u32],
-    first: u32,
-) -> Head {
-    let outcome = segment_pool::format(s, arena, table, index, first);
-    let new = show_outcome(outcome, arena, table, index);
-    let answer = outcome.answer;
-    if answer.number == 0 { new } else { head }
-}
-
-fn run_allocate(
-    head: Head,
-    s: u32,
-    arena: &mut [i32],
-    table: &mut [u32],
-    index: &mut [u32],
-    party: u32,
-    words: u32,
-) -> Head {
-    let done = segment_pool::allocate(head, s, arena, table, index, party, words);
-    show_answer(done.answer);
-    print(b"  places");
-    print_number(done.places);
-    print(b"\n");
-    show_memory(done.head, arena, table, index);
-    done.head
-}
-
-fn run_release(
-    head: Head,
-    s: u32,
-    arena: &mut [i32],
-    table: &mut [u32],
-    index: &mut [u32],
-    named: Row,
-) -> Head {
-    let outcome = segment_pool::release(head, s, arena, table, index, named);
-    show_outcome(outcome, arena, table, index)
-}
-
-// The fourth given number is the words to keep.
-fn run_trim(
-    head: Head,
-    s: u32,
-    arena: &mut [i32],
-    table: &mut [u32],
-    index: &mut [u32],
-    party: u32,
-    given: &[u32],
-) -> Head {
-    let named = row(given, party);
-    let outcome = segment_pool::trim(head, s, arena, table, index, named, word(given, 3));
-    show_outcome(outcome, arena, table, index)
-}
-
-fn run_find(head: Head, s: u32, arena: &[i32], table: &[u32], index: &[u32], named: Row) -> Head {
-    let answer = segment_pool::find(head, s, arena, table, index, named);
-    show_answer(answer);
-    show_memory(head, arena, table, index);
-    head
-}
-
-fn run_look<'a>(
-    head: Head,
-    s: u32,
-    arena: &'a [i32],
-    table: &[u32],
-    index: &[u32],
-    placeholder: &'a [i32],
-    named: Row,
-) -> Head {
-    let shown = segment_pool::look(head, s, arena, table, index, placeholder, named);
-    show_signed(b"  shown", shown);
-    show_memory(head, arena, table, index);
-    head
-}
-
-fn run_list(
-    head: Head,
-    s: u32,
-    arena: &mut [i32],
-    table: &mut [u32],
-    index: &mut [u32],
-    party: u32,
-    asked: &[u32],
-    answers: &mut [u32],
-) -> Head {
-    let k = answers.len();
-    put_all(answers, 0, k, 7);
-    let outcome = segment_pool::list(head, s, arena, table, index, party, asked, answers);
-    show_answer(outcome.answer);
-    show(b"  answers", answers);
-    show_memory(outcome.head, arena, table, index);
-    outcome.head
-}
-
-// The commands that call the pool but for list and copy; a line with no command does nothing.
-fn serve(
-    head: Head,
-    s: u32,
-    party: u32,
-    line: &[u8],
-    arena: &mut [i32],
-    table: &mut [u32],
-    index: &mut [u32],
-    given: &[u32],
-    count: usize,
-) -> Head {
-    if is(line, b'f', b'o') {
-        return run_format(head, s, arena, table, index, first_ticket(given, count));
-    }
-    if is(line, b'a', b'l') {
-        return run_allocate(head, s, arena, table, index, party, word(given, 0));
-    }
-    if is(line, b'r', b'e') {
-        return run_release(head, s, arena, table, index, row(given, party));
-    }
-    if is(line, b't', b'r') {
-        return run_trim(head, s, arena, table, index, party, given);
-    }
-    if is(line, b'f', b'i') {
-        return run_find(head, s, arena, table, index, row(given, party));
-    }
-    if is(line, b'l', b'o') {
-        return run_look(
-            head,
-            s,
-            arena,
-            table,
-            index,
-            &[777777777, 888888888],
-            row(given, party),
-        );
-    }
-    set(head, line, arena, table, index, given, count)
-}
-
-// The commands that set the lent memory and the head.
-fn set(
-    head: Head,
-    line: &[u8],
-    arena: &mut [i32],
-    table: &mut [u32],
-    index: &mut [u32],
-    given: &[u32],
-    count: usize,
-) -> Head {
-    if is(line, b'a', b'r') {
-        write_signed(arena, given, count);
-        return head;
-    }
-    if is(line, b't', b'a') {
-        write(table, given, count);
-        return head;
-    }
-    if is(line, b'i', b'n') {
-        write(index, given, count);
-        return head;
-    }
-    if is(line, b'h', b'e') {
-        return Head {
-            next: word(given, 0),
-        };
-    }
-    head
-}
-
-// An old table is made of the given words, and copied into the table.
-fn copy_into(table: &mut [u32], given: &[u32], count: usize, old: &mut [u32]) {
-    write_list(old, given, count);
-    let n = least(word(given, 0) as usize, old.len());
-    let t = least(word(given, 1) as usize, table.len());
-    let zero = 0;
-    let number = old_tables::copy_table(&old[zero..n], &mut table[zero..t]);
-    print(b"  number");
-    print_number(number);
-    print(b"\n");
-}
-
-// A list is made of the given words.
-fn make_list(
-    head: Head,
-    s: u32,
-    party: u32,
-    arena: &mut [i32],
-    table: &mut [u32],
-    index: &mut [u32],
-    given: &[u32],
-    count: usize,
-    asked: &mut [u32],
-    answers: &mut [u32],
-) -> Head {
-    write_list(asked, given, count);
-    let n = least(word(given, 0) as usize, asked.len());
-    let k = least(word(given, 1) as usize, answers.len());
-    let zero = 0;
-    run_list(
-        head,
-        s,
-        arena,
-        table,
-        index,
-        party,
-        &asked[zero..n],
-        &mut answers[zero..k],
-    )
-}
-
-// A list, a copy, or any other line.
-fn serve_line(
-    head: Head,
-    s: u32,
-    party: u32,
-    line: &[u8],
-    arena: &mut [i32],
-    table: &mut [u32],
-    index: &mut [u32],
-    given: &[u32],
-    count: usize,
-    asked: &mut [u32],
-    answers: &mut [u32],
-) -> Head {
-    if is(line, b'l', b'i') {
-        return make_list(
-            head, s, party, arena, table, index, given, count, asked, answers,
-        );
-    }
-    if is(line, b'c', b'o') {
-        copy_into(table, given, count, asked);
-        show_memory(head, arena, table, index);
-        return head;
-    }
-    serve(head, s, party, line, arena, table, index, given, count)
-}
-
-// Zeros in the three buffers, and so many of their words lent.
-fn lend(arena: &mut [i32], table: &mut [u32], index: &mut [u32], given: &[u32]) -> Pool {
-    words::fill(arena, 0);
-    words::fill(table, 0);
-    words::fill(index, 0);
-    Pool {
-        head: Head { next: 0 },
-        segments: word(given, 0),
-        party: 1,
-        words: word(given, 1) as usize,
-        table_words: word(given, 2) as usize,
-        index_words: word(given, 3) as usize,
-    }
-}
-
-// A line's command on the lent words: the head after it.
-fn serve_lent(
-    pool: Pool,
-    line: &[u8],
-    arena: &mut [i32],
-    table: &mut [u32],
-    index: &mut [u32],
-    given: &[u32],
-    count: usize,
-    asked: &mut [u32],
-    answers: &mut [u32],
-) -> Head {
-    let w = least(pool.words, arena.len());
-    let t = least(pool.table_words, table.len());
-    let n = least(pool.index_words, index.len());
-    let zero = 0;
-    let a = &mut arena[zero..w];
-    serve_line(
-        pool.head,
-        pool.segments,
-        pool.party,
-        line,
-        a,
-        &mut table[zero..t],
-        &mut index[zero..n],
-        given,
-        count,
-        asked,
-        answers,
-    )
-}
-
-// The pool with this head and party.
-fn turned(pool: Pool, head: Head, party: u32) -> Pool {
-    Pool {
-        head,
-        segments: pool.segments,
-        party,
-        words: pool.words,
-        table_words: pool.table_words,
-        index_words: pool.index_words,
-    }
-}
+const NOTHING: Lent = Lent {
+    head: Head { next: 0 },
+    segments: 0,
+    party: 1,
+    words: 0,
+    table_words: 0,
+    index_words: 0,
+};
 
 fn run_line(
-    pool: Pool,
+    rt: &impl Print,
+    lent: Lent,
     line: &[u8],
     arena: &mut [i32],
     table: &mut [u32],
     index: &mut [u32],
-    given: &mut [u32],
     asked: &mut [u32],
     answers: &mut [u32],
-) -> Pool {
-    let count = read_line(line, given);
-    if is(line, b'l', b'e') {
-        return lend(arena, table, index, given);
-    }
-    if is(line, b'p', b'a') {
-        return turned(pool, pool.head, word(given, 0));
-    }
-    let head = serve_lent(
-        pool, line, arena, table, index, given, count, asked, answers,
-    );
-    turned(pool, head, pool.party)
-}
-
-fn run(
-    text: &[u8],
-    arena: &mut [i32],
-    table: &mut [u32],
-    index: &mut [u32],
-    given: &mut [u32],
-    asked: &mut [u32],
-    answers: &mut [u32],
-) {
-    let mut pool = Pool {
-        head: Head { next: 0 },
-        segments: 0,
-        party: 1,
-        words: 0,
-        table_words: 0,
-        index_words: 0,
-    };
-    let mut at = 0;
-    while at < text.len() {
-        let end = until(text, at, b'\n');
-        let next = end + 1;
-        pool = run_line(
-            pool,
-            &text[at..end],
-            arena,
-            table,
-            index,
-            given,
-            asked,
-            answers,
-        );
-        at = next;
+) -> io::Result<Lent> {
+    let given = read_line(rt, line)?;
+    match command_of(line) {
+        None => Ok(lent),
+        Some(Command::Lend) => {
+            arena.fill(0);
+            table.fill(0);
+            index.fill(0);
+            Ok(Lent {
+                segments: given.word(0),
+                words: given.word(1) as usize,
+                table_words: given.word(2) as usize,
+                index_words: given.word(3) as usize,
+                ..NOTHING
+            })
+        }
+        Some(Command::Party) => Ok(Lent {
+            party: given.word(0),
+            ..lent
+        }),
+        Some(Command::OnPool(call)) => {
+            let w = lent.words.min(arena.len());
+            let t = lent.table_words.min(table.len());
+            let n = lent.index_words.min(index.len());
+            let mut pool = Pool {
+                head: lent.head,
+                segments: lent.segments,
+                party: lent.party,
+                arena: &mut arena[..w],
+                table: &mut table[..t],
+                index: &mut index[..n],
+            };
+            serve(rt, &mut pool, call, &given, asked, answers)?;
+            Ok(Lent {
+                head: pool.head,
+                ..lent
+            })
+        }
     }
 }
 
-fn main() {
-    let mut text = [0u8; 131072];
-    let n = io::read_full(0, &mut text);
-    let mut arena = [0i32; 16400];
-    let mut table = [0u32; 1100];
-    let mut index = [0u32; 1600];
-    let mut given = [0u32; 256];
-    let mut asked = [0u32; 4200];
-    let mut answers = [0u32; 4200];
-    run(
-        &text[..n],
-        &mut arena,
-        &mut table,
-        &mut index,
-        &mut given,
-        &mut asked,
-        &mut answers,
-    );
+fn main(rt: HostRuntime) -> io::Result<()> {
+    let mut text = Vec::new(rt.alloc());
+    rt.stdin().take(131072).read_to_end(&mut text)?;
+    let mut arena = [0; 16400];
+    let mut table = [0; 1100];
+    let mut index = [0; 1600];
+    let mut asked = [0; 4200];
+    let mut answers = [0; 4200];
+    let mut lent = NOTHING;
+    for line in text.split_inclusive(|b| *b == b'\n') {
+        let line = line.strip_suffix(b"\n").unwrap_or(line);
+        lent = run_line(
+            &rt,
+            lent,
+            line,
+            &mut arena,
+            &mut table,
+            &mut index,
+            &mut asked,
+            &mut answers,
+        )?;
+    }
+    Ok(())
 }

@@ -13,354 +13,289 @@
 //   copy N T V..       an old table of N words, V over and over, copied into the first T words of the table
 #![tactic(auto)]
 
-use ledger::Row;
-use testing::{
-    is, least, print, print_number, put_all, read_line, row, show, show_answer, until, word, write,
-    write_list,
-};
+use std::io;
+use std::io::Read;
+use testing::printing::{Shown, Told};
+use testing::script::{Given, read_line};
 use tree_check::Head;
 use tree_requests::Outcome;
 
+// ---- the pool
+
+// A pool in the words that are lent to it, and the party that calls.
+#[derive(Drop)]
+struct Pool<'a> {
+    head: Head,
+    party: u32,
+    arena: &'a mut [u32],
+    table: &'a mut [u32],
+}
+
+impl Pool<'_> {
+    fn show(&self, rt: &impl Print) -> io::Result<()> {
+        let head = self.head;
+        println!(rt; "  head {} {} {}", head.root, head.next, head.form)?;
+        println!(rt; "  arena{}", Shown(self.arena))?;
+        println!(rt; "  table{}", Shown(self.table))
+    }
+
+    // What came of a call: the outcome's head is the pool's.
+    fn show_outcome(&mut self, rt: &impl Print, outcome: Outcome) -> io::Result<()> {
+        self.head = outcome.head;
+        println!(rt; "{}", Told(outcome.answer))?;
+        self.show(rt)
+    }
+
+    // A refused format hands back a head of zeros; the pool keeps the head that it had.
+    fn format(&mut self, rt: &impl Print, given: &Given) -> io::Result<()> {
+        let head = self.head;
+        let (form, first) = (given.word_or_one(0), given.word_or_one(1));
+        let outcome = tree_pool::format(form, self.arena, self.table, first);
+        self.show_outcome(rt, outcome)?;
+        if outcome.answer.number != 0 {
+            self.head = head;
+        }
+        Ok(())
+    }
+
+    fn allocate(&mut self, rt: &impl Print, words: u32) -> io::Result<()> {
+        let outcome = tree_pool::allocate(self.head, self.arena, self.table, self.party, words);
+        self.show_outcome(rt, outcome)
+    }
+
+    fn release(&mut self, rt: &impl Print, given: &Given) -> io::Result<()> {
+        let named = given.row(self.party);
+        let outcome = tree_pool::release(self.head, self.arena, self.table, named);
+        self.show_outcome(rt, outcome)
+    }
+
+    // The fourth given number is the words to keep.
+    fn trim(&mut self, rt: &impl Print, given: &Given) -> io::Result<()> {
+        let (named, keep) = (given.row(self.party), given.word(3));
+        let outcome = tree_pool::trim(self.head, self.arena, self.table, named, keep);
+        self.show_outcome(rt, outcome)
+    }
+
+    fn find(&self, rt: &impl Print, given: &Given) -> io::Result<()> {
+        let named = given.row(self.party);
+        let answer = tree_pool::find(self.head, self.arena, self.table, named);
+        println!(rt; "{}", Told(answer))?;
+        self.show(rt)
+    }
+
+    fn look(&self, rt: &impl Print, given: &Given) -> io::Result<()> {
+        let named = given.row(self.party);
+        let placeholder = [777777777, 888888888];
+        let shown = tree_pool::look(self.head, self.arena, self.table, &placeholder, named);
+        println!(rt; "  shown{}", Shown(shown))?;
+        self.show(rt)
+    }
+
+    // A list is made of the given words.
+    fn list(
+        &mut self,
+        rt: &impl Print,
+        given: &Given,
+        asked: &mut [u32],
+        answers: &mut [u32],
+    ) -> io::Result<()> {
+        given.write_list(asked);
+        let n = (given.word(0) as usize).min(asked.len());
+        let k = (given.word(1) as usize).min(answers.len());
+        let answers = &mut answers[..k];
+        answers.fill(7);
+        let (head, party) = (self.head, self.party);
+        let outcome = tree_pool::list(head, self.arena, self.table, party, &asked[..n], answers);
+        self.head = outcome.head;
+        println!(rt; "{}", Told(outcome.answer))?;
+        println!(rt; "  answers{}", Shown(answers))?;
+        self.show(rt)
+    }
+
+    // An old table is made of the given words, and copied into the table.
+    fn copy(&mut self, rt: &impl Print, given: &Given, old: &mut [u32]) -> io::Result<()> {
+        given.write_list(old);
+        let n = (given.word(0) as usize).min(old.len());
+        let t = (given.word(1) as usize).min(self.table.len());
+        let copied = old_tables::copy_table(&old[..n], &mut self.table[..t]);
+        let number = copied.map_or_else(|why| why.number(), |_| 0);
+        println!(rt; "  number {number}")?;
+        self.show(rt)
+    }
+
+    // So many words of the arena, as far as there are any.
+    fn show_words(&self, rt: &impl Print, given: &Given) -> io::Result<()> {
+        let from = (given.word(0) as usize).min(self.arena.len());
+        let count = (given.word(1) as usize).min(self.arena.len() - from);
+        println!(rt; "  words{}", Shown(&self.arena[from..from + count]))
+    }
+
+    fn set_head(&mut self, given: &Given) {
+        self.head = Head {
+            root: given.word(0),
+            next: given.word(1),
+            form: given.word_or_one(2),
+        };
+    }
+}
+
+// ---- commands
+
+// What a line asks of a pool.
+#[derive(Clone, Copy)]
+enum Call {
+    Arena,
+    Table,
+    Head,
+    Format,
+    Words,
+    Allocate,
+    Release,
+    Find,
+    Look,
+    Trim,
+    List,
+    Copy,
+}
+
+#[derive(Clone, Copy)]
+enum Command {
+    Lend,
+    Party,
+    OnPool(Call),
+}
+
+// The command of a line, or none, and then the line does nothing.
+fn command_of(line: &[u8]) -> Option<Command> {
+    let call = match line {
+        [b'l', b'e', ..] => return Some(Command::Lend),
+        [b'p', b'a', ..] => return Some(Command::Party),
+        [b'a', b'r', ..] => Call::Arena,
+        [b't', b'a', ..] => Call::Table,
+        [b'h', b'e', ..] => Call::Head,
+        [b'f', b'o', ..] => Call::Format,
+        [b'w', b'o', ..] => Call::Words,
+        [b'a', b'l', ..] => Call::Allocate,
+        [b'r', b'e', ..] => Call::Release,
+        [b'f', b'i', ..] => Call::Find,
+        [b'l', b'o', ..] => Call::Look,
+        [b't', b'r', ..] => Call::Trim,
+        [b'l', b'i', ..] => Call::List,
+        [b'c', b'o', ..] => Call::Copy,
+        _ => return None,
+    };
+    Some(Command::OnPool(call))
+}
+
+// `asked` and `answers` are memory for a list, and `asked` for an old table.
+fn serve(
+    rt: &impl Print,
+    pool: &mut Pool,
+    call: Call,
+    given: &Given,
+    asked: &mut [u32],
+    answers: &mut [u32],
+) -> io::Result<()> {
+    match call {
+        Call::Arena => given.write(pool.arena),
+        Call::Table => given.write(pool.table),
+        Call::Head => pool.set_head(given),
+        Call::Format => pool.format(rt, given)?,
+        Call::Words => pool.show_words(rt, given)?,
+        Call::Allocate => pool.allocate(rt, given.word(0))?,
+        Call::Release => pool.release(rt, given)?,
+        Call::Find => pool.find(rt, given)?,
+        Call::Look => pool.look(rt, given)?,
+        Call::Trim => pool.trim(rt, given)?,
+        Call::List => pool.list(rt, given, asked, answers)?,
+        Call::Copy => pool.copy(rt, given, asked)?,
+    }
+    Ok(())
+}
+
 // The head of the pool, the party that calls, and how many words of the two buffers are lent.
 #[derive(Clone, Copy)]
-struct Pool {
+struct Lent {
     head: Head,
     party: u32,
     words: usize,
     slots: usize,
 }
 
-// ---- printing
-
-fn show_memory(head: Head, arena: &[u32], table: &[u32]) {
-    print(b"  head");
-    print_number(head.root);
-    print_number(head.next);
-    print_number(head.form);
-    print(b"\n");
-    show(b"  arena", arena);
-    show(b"  table", table);
-}
-
-fn show_outcome(outcome: Outcome, arena: &[u32], table: &[u32]) -> Head {
-    show_answer(outcome.answer);
-    show_memory(outcome.head, arena, table);
-    outcome.head
-}
-
-// So many words of the arena, as far as there are any.
-fn show_words(arena: &[u32], from: usize, count: usize) {
-    let a = least(from, arena.len());
-    let n = least(count, arena.len() - a);
-    show(b"  words", &arena[a..a + n]);
-}
-
-// ---- commands
-
-// Number i of a line, or 1 if it has not so many.
-fn number_or_one(given: &[u32], count: usize, i: usize) -> u32 {
-    if i < count { word(given, i) } else { 1 }
-}
-
-fn head_of(given: &[u32], count: usize) -> Head {
-    Head {
-        root: word(given, 0),
-        next: word(given, 1),
-        form: number_or_one(given, count, 2),
-    }
-}
-
-// A refused format hands back a head of zeros; the pool keeps the head that it had.
-fn run_format(head: Head, arena: &mut [u32], table: &mut [u32], form: u32, first: u32) -> Head {
-    let outcome = tree_pool::format(form, arena, table, first);
-    let new = show_outcome(outcome, arena, table);
-    let answer = outcome.answer;
-    if answer.number == 0 { new } else { head }
-}
-
-fn run_allocate(head: Head, arena: &mut [u32], table: &mut [u32], party: u32, words: u32) -> Head {
-    let outcome = tree_pool::allocate(head, arena, table, party, words);
-    show_outcome(outcome, arena, table)
-}
-
-fn run_release(head: Head, arena: &mut [u32], table: &mut [u32], named: Row) -> Head {
-    let outcome = tree_pool::release(head, arena, table, named);
-    show_outcome(outcome, arena, table)
-}
-
-// The fourth given number is the words to keep.
-fn run_trim(head: Head, arena: &mut [u32], table: &mut [u32], party: u32, given: &[u32]) -> Head {
-    let outcome = tree_pool::trim(head, arena, table, row(given, party), word(given, 3));
-    show_outcome(outcome, arena, table)
-}
-
-fn run_find(head: Head, arena: &[u32], table: &[u32], named: Row) -> Head {
-    let answer = tree_pool::find(head, arena, table, named);
-    show_answer(answer);
-    show_memory(head, arena, table);
-    head
-}
-
-fn run_look<'a>(
-    head: Head,
-    arena: &'a [u32],
-    table: &[u32],
-    placeholder: &'a [u32],
-    named: Row,
-) -> Head {
-    let shown = tree_pool::look(head, arena, table, placeholder, named);
-    show(b"  shown", shown);
-    show_memory(head, arena, table);
-    head
-}
-
-fn run_list(
-    head: Head,
-    arena: &mut [u32],
-    table: &mut [u32],
-    party: u32,
-    asked: &[u32],
-    answers: &mut [u32],
-) -> Head {
-    let k = answers.len();
-    put_all(answers, 0, k, 7);
-    let outcome = tree_pool::list(head, arena, table, party, asked, answers);
-    show_answer(outcome.answer);
-    show(b"  answers", answers);
-    show_memory(outcome.head, arena, table);
-    outcome.head
-}
-
-// The commands that call the pool but for list and copy; a line with no command does nothing.
-fn serve(
-    head: Head,
-    party: u32,
-    line: &[u8],
-    arena: &mut [u32],
-    table: &mut [u32],
-    given: &[u32],
-    count: usize,
-) -> Head {
-    if is(line, b'f', b'o') {
-        let form = number_or_one(given, count, 0);
-        return run_format(head, arena, table, form, number_or_one(given, count, 1));
-    }
-    if is(line, b'a', b'l') {
-        return run_allocate(head, arena, table, party, word(given, 0));
-    }
-    if is(line, b'r', b'e') {
-        return run_release(head, arena, table, row(given, party));
-    }
-    if is(line, b't', b'r') {
-        return run_trim(head, arena, table, party, given);
-    }
-    if is(line, b'f', b'i') {
-        return run_find(head, arena, table, row(given, party));
-    }
-    if is(line, b'l', b'o') {
-        return run_look(
-            head,
-            arena,
-            table,
-            &[777777777, 888888888],
-            row(given, party),
-        );
-    }
-    set(head, line, arena, table, given, count)
-}
-
-// The commands that set the lent memory and the head, or show words.
-fn set(
-    head: Head,
-    line: &[u8],
-    arena: &mut [u32],
-    table: &mut [u32],
-    given: &[u32],
-    count: usize,
-) -> Head {
-    if is(line, b'a', b'r') {
-        write(arena, given, count);
-        return head;
-    }
-    if is(line, b't', b'a') {
-        write(table, given, count);
-        return head;
-    }
-    if is(line, b'h', b'e') {
-        return head_of(given, count);
-    }
-    if is(line, b'w', b'o') {
-        show_words(arena, word(given, 0) as usize, word(given, 1) as usize);
-    }
-    head
-}
-
-// An old table is made of the given words, and copied into the table.
-fn copy_into(table: &mut [u32], given: &[u32], count: usize, old: &mut [u32]) {
-    write_list(old, given, count);
-    let n = least(word(given, 0) as usize, old.len());
-    let t = least(word(given, 1) as usize, table.len());
-    let zero = 0;
-    let number = old_tables::copy_table(&old[zero..n], &mut table[zero..t]);
-    print(b"  number");
-    print_number(number);
-    print(b"\n");
-}
-
-// A list is made of the given words.
-fn make_list(
-    head: Head,
-    party: u32,
-    arena: &mut [u32],
-    table: &mut [u32],
-    given: &[u32],
-    count: usize,
-    asked: &mut [u32],
-    answers: &mut [u32],
-) -> Head {
-    write_list(asked, given, count);
-    let n = least(word(given, 0) as usize, asked.len());
-    let k = least(word(given, 1) as usize, answers.len());
-    let zero = 0;
-    run_list(
-        head,
-        arena,
-        table,
-        party,
-        &asked[zero..n],
-        &mut answers[zero..k],
-    )
-}
-
-// A list, a copy, or any other line.
-fn serve_line(
-    head: Head,
-    party: u32,
-    line: &[u8],
-    arena: &mut [u32],
-    table: &mut [u32],
-    given: &[u32],
-    count: usize,
-    asked: &mut [u32],
-    answers: &mut [u32],
-) -> Head {
-    if is(line, b'l', b'i') {
-        return make_list(head, party, arena, table, given, count, asked, answers);
-    }
-    if is(line, b'c', b'o') {
-        copy_into(table, given, count, asked);
-        show_memory(head, arena, table);
-        return head;
-    }
-    serve(head, party, line, arena, table, given, count)
-}
-
-// The head of a pool of form 1 that has no free block and no ticket left.
-const NO_BLOCK: Head = Head {
-    root: 0,
-    next: 0,
-    form: 1,
+// A pool of form 1 that has no free block and no ticket left, and no words.
+const NOTHING: Lent = Lent {
+    head: Head {
+        root: 0,
+        next: 0,
+        form: 1,
+    },
+    party: 1,
+    words: 0,
+    slots: 0,
 };
 
-// Zeros in both buffers, and so many of their words lent.
-fn lend(arena: &mut [u32], table: &mut [u32], given: &[u32]) -> Pool {
-    words::fill(arena, 0);
-    words::fill(table, 0);
-    Pool {
-        head: NO_BLOCK,
-        party: 1,
-        words: word(given, 0) as usize,
-        slots: word(given, 1) as usize,
-    }
-}
-
-// The pool, called by this party.
-fn of_party(pool: Pool, party: u32) -> Pool {
-    let head = pool.head;
-    Pool {
-        head,
-        party,
-        words: pool.words,
-        slots: pool.slots,
-    }
-}
-
 fn run_line(
-    pool: Pool,
+    rt: &impl Print,
+    lent: Lent,
     line: &[u8],
     arena: &mut [u32],
     table: &mut [u32],
-    given: &mut [u32],
     asked: &mut [u32],
     answers: &mut [u32],
-) -> Pool {
-    let count = read_line(line, given);
-    if is(line, b'l', b'e') {
-        return lend(arena, table, given);
-    }
-    if is(line, b'p', b'a') {
-        return of_party(pool, word(given, 0));
-    }
-    let w = least(pool.words, arena.len());
-    let t = least(pool.slots, table.len());
-    let zero = 0;
-    let a = &mut arena[zero..w];
-    let head = serve_line(
-        pool.head,
-        pool.party,
-        line,
-        a,
-        &mut table[zero..t],
-        given,
-        count,
-        asked,
-        answers,
-    );
-    Pool {
-        head,
-        party: pool.party,
-        words: w,
-        slots: t,
+) -> io::Result<Lent> {
+    let given = read_line(rt, line)?;
+    match command_of(line) {
+        None => Ok(lent),
+        Some(Command::Lend) => {
+            arena.fill(0);
+            table.fill(0);
+            Ok(Lent {
+                words: given.word(0) as usize,
+                slots: given.word(1) as usize,
+                ..NOTHING
+            })
+        }
+        Some(Command::Party) => Ok(Lent {
+            party: given.word(0),
+            ..lent
+        }),
+        Some(Command::OnPool(call)) => {
+            let w = lent.words.min(arena.len());
+            let t = lent.slots.min(table.len());
+            let mut pool = Pool {
+                head: lent.head,
+                party: lent.party,
+                arena: &mut arena[..w],
+                table: &mut table[..t],
+            };
+            serve(rt, &mut pool, call, &given, asked, answers)?;
+            Ok(Lent {
+                head: pool.head,
+                ..lent
+            })
+        }
     }
 }
 
-fn run(
-    text: &[u8],
-    arena: &mut [u32],
-    table: &mut [u32],
-    given: &mut [u32],
-    asked: &mut [u32],
-    answers: &mut [u32],
-) {
-    let mut pool = Pool {
-        head: NO_BLOCK,
-        party: 1,
-        words: 0,
-        slots: 0,
-    };
-    let mut at = 0;
-    while at < text.len() {
-        let end = until(text, at, b'\n');
-        let next = end + 1;
-        pool = run_line(pool, &text[at..end], arena, table, given, asked, answers);
-        at = next;
+fn main(rt: HostRuntime) -> io::Result<()> {
+    let mut text = Vec::new(rt.alloc());
+    rt.stdin().take(131072).read_to_end(&mut text)?;
+    let mut arena = [0; 300000];
+    let mut table = [0; 1100];
+    let mut asked = [0; 4200];
+    let mut answers = [0; 4200];
+    let mut lent = NOTHING;
+    for line in text.split_inclusive(|b| *b == b'\n') {
+        let line = line.strip_suffix(b"\n").unwrap_or(line);
+        lent = run_line(
+            &rt,
+            lent,
+            line,
+            &mut arena,
+            &mut table,
+            &mut asked,
+            &mut answers,
+        )?;
     }
-}
-
-fn main() {
-    let mut text = [0u8; 131072];
-    let n = io::read_full(0, &mut text);
-    let mut arena = [0u32; 300000];
-    let mut table = [0u32; 1100];
-    let mut given = [0u32; 256];
-    let mut asked = [0u32; 4200];
-    let mut answers = [0u32; 4200];
-    run(
-        &text[..n],
-        &mut arena,
-        &mut table,
-        &mut given,
-        &mut asked,
-        &mut answers,
-    );
+    Ok(())
 }

@@ -1,0 +1,2 @@
+-- What the test programs promise of their helpers.
+pub mod Forms

@@ -8,6 +8,8 @@ ghost use Rattle.free_tree.specs.Links.{link_of};
 ghost use Rattle.insert_counts.specs.Map.{Paired, Mapped, Fits, Marked};
 
 use free_tree::{count_of, link_of};
+use std::{fmt, io};
+use testing::printing::Shown;
 use testing::{pick, stirred};
 use tree_nodes::forms::cell_count;
 
@@ -188,23 +190,34 @@ fn opened(form: u32, arena: &mut [u32], map: &mut [u32], seed: u64) -> Round
     }
 }
 
-fn report(round: Round) {
-    testing::print_count(round.insertions, b" insertions, ");
-    testing::print_count(round.links, b" links stored, ");
-    testing::print_count(round.differences, b" differences\n");
+impl fmt::Display for Round {
+    fn fmt<W: fmt::Write>(&self, f: &mut fmt::Formatter<W>) -> fmt::Result {
+        write!(
+            f,
+            "{} insertions, {} links stored, {} differences",
+            self.insertions, self.links, self.differences
+        )
+    }
 }
 
-fn play(form: u32, arena: &mut [u32], map: &mut [u32], before: &mut [u32], most: usize, seed: u64) {
+fn play(
+    rt: &impl Print,
+    form: u32,
+    arena: &mut [u32],
+    map: &mut [u32],
+    before: &mut [u32],
+    most: usize,
+    seed: u64,
+) -> io::Result<()> {
     if map.len() != cell_count(form, arena.len()) {
-        return;
+        return Ok(());
     }
     if 8192 < map.len() {
-        return;
+        return Ok(());
     }
     let start = opened(form, arena, map, seed);
     let done = turns(start, arena, map, before, most, 600);
-    testing::print_count(arena.len() as u64, b" words: ");
-    report(done);
+    println!(rt; "{} words: {done}", arena.len())
 }
 
 // 01, T8: beside the block of cells 0 to 2 the block of cells 5 to 7 is inserted.
@@ -216,17 +229,23 @@ fn sheet_blocks(start: Round, arena: &mut [u32], map: &mut [u32], before: &mut [
     step(first, arena, map, before, 5, 3)
 }
 
-fn bench_sheet(form: u32, arena: &mut [u32], map: &mut [u32], before: &mut [u32]) {
+fn bench_sheet(
+    rt: &impl Print,
+    form: u32,
+    arena: &mut [u32],
+    map: &mut [u32],
+    before: &mut [u32],
+) -> io::Result<()> {
     if map.len() != cell_count(form, arena.len()) {
-        return;
+        return Ok(());
     }
     if 8192 < map.len() {
-        return;
+        return Ok(());
     }
     let start = opened(form, arena, map, 0);
     let done = sheet_blocks(start, arena, map, before);
-    testing::show(b"T8:", arena);
-    report(done);
+    println!(rt; "T8:{}", Shown(arena))?;
+    println!(rt; "{done}")
 }
 
 // A round's words of arena, and the number that its blocks' cells stay below.
@@ -268,44 +287,60 @@ const SIZES: [Size; 9] = [
 
 // The same on the first words.
 fn play_on(
+    rt: &impl Print,
     form: u32,
     arena: &mut [u32],
     map: &mut [u32],
     before: &mut [u32],
     size: Size,
     seed: u64,
-) {
+) -> io::Result<()> {
     let w = size.words.min(arena.len());
     let m = cell_count(form, size.words).min(map.len());
     play(
+        rt,
         form,
         &mut arena[..w],
         &mut map[..m],
         before,
         size.most,
         seed,
-    );
+    )
 }
 
 // T8's eight cells.
-fn sheet_on(form: u32, words: usize, arena: &mut [u32], map: &mut [u32], before: &mut [u32]) {
+fn sheet_on(
+    rt: &impl Print,
+    form: u32,
+    words: usize,
+    arena: &mut [u32],
+    map: &mut [u32],
+    before: &mut [u32],
+) -> io::Result<()> {
     let w = words.min(arena.len());
     let m = cell_count(form, words).min(map.len());
-    bench_sheet(form, &mut arena[..w], &mut map[..m], before);
+    bench_sheet(rt, form, &mut arena[..w], &mut map[..m], before)
 }
 
-fn run(form: u32, arena: &mut [u32], map: &mut [u32], before: &mut [u32]) {
+fn run(
+    rt: &impl Print,
+    form: u32,
+    arena: &mut [u32],
+    map: &mut [u32],
+    before: &mut [u32],
+) -> io::Result<()> {
     for (seed, size) in SIZES.iter().enumerate() {
-        play_on(form, arena, map, before, *size, seed as u64);
+        play_on(rt, form, arena, map, before, *size, seed as u64)?;
     }
+    Ok(())
 }
 
-fn main() {
+fn main(rt: HostRuntime) -> io::Result<()> {
     let mut arena = [0u32; 16384];
     let mut map = [0u32; 8192];
     let mut before = [0u32; 16384];
-    sheet_on(1, 16, &mut arena, &mut map, &mut before);
-    run(1, &mut arena, &mut map, &mut before);
-    sheet_on(2, 32, &mut arena, &mut map, &mut before);
-    run(2, &mut arena, &mut map, &mut before);
+    sheet_on(&rt, 1, 16, &mut arena, &mut map, &mut before)?;
+    run(&rt, 1, &mut arena, &mut map, &mut before)?;
+    sheet_on(&rt, 2, 32, &mut arena, &mut map, &mut before)?;
+    run(&rt, 2, &mut arena, &mut map, &mut before)
 }

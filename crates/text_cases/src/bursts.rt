@@ -2,10 +2,9 @@
 ghost use Rattle.io.specs.Counts.{IsPrefixLen};
 
 use burst_runs::NOTHING;
-use std::fs;
 use std::io::Read;
 use std::rt::Files;
-use testing::least;
+use std::{fs, io};
 
 // The bytes of a file, at the start of `out`: how many. A file that can't be opened has none.
 fn read_file<R: Files>(rt: &R, name: &str, out: &mut [u8]) -> usize
@@ -42,19 +41,18 @@ fn answers_to<R: Files>(rt: &R, name: &str, out: &mut [u8]) -> usize
 }
 
 // The case in bursts, held to the answers of the text program.
-fn try_text(text: &[u8], answers: &[u8], due: &mut [u8]) {
-    let one = burst_runs::run(text, due, 128, NOTHING);
-    let n = least(one.all, due.len());
-    let same = check::same(&due[..n], answers);
-    let tally = one.tally;
-    burst_runs::report(burst_runs::compared(tally, same, b"the text program"));
+fn try_text(rt: &impl Print, text: &[u8], answers: &[u8], due: &mut [u8]) -> io::Result<()> {
+    let mut tally = NOTHING;
+    let n = tally.run(rt, text, due, 128)?;
+    tally.compare(rt, &due[..n] == answers, "the text program")?;
+    println!(rt; "{tally}")
 }
 
-pub fn run_case<R: Files>(rt: &R, name: &str) {
+pub fn run_case<R: Files + Print>(rt: &R, name: &str) -> io::Result<()> {
     let mut text = [0u8; 131072];
     let mut answers = [0u8; 262144];
     let mut due = [0u8; 262144];
     let n = read_file(rt, name, &mut text);
     let m = answers_to(rt, name, &mut answers);
-    try_text(&text[..n], &answers[..m], &mut due);
+    try_text(rt, &text[..n], &answers[..m], &mut due)
 }

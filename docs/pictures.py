@@ -44,7 +44,7 @@ TEXT, LEFT, RIGHT, SIDE, BOTH, ALL = (160, 380), (390, 700), (710, 1020), (1030,
 
 # row from the bottom, rows high, columns, colour, name, what it holds
 CRATES = [
-    (0, 1, ALL, MEANING, "words", "lists, counted tests, words by place; wipe and zero test"),
+    (0, 1, ALL, MEANING, "words", "lists, counted tests, words by place; fill and zero test"),
     (0, 1, TEXT, OUTER, "text", "numbers, fields, lines; bursts"),
     (1, 1, TEXT, OUTER, "word_bytes", "words as bytes"),
     (10, 1, TEXT, OUTER, "session", "its meaning, its bytes, its calls"),

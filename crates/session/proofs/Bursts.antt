@@ -1,8 +1,8 @@
 -- The promise over bursts: specs/Bursts. Assumes nothing.
 use Prim.Native.Nat.{ℕ, ◌+◌, ◌*◌, ◌-◌, ◌≤◌, ◌<◌}
 use mathlib.Core.Path.{◌≡◌, refl, sym, ap, ap₂, ◌∙◌, subst}
-use mathlib.Core.Logic.{◌⊎◌, inl, inr}
-use mathlib.Core.Bool.{Bool, true, false, cond, false≢true}
+use mathlib.Core.Logic.{inl, inr}
+use mathlib.Core.Bool.{Bool, true, false, cond}
 use mathlib.Core.List.{List, [], ◌∷◌, ◌++◌, map, append-nil}
 use native.Mathlib.Omega.{arith}
 use lib.Dec.{eqb, leb}
@@ -11,14 +11,14 @@ use lib.Seq.{sets, sets-eq, take_at, drop_at}
 use borrow.Author.Tests.{leb-true}
 use Rattle.words.proofs.Tests.{eqb_eq, of_le}
 use Rattle.text.specs.Numbers.{Bytes}
-use Rattle.text.specs.Lines.{Served, Fed, feed, finish, ended, also, lines_of, serve_all}
+use Rattle.text.specs.Lines.{Served, Fed, feed, finish, ended, lines_of, serve_all}
 use Rattle.text.specs.Rooms.{Burst, Offer, burst}
 use Rattle.text.specs.Rooms as rooms
 use Rattle.text.proofs.RoomLaws.{Took, burst_took, burst_whole, burst_taken, burst_alone, answers_fit, any_handing, said_short}
 use Rattle.text.proofs.RoomLaws as RoomLaws
 use Rattle.text.proofs.WholeLines.{whole_lines}
 use Rattle.session.specs.Meaning.{Standing, before, serve, program, program_end}
-use Rattle.session.specs.State.{Session, session, state_bytes, bytes_of, session_in, is_state}
+use Rattle.session.specs.State.{Session, session, state_bytes, bytes_of}
 use Rattle.session.specs.Calls.{Reply, unchanged, answering, gated, start_call, burst_done, burst_call, end_done, end_call}
 use Rattle.session.specs.Bursts.{Delivery, delivery, Talk, talk, HandsOver, AllZeroOrTen, begun, most_answer, Bursts, AllBursts}
 use Rattle.session.specs.Bursts as bursts

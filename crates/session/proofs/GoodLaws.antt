@@ -1,7 +1,7 @@
 -- Bytes lead from a good session to a good one. Assumes nothing.
-use Prim.Native.Nat.{ℕ, ◌+◌, ◌*◌, ◌≤◌}
-use mathlib.Core.Path.{◌≡◌, refl, sym, ap, ap₂, ◌∙◌}
-use mathlib.Core.Bool.{Bool, true, false, cond, not, ◌&&◌, ◌||◌, and-false, or-true}
+use Prim.Native.Nat.{ℕ, ◌*◌, ◌≤◌}
+use mathlib.Core.Path.{◌≡◌, refl, ap, ◌∙◌}
+use mathlib.Core.Bool.{Bool, true, false, cond, not, ◌&&◌, and-false, or-true}
 use mathlib.Core.List.{List, [], ◌∷◌, ◌++◌}
 use mathlib.Core.Option as plans
 use mathlib.Core.Option.{none, some}
@@ -10,7 +10,7 @@ use lib.Dec.{eqb, leb, ltb}
 use lib.ListN.{length, drop, replicate, length-append, length-replicate}
 use borrow.Author.Tests.{ltb-false}
 use Rattle.words.specs.Lists.{all}
-use Rattle.words.proofs.Tests.{and_l, and_r, and_i, le_of, of_le, eqb_eq, eqb_same, eqb_ne}
+use Rattle.words.proofs.Tests.{and_l, and_r, and_i, le_of, of_le, eqb_eq, eqb_ne}
 use Rattle.words.proofs.ByPlace.{all_replicate}
 use Rattle.words.proofs.ListLaws.{all_map, all_append}
 use Rattle.ledger.specs.declared.Row.{Row}
@@ -18,7 +18,7 @@ use Rattle.ledger.specs.Records.{Ledger, record_words, slots, empty_row, is_empt
 use Rattle.ledger.specs.Records.{plan_for, settle}
 use Rattle.ledger.proofs.RecordLaws.{carry_by}
 use Rattle.calls.specs.Pool.{Pool, ledger, word_count, Engine, next_after, sound}
-use Rattle.calls.specs.Step.{Outcome, Act, ask, give, query, cut, bad, accepted, new_row, pool_after, step, format, blank}
+use Rattle.calls.specs.Step.{Outcome, Act, ask, give, query, cut, bad, accepted, new_row, pool_after, blank}
 use Rattle.calls.specs.Engines.{tree_engine}
 use Rattle.calls.proofs.Engines.{tree_laws, tree_demand2}
 use Rattle.calls.proofs.ActLaws.{act_by}
@@ -29,8 +29,8 @@ use Rattle.calls.proofs.Demand2.{act_sound, act_shape}
 use Rattle.tree_check.specs.Gate.{tree_pool, no_head}
 use Rattle.std.specs.Prelude.{Option, Some, None}
 use Rattle.text.specs.Numbers.{Bytes}
-use Rattle.text.specs.Fields.{pair_of, triple_of, line_of}
-use Rattle.text.specs.Lines.{Served, Fed, most_bytes, keep, also, feed, finish}
+use Rattle.text.specs.Fields.{pair_of, triple_of}
+use Rattle.text.specs.Lines.{most_bytes, keep, also, feed}
 use Rattle.word_bytes.specs.Little.{is_other}
 use Rattle.session.specs.declared.LineRequest.{LineRequest}
 use Rattle.session.specs.declared.LineRequest.TheVariants as request

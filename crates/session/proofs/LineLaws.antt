@@ -1,12 +1,12 @@
 -- An answer has at most 35 bytes, and of a line 65 bytes decide it. Assumes nothing.
 use Prim.Native.Nat.{ℕ, zero, suc, ◌+◌, ◌*◌, ◌/◌, ◌%◌, ◌≤◌, ◌<◌}
-use mathlib.Core.Path.{◌≡◌, refl, sym, ap, ap₂, ◌∙◌}
-use mathlib.Core.Bool.{Bool, true, false, cond, ◌&&◌, and-false}
+use mathlib.Core.Path.{◌≡◌, refl, sym, ap, ◌∙◌}
+use mathlib.Core.Bool.{Bool, true, false, cond, and-false}
 use mathlib.Core.List.{List, [], ◌∷◌, ◌++◌}
 use native.Mathlib.Decide.{dec_le}
 use native.Mathlib.Omega.{arith}
-use lib.Dec.{eqb, leb, ltb}
-use lib.ListN.{length, get_or, take, drop, length-append, length-take}
+use lib.Dec.{leb, ltb}
+use lib.ListN.{length, drop, length-append, length-take}
 use lib.Seq.{take_all}
 use Rattle.words.proofs.Tests.{of_gt}
 use Rattle.calls.specs.declared.Answer.{Answer}
@@ -19,7 +19,6 @@ use Rattle.text.specs.Lines.{Served, most_bytes}
 use Rattle.text.proofs.WriteLaws.{line_long}
 use Rattle.text.proofs.WholeLines.{front}
 use Rattle.session.specs.declared.LineRequest.{LineRequest}
-use Rattle.session.specs.declared.LineRequest.TheVariants as request
 use Rattle.session.specs.Meaning.{Standing, before, serving, stopped, served, serve, act_line, fresh, opening, opened}
 use Rattle.session.specs.Meaning.{begins, bad_first, three_numbers, two_numbers, first_line, request_of, answer_line}
 use Rattle.session.specs.Meaning.{act_of, refusal_line, most_text_words}

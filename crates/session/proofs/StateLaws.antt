@@ -1,18 +1,17 @@
 -- A good session is had back from its state, which has the state's length. Assumes nothing.
-use Prim.Native.Nat.{ℕ, ◌+◌, ◌*◌, ◌-◌, ◌/◌, ◌%◌, ◌≤◌, ◌<◌}
+use Prim.Native.Nat.{ℕ, ◌*◌, ◌-◌, ◌≤◌, ◌<◌}
 use mathlib.Core.Path.{◌≡◌, refl, sym, ap, ap₂, ◌∙◌}
-use mathlib.Core.Bool.{Bool, true, false, cond, ◌&&◌}
-use mathlib.Core.List.{List, [], ◌∷◌, ◌++◌, append_assoc}
+use mathlib.Core.Bool.{true}
+use mathlib.Core.List.{[], ◌∷◌, ◌++◌, append_assoc}
 use native.Mathlib.Nat.{zero-add}
 use native.Mathlib.Omega.{arith}
-use lib.Dec.{eqb, leb}
 use lib.ListN.{length, get_or, take, drop, replicate, length-append, length-replicate}
 use lib.Seq.{take_at, drop_at}
 use Rattle.words.specs.Lists.{Words, list_from, same_words}
 use Rattle.words.proofs.Tests.{and_l, and_r, and_i, le_of}
-use Rattle.words.proofs.ListLaws.{same_words_same, same_words_eq}
+use Rattle.words.proofs.ListLaws.{same_words_same}
 use Rattle.ledger.specs.Records.{record_words, slots}
-use Rattle.calls.specs.Pool.{Pool, Head, word_count, ledger, most_records, lengths, sound, store}
+use Rattle.calls.specs.Pool.{Pool, word_count, ledger, most_records, lengths, store}
 use Rattle.calls.specs.Engines.{tree_engine}
 use Rattle.calls.proofs.Engines.{tree_laws}
 use Rattle.calls.proofs.StoreLaws.{whole_records, sound_lengths, is_store}
@@ -21,9 +20,9 @@ use Rattle.text.specs.Numbers.{Bytes}
 use Rattle.word_bytes.specs.Little.{word_at, bytes_of_words}
 use Rattle.word_bytes.proofs.LittleLaws.{length_bytes, word_there, words_there}
 use Rattle.session.specs.Meaning.{Standing, before, serving, stopped, most_text_words, text_form}
-use Rattle.session.specs.State.{Session, session, table_from, arena_from, state_bytes, stage_of, head_of, table_in, arena_in}
+use Rattle.session.specs.State.{session, table_from, arena_from, state_bytes, stage_of, head_of, table_in, arena_in}
 use Rattle.session.specs.State.{padded, bytes_of, pool_in, standing_in, session_in, right_pool, good, is_state}
-use Rattle.session.proofs.GoodLaws.{right_sound, right_form, right_words, Good, good_parts, good_of}
+use Rattle.session.proofs.GoodLaws.{right_sound, right_form, right_words, Good, good_of}
 
 pub length_padded : (n : ℕ) (bs : Bytes) → length bs ≤ n → length (padded n bs) ≡ n
 length_padded n bs h =

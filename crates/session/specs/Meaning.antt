@@ -1,6 +1,6 @@
 -- The meaning of the text program, from input bytes to output bytes, over the machine. 01, "The text program". Letters
 -- and tabs are bytes: A is 65, K 75, N 78, P 80, R 82, T 84, a tab 9. Assumes nothing.
-use Rattle.std.specs.Prelude.{ℕ, ◌*◌, Bool, cond, ◌&&◌, List, [], ◌∷◌, ◌++◌, eqb, leb, length, get_or, drop, replicate, Option, Some, None}
+use Rattle.std.specs.Prelude.{ℕ, ◌*◌, Bool, cond, ◌&&◌, List, [], ◌∷◌, eqb, leb, length, get_or, drop, replicate, Option, Some, None}
 use Rattle.ledger.specs.Records.{row, record_words}
 use Rattle.calls.specs.declared.Answer.{Answer}
 use Rattle.calls.specs.Pool.{Pool}

@@ -1,5 +1,5 @@
 -- Fields of a line: where the first tab is, and a step of the loop that reads numbers. Assumes nothing.
-use Rattle.std.proofs.Common.{ℕ, zero, suc, ◌+◌, ◌<◌, ◌≡◌, Bool, true, false, cond, not, position, drop, List, [], ◌∷◌, ◌++◌, length, take, refl, sym, ap, ◌∙◌, one-add, ne_eqb, eq-eqb, arith}
+use Rattle.std.proofs.Common.{get_or, ℕ, zero, suc, ◌+◌, ◌<◌, ◌≡◌, Bool, true, false, cond, not, position, drop, List, [], ◌∷◌, ◌++◌, length, take, refl, sym, ap, ◌∙◌, one-add, ne_eqb, eq-eqb, arith}
 use borrow.Author.Tests.{ltb-true, ltb-false, le-leb, lt-leb}
 use Rattle.std.proofs.lemmas.Option.{cond_some}
 use Rattle.std.specs.Prelude.{Option, Some, None, option_map, option_and_then, eqb, leb}
@@ -131,3 +131,43 @@ quad_is s =
     let b = triple_of (after_tab s) in
     numbers_more 2 s ∙ ap (λ x. cond t None (with_more a x)) (triple_is (after_tab s)) ∙ ap (λ x. cond t None x) (three_more a b)
     ∙ mapped quad_list t (four a b)
+
+-- ---- what was read, by what the code answers
+
+was_none : {A B : Type 0} (f : A → B) (o : Option A) → None ≡ option_map f o → o ≡ None
+was_none f None e = refl
+was_none f (Some x) e = cc
+
+was_pair : (o : Option (ℕ × ℕ)) (ns : List ℕ) → Some ns ≡ option_map pair_list o → o ≡ Some (get_or ns 0 0, get_or ns 1 0)
+was_pair None ns e = cc
+was_pair (Some (x, y)) ns e = let q : ns ≡ x ∷ y ∷ [] = cc in rw q
+
+was_triple : (o : Option (ℕ × ℕ × ℕ)) (ns : List ℕ) → Some ns ≡ option_map triple_list o
+    → o ≡ Some (get_or ns 0 0, get_or ns 1 0, get_or ns 2 0)
+was_triple None ns e = cc
+was_triple (Some (x, y, z)) ns e = let q : ns ≡ x ∷ y ∷ z ∷ [] = cc in rw q
+
+was_quad : (o : Option (ℕ × ℕ × ℕ × ℕ)) (ns : List ℕ) → Some ns ≡ option_map quad_list o
+    → o ≡ Some (get_or ns 0 0, get_or ns 1 0, get_or ns 2 0, get_or ns 3 0)
+was_quad None ns e = cc
+was_quad (Some (w, x, y, z)) ns e = let q : ns ≡ w ∷ x ∷ y ∷ z ∷ [] = cc in rw q
+
+module _ (s : Bytes) where
+  pub pair_none : None ≡ numbers_of 2 s → pair_of s ≡ None
+  pair_none e = was_none pair_list (pair_of s) (e ∙ pair_is s)
+
+  pub triple_none : None ≡ numbers_of 3 s → triple_of s ≡ None
+  triple_none e = was_none triple_list (triple_of s) (e ∙ triple_is s)
+
+  pub quad_none : None ≡ numbers_of 4 s → quad_of s ≡ None
+  quad_none e = was_none quad_list (quad_of s) (e ∙ quad_is s)
+
+  module _ (ns : List ℕ) where
+    pub pair_some : Some ns ≡ numbers_of 2 s → pair_of s ≡ Some (get_or ns 0 0, get_or ns 1 0)
+    pair_some e = was_pair (pair_of s) ns (e ∙ pair_is s)
+
+    pub triple_some : Some ns ≡ numbers_of 3 s → triple_of s ≡ Some (get_or ns 0 0, get_or ns 1 0, get_or ns 2 0)
+    triple_some e = was_triple (triple_of s) ns (e ∙ triple_is s)
+
+    pub quad_some : Some ns ≡ numbers_of 4 s → quad_of s ≡ Some (get_or ns 0 0, get_or ns 1 0, get_or ns 2 0, get_or ns 3 0)
+    quad_some e = was_quad (quad_of s) ns (e ∙ quad_is s)

@@ -7,8 +7,8 @@ use native.Mathlib.Numerals.{add-one}
 use native.Mathlib.Nat.{add-zero, sub-zero}
 use native.Mathlib.Omega.{arith}
 use lib.Dec.{leb}
-use lib.ListN.{length, get_or, take, drop, length-append, drop_of_length-le}
-use lib.Seq.{sets, drop-cons, length-sets, take_at, sets-eq}
+use lib.ListN.{length, get_or, take, drop, length-append, drop_of_length-le, length-drop}
+use lib.Seq.{take_all, drop-drop, sets, drop-cons, length-sets, take_at, sets-eq}
 use Rattle.text.specs.Numbers.{Bytes}
 use Rattle.text.specs.Fields.{Wrote}
 use Rattle.text.specs.Lines.{run}
@@ -78,13 +78,27 @@ next_line s t k kept chunk from e r h out left at to fits st w =
     ∙ landed_on out left at to x.said (burst serve (length out - at - length x.said) x.state [] (drop (e + 1) chunk)) w
     ∙ sym (rw (line_is (length out - at) s k kept chunk from e r h, fits))
 
--- a line that was answered in a small buffer
+-- a line that was put in a buffer of its own
 pub small_said : (said small left : Bytes) (n : ℕ) → length said ≤ length small → Wrote small left 0 n said
-    → take (n - 0) left ≡ said
+    → take n left ≡ said
 small_said said small left n h w =
-    let e : n - 0 ≡ length said = omega (arith, w.0) in
+    let e : n ≡ length said = omega (arith, w.0) in
     ap (λ (m : ℕ). take m left) e ∙ ap (take (length said)) w.1
     ∙ rw (sets-eq said small 0 (omega arith)) (take_at said (drop (0 + length said) small) (length said) refl)
+
+-- a line feed in the chunk's rest
+pub inside : (chunk : Bytes) (from n : ℕ) → from < length chunk → n ≤ length (take (length chunk - from) (drop from chunk))
+    → (from + n ≡ length chunk → ⊥) → from + n < length chunk
+inside chunk from n f h e =
+    let all = take_all (length chunk - from) (drop from chunk) (omega (arith, length-drop from chunk)) in
+    omega (arith, f, rw all at h, length-drop from chunk, e)
+
+-- bytes kept of the chunk's rest
+pub run_from : (k kept chunk : Bytes) (from n : ℕ) → (let rest = take (length chunk - from) (drop from chunk) in
+    record { kept = kept; rest = drop n rest } ≡ run k rest) → record { kept = kept; rest = drop (from + n) chunk } ≡ run k (drop from chunk)
+run_from k kept chunk from n r =
+    let e = take_all (length chunk - from) (drop from chunk) (omega (arith, length-drop from chunk)) in
+    rw (← drop-drop n from chunk) (rw e at r)
 
 -- at the start all of the output is room
 pub from_start : (out : Bytes) (s : Standing) (k chunk : Bytes)

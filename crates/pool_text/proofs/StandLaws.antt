@@ -6,6 +6,7 @@ use mathlib.Core.Bool.{true, ◌&&◌}
 use mathlib.Core.List.{[]}
 use lib.Dec.{leb}
 use lib.ListN.{length, take}
+use Rattle.std.specs.Prelude.{Option}
 use Rattle.words.specs.Lists.{Words}
 use Rattle.words.proofs.Tests.{and_l, and_r, and_i, le_of, of_le}
 use Rattle.ledger.specs.Records.{record_words}
@@ -26,7 +27,7 @@ use Rattle.pool_text.specs.declared.Stage.{Stage}
 use Rattle.pool_text.specs.declared.Stage.TheVariants.{Before, Serving, Stopped}
 use Rattle.session.specs.Meaning.{Standing, serving, stopped, served, serve, act_line}
 use Rattle.session.specs.Meaning.{act_of, request_of, answer_line, refusal_line}
-use Rattle.pool_text.specs.Session.{own_pool, standing_of, ready, Lent, Became}
+use Rattle.pool_text.specs.Session.{own_pool, standing_of, ready, Lent, Became, Came}
 
 -- what is known of a session with a pool
 module _ (o : Own) (a t : Words) (l : Lent (Serving o) a t) where
@@ -64,17 +65,17 @@ pub became_as : {m n : Served Standing} → m ≡ n → (s : Stage) (a t : Words
     → Became s a t m out left at r → Became s a t n out left at r
 became_as e s a t out left at r b = subst (λ (x : Served Standing). Became s a t x out left at r) e b
 
+pub came_as : {m n : Served Standing} → m ≡ n → (s : Stage) (a t : Words) (said : Bytes) → Came s a t m said → Came s a t n said
+came_as e s a t said b = subst (λ (x : Served Standing). Came s a t x said) e b
+
 -- stopped, with N and a number
-pub became_stopped : (s : Stage) (a t : Words) (out left : Bytes) (at r n : ℕ) → s ≡ Stopped → length a ≡ 8192
-    → length t ≡ most_records * record_words → Wrote out left at r (refusal_line n) → Became s a t (served stopped (refusal_line n)) out left at r
-became_stopped s a t out left at r n e la lt w = (
-  (omega (arith, la), omega (arith, lt), ap (λ (x : Stage). ready x a t) e),
-  ap (λ (x : Stage). standing_of x a t) e,
-  w,
-)
+pub came_stopped : (s : Stage) (a t : Words) (said : Bytes) (n : ℕ) → s ≡ Stopped → length a ≤ 8192
+    → length t ≤ most_records * record_words → said ≡ refusal_line n → Came s a t (served stopped (refusal_line n)) said
+came_stopped s a t said n e la lt w =
+    ((la, lt, ap (λ (x : Stage). ready x a t) e), ap (λ (x : Stage). standing_of x a t) e, w)
 
 -- a request served: what was asked of the pool before, and the words before and after
-module _ (o : Own) (a t b u line : Bytes) (q : LineRequest) (d : Outcome) (asked : q ≡ request_of line)
+module _ (o : Own) (a t b u line : Bytes) (q : Option LineRequest) (d : Outcome) (asked : q ≡ request_of line)
     (e : handed d (take o.words b) (take (record_words * o.slots) u) [] ≡ acted tree_engine (act_of q) (own_pool o a t)) where
   abbrev own : Own
   own = record { head = d.head; words = o.words; slots = o.slots }
@@ -91,7 +92,7 @@ module _ (o : Own) (a t b u line : Bytes) (q : LineRequest) (d : Outcome) (asked
 
   asked_line : act_line (own_pool o a t) (act_of q) ≡ serve (standing_of (Serving o) a t) line
   unfolding serve
-  asked_line = ap (λ (r : LineRequest). act_line (own_pool o a t) (act_of r)) asked
+  asked_line = ap (λ (r : Option LineRequest). act_line (own_pool o a t) (act_of r)) asked
 
   pub became_served : (out left : Bytes) (at r : ℕ) → Lent (Serving o) a t → length b ≡ length a → length u ≡ length t
       → Wrote out left at r (answer_line d.answer)

@@ -1,5 +1,5 @@
 -- A session of the text program in lent memory, read as the meaning's state. 01, "The text program". Assumes nothing.
-use Rattle.std.specs.Prelude.{ℕ, ◌+◌, ◌*◌, ◌-◌, ◌≤◌, ◌≡◌, Bool, true, false, ◌&&◌, leb, length, take, drop}
+use Rattle.std.specs.Prelude.{ℕ, ◌+◌, ◌*◌, ◌-◌, ◌≤◌, ◌≡◌, Bool, true, false, ◌&&◌, leb, length, take, drop, Option, Some, None}
 use Rattle.std.proofs.lemmas.List.Edits.{sets}
 use Rattle.words.specs.Lists.{Words}
 use Rattle.ledger.specs.Records.{record_words}
@@ -13,7 +13,7 @@ use Rattle.text.specs.Rooms.{Burst, burst}
 use Rattle.pool_text.specs.declared.Own.{Own}
 use Rattle.pool_text.specs.declared.Stage.{Stage}
 use Rattle.pool_text.specs.declared.Stage.TheVariants.{Before, Serving, Stopped}
-use Rattle.pool_text.specs.declared.Tried.{Tried}
+use Rattle.pool_text.specs.declared.Place.{Place}
 use Rattle.pool_text.specs.declared.Turn.{Turn}
 use Rattle.session.specs.Meaning.{Standing, before, serving, stopped, serve}
 
@@ -47,13 +47,20 @@ abbrev pub Became : Stage → Words → Words → Served Standing → Bytes → 
 Became stage arena table m out left at r =
     Lent stage arena table × (standing_of stage arena table ≡ m.state) × Wrote out left at r m.said
 
+-- the same where what m says is to be written yet
+abbrev pub Came : Stage → Words → Words → Served Standing → Bytes → Type 0
+Came stage arena table m said = Lent stage arena table × (standing_of stage arena table ≡ m.state) × (said ≡ m.said)
+
 -- what is there after a line whose meaning is m was tried: it is done exactly if what m says has room, and else the
 -- session stands as it did, with nothing written
-abbrev pub Tries : Tried → Stage → Words → Words → Words → Words → Served Standing → Bytes → Bytes → ℕ → Type 0
-Tries r stage a t arena table m out left at =
-    (r.done ≡ leb (length m.said) (length out - at))
-    × (r.done ≡ true → Became r.stage arena table m out left at r.at)
-    × (r.done ≡ false → Lent stage arena table × (standing_of stage arena table ≡ standing_of stage a t) × (left ≡ out))
+abbrev pub Tries : Option Place → Stage → Words → Words → Words → Words → Served Standing → Bytes → Bytes → ℕ → Type 0
+Tries (Some p) stage a t arena table m out left at =
+    (leb (length m.said) (length out - at) ≡ true) × Became p.stage arena table m out left at p.at
+Tries None stage a t arena table m out left at =
+    (leb (length m.said) (length out - at) ≡ false)
+    × Lent stage arena table
+    × (standing_of stage arena table ≡ standing_of stage a t)
+    × (left ≡ out)
 
 -- ---- bursts
 
@@ -69,19 +76,15 @@ landed out at f = (f.fed.state, f.fed.kept, sets out at f.fed.said, at + length 
 -- what is there now
 abbrev pub here : Turn → Bytes → Words → Words → Bytes → Bytes → Landed
 here t line arena table chunk out =
-    (standing_of t.stage arena table, take t.kept line, out, t.at, drop t.from chunk)
+    (standing_of t.stage arena table, line, out, t.at, drop t.from chunk)
 
 -- what the rest of the burst will have made
 abbrev pub ahead : Turn → Bytes → Words → Words → Bytes → Bytes → Landed
 ahead t line arena table chunk out =
     landed out t.at
-    (burst serve (length out - t.at) (standing_of t.stage arena table) (take t.kept line) (drop t.from chunk))
+    (burst serve (length out - t.at) (standing_of t.stage arena table) line (drop t.from chunk))
 
--- inside a burst: the kept bytes lie in the 65 of `line`
-abbrev pub Going : Turn → Bytes → Words → Words → Bytes → Bytes → Type 0
-Going t line arena table chunk out =
-    Lent t.stage arena table
-    × (length line ≡ 65)
-    × (t.kept ≤ 65)
-    × (t.from ≤ length chunk)
-    × (t.at ≤ length out)
+-- inside a burst
+abbrev pub Going : Turn → Words → Words → Bytes → Bytes → Type 0
+Going t arena table chunk out =
+    Lent t.stage arena table × (t.from ≤ length chunk) × (t.at ≤ length out)

@@ -9,9 +9,8 @@ use mathlib.Core.Bool.{false, ◌||◌}
 use Rattle.words.proofs.Tests.{or_l, or_r, not_lt}
 use Rattle.pool_text.specs.declared.Own.{Own}
 use Rattle.pool_text.specs.declared.Stage.TheVariants.{Serving}
-use Rattle.session.proofs.LineLaws.{line_room}
 use Rattle.pool_text.proofs.OpenLaws.{too_large, opens_not, opens, opens_sound}
-use Rattle.pool_text.proofs.StandLaws.{lent_own, became_as, became_stopped}
+use Rattle.pool_text.proofs.StandLaws.{lent_own, lent_whole, came_as, came_stopped}
 use Rattle.pool_text.proofs.open_pool.Goals as goal
 
 small : (w k : ℕ) → (ltb 8192 w || ltb 256 k) ≡ false → (w ≤ 8192) × (k ≤ 256)
@@ -23,36 +22,28 @@ returns-then-words-slots c =
     let t = c.args.table.now in
     let e = too_large c.args.words c.args.slots c.args.first c.args.numbers.now c.if-words-slots.true in
     let r = c.stop in
-    became_as (sym e) r.result.stage a t c.args.out.now r.new.out c.args.at r.result.at
-    (became_stopped _ a t _ _ _ _ 8 r.ensures.0 c.requires.0 c.requires.1 r.ensures.1)
+    came_as (sym e) r.result.stage a t r.result.said
+    (came_stopped r.result.stage a t r.result.said 8 r.ensures.0 c.requires.0.0 c.requires.0.1 r.ensures.1)
 
-pub format_front-done-requires : goal.format_front-done-requires
-format_front-done-requires c =
-    let few = small c.args.words c.args.slots c.if-words-slots.false in
-    (omega (arith, few.0, c.requires.0), omega (arith, few.1, c.requires.1))
-
-pub returns-then-number-ne0 : goal.returns-then-number-ne0
-returns-then-number-ne0 c =
+pub returns-then-done-ne0 : goal.returns-then-done-ne0
+returns-then-done-ne0 c =
     let w = c.args.words in
     let k = c.args.slots in
     let a = c.args.arena.now in
     let t = c.args.table.now in
     let few = small w k c.if-words-slots.false in
+    let whole = lent_whole a t c.requires.0 in
     let d = c.format_front-done in
     let e = opens_not (take w a) (take (4 * k) t) w k c.args.first c.args.numbers.now
-    (length-take-le w a (omega (arith, few.0, c.requires.0)))
-    (length-take-le (4 * k) t (omega (arith, few.1, c.requires.1))) d.result _ _ d.ensures few.0
-    c.if-number-ne0.true in
-    let r = c.stop-then-number-ne0 in
+    (length-take-le w a (omega (arith, few.0, whole.0)))
+    (length-take-le (4 * k) t (omega (arith, few.1, whole.1))) d.result _ _ d.ensures few.0
+    c.if-done-ne0.true in
+    let r = c.stop-then-done-ne0 in
     let b = d.new.arena in
     let u = d.new.table in
-    became_as (sym e) r.result.stage b u c.args.out.now r.new.out c.args.at r.result.at
-    (became_stopped _ b u _ _ _ _ d.result.answer.number r.ensures.0 (d.auto.arena ∙ c.requires.0) (d.auto.table ∙ c.requires.1)
-    r.ensures.1)
-
-pub put_line-requires : goal.put_line-requires
-put_line-requires c =
-    omega (arith, c.requires.2, line_room 80 c.args.numbers.now c.requires.3)
+    came_as (sym e) r.result.stage b u r.result.said
+    (came_stopped r.result.stage b u r.result.said d.result.answer.number r.ensures.0 (omega (arith, d.auto.arena, whole.0))
+    (omega (arith, d.auto.table, whole.1)) r.ensures.1)
 
 pub returns : goal.returns
 returns c =
@@ -61,21 +52,21 @@ returns c =
     let a = c.args.arena.now in
     let t = c.args.table.now in
     let few = small w k c.if-words-slots.false in
-    let la = length-take-le w a (omega (arith, few.0, c.requires.0)) in
-    let lt = length-take-le (4 * k) t (omega (arith, few.1, c.requires.1)) in
+    let whole = lent_whole a t c.requires.0 in
+    let la = length-take-le w a (omega (arith, few.0, whole.0)) in
+    let lt = length-take-le (4 * k) t (omega (arith, few.1, whole.1)) in
     let d = c.format_front-done in
     let b = d.new.arena in
     let u = d.new.table in
     let o : Own = record { head = d.result.head; words = w; slots = k } in
     let n = c.args.first in
     let ns = c.args.numbers.now in
-    let e = opens (take w a) (take (4 * k) t) w k n ns la lt d.result _ _ d.ensures few.0 c.if-number-ne0.false in
-    let ok = opens_sound (take w a) (take (4 * k) t) w k n ns la lt d.result _ _ d.ensures few.0
-    c.if-number-ne0.false in
-    let lb = d.auto.arena ∙ c.requires.0 in
-    let lu = d.auto.table ∙ c.requires.1 in
-    became_as (sym e) (Serving o) b u c.args.out.now c.put_line.new.out c.args.at c.put_line.result (
+    let e = opens (take w a) (take (4 * k) t) w k n ns la lt d.result _ _ d.ensures few.0 c.if-done-ne0.false in
+    let ok = opens_sound (take w a) (take (4 * k) t) w k n ns la lt d.result _ _ d.ensures few.0 c.if-done-ne0.false in
+    let lb = d.auto.arena ∙ whole.0 in
+    let lu = d.auto.table ∙ whole.1 in
+    came_as (sym e) (Serving o) b u c.line.result (
       lent_own o b u (omega (arith, lb)) (omega (arith, lu)) (omega (arith, few.0, lb)) (omega (arith, few.1, lu)) ok,
       refl,
-      c.put_line.ensures,
+      c.line.ensures,
     )

@@ -7,7 +7,7 @@ use Rattle.pool_text.proofs.serve_burst.Given as goal
 
 abbrev pub invariant-loop-turn : goal.invariant-loop-turn
 invariant-loop-turn l =
-    Going l.turn l.line l.arena l.table l.chunk l.out
+    Going l.turn l.arena l.table l.chunk l.out
     × (length l.out ≡ length l.initial.out)
     × (length l.arena ≡ length l.initial.arena)
     × (length l.table ≡ length l.initial.table)

@@ -1,4 +1,4 @@
--- `pool_text::ask_answer` meets its contract: the rows 2, 3, 4, 5 in turn, then the block that was found. Assumes nothing.
+-- `pool_text::asked_row` meets its contract: the rows 2, 3, 4, 5 in turn, then the block that was found. Assumes nothing.
 use Prim.Native.Nat.{ℕ, ◌-◌, ◌*◌, ◌≤◌, ◌<◌}
 use native.Mathlib.Nat.{div-le_self}
 use native.Mathlib.Omega.{arith}
@@ -18,8 +18,11 @@ use Rattle.free_tree.specs.Held.{LeftmostFound, NodeOf}
 use Rattle.free_tree.proofs.CellLaws.{from_cell}
 use Rattle.calls.specs.Pool.{sound}
 use Rattle.calls.specs.Step.{success}
+use Rattle.std.specs.Prelude.{Some, Err}
+use borrow.Author.Rules.{rules}
+use Rattle.calls.specs.declared.Refusal.TheVariants.{NoRecord}
+use Rattle.pool_text.specs.Answers.{answer_in}
 use Rattle.calls.specs.Engines.{tree_engine}
-use Rattle.record_table.specs.declared.Found.TheVariants.{At}
 use Rattle.record_table.specs.Slots.{empty_slot}
 use Rattle.record_table.proofs.SlotLaws.{empty_found, empty_missing}
 use Rattle.call_parts.proofs.AskLaws.{ask_two, ask_three, ask_four, ask_five}
@@ -32,7 +35,7 @@ use Rattle.tree_requests.proofs.SizeLaws.{free_cells, few_cells}
 use Rattle.tree_requests.proofs.SoundLaws.{sound_lies}
 use Rattle.tree_requests.proofs.GrantLaws.{none_fits, some_units, place_inside, place_range, place_answer}
 use Rattle.session.specs.Meaning.{text_party}
-use Rattle.pool_text.proofs.ask_answer.Goals as goal
+use Rattle.pool_text.proofs.asked_row.Goals as goal
 
 ours : is_party text_party ≡ true
 unfolding is_party
@@ -50,7 +53,7 @@ fit : (h : Head) (a : Words) (n cells found : ℕ) → cells ≡ cell_span (form
 fit h a n cells found e p = subst (λ (x : ℕ). LeftmostFound (form_of h.form) a h.root x found) e p
 
 granted : (h : Head) (a t : Words) (n slot block father : ℕ) → sound tree_engine (tree_pool h a t) ≡ true
-    → (eqb n 0 || ltb (form_of h.form).limit n) ≡ false → empty_slot (records_of t) ≡ At slot → h.next ≢ 0
+    → (eqb n 0 || ltb (form_of h.form).limit n) ≡ false → empty_slot (records_of t) ≡ Some slot → h.next ≢ 0
     → LeftmostFound (form_of h.form) a h.root (cell_span (form_of h.form) n) block
     → NodeOf (form_of h.form) a h.root block father → Grantable h a t text_party n slot block father
 granted h a t n slot block father ok good none left found node = record {
@@ -82,30 +85,29 @@ unfolding tree_engine
 returns-then-words-limit_of c =
     let n = c.args.words in
     let p = tree_pool c.args.head c.args.arena.now c.args.table.now in
-    c.refused.ensures
-    ∙ sym (ask_two tree_engine p text_party n ours
+    sym (ask_two tree_engine p text_party n ours
     (ap (λ (x : ℕ). eqb n 0 || ltb x n) (sym c.limit_of.ensures) ∙ c.if-words-limit_of.true)).0
 
-pub returns-in_default : goal.returns-in_default
+pub returns-in_err-ok_or : goal.returns-in_err-ok_or
 unfolding tree_engine
-returns-in_default c =
+returns-in_err-ok_or c =
     let h = c.args.head in
     let t = c.args.table.now in
-    c.refused-in_default.ensures
+    let none : c.from_residual.result ≡ Err NoRecord = search rules in
+    ap answer_in none
     ∙ sym (ask_three tree_engine (tree_pool h c.args.arena.now t) text_party c.args.words ours
     (size h.form c.args.words c.limit_of.result c.limit_of.ensures c.if-words-limit_of.false)
-    (empty_missing t (sym c.empty_slot.ensures ∙ c.in_default.is))).0
+    (empty_missing t (sym c.empty_slot.ensures ∙ c.in_err-ok_or.ensures.ok_part))).0
 
-pub returns-then-next-eq0 : goal.returns-then-next-eq0
+pub returns-then-head-eq0 : goal.returns-then-head-eq0
 unfolding tree_engine
-returns-then-next-eq0 c =
+returns-then-head-eq0 c =
     let h = c.args.head in
     let t = c.args.table.now in
-    c.refused-then-next-eq0.ensures
-    ∙ sym (ask_four tree_engine (tree_pool h c.args.arena.now t) text_party c.args.words ours
+    sym (ask_four tree_engine (tree_pool h c.args.arena.now t) text_party c.args.words ours
     (size h.form c.args.words c.limit_of.result c.limit_of.ensures c.if-words-limit_of.false)
-    (empty_found t _ (sym c.empty_slot.ensures ∙ c.in-At.is)).1
-    (eq-eqb _ _ c.if-next-eq0.true)).0
+    (empty_found t _ (sym c.empty_slot.ensures ∙ c.in_ok-ok_or.ensures.ok_part)).1
+    (eq-eqb _ _ c.if-head-eq0.true)).0
 
 pub overflow_cast-cells : goal.overflow_cast-cells
 overflow_cast-cells c =
@@ -122,59 +124,58 @@ leftmost_fit-found-requires c =
     let t = c.args.table.now in
     (tree_of (free_cells (form_of h.form) (length a) (records_of t)), (sound_lies h a t c.requires).tree)
 
-pub returns-then-block-eq0 : goal.returns-then-block-eq0
+pub returns-then-found-eq0 : goal.returns-then-found-eq0
 unfolding tree_engine
-returns-then-block-eq0 c =
+returns-then-found-eq0 c =
     let h = c.args.head in
     let a = c.args.arena.now in
     let t = c.args.table.now in
     let n = c.args.words in
     let good = size h.form n c.limit_of.result c.limit_of.ensures c.if-words-limit_of.false in
     let found = c.leftmost_fit-found in
-    c.refused-then-block-eq0.ensures
-    ∙ sym (ask_five tree_engine (tree_pool h a t) text_party n ours good
-    (empty_found t _ (sym c.empty_slot.ensures ∙ c.in-At.is)).1
-    (ne_eqb _ _ c.if-next-eq0.false)
+    sym (ask_five tree_engine (tree_pool h a t) text_party n ours good
+    (empty_found t _ (sym c.empty_slot.ensures ∙ c.in_ok-ok_or.ensures.ok_part)).1
+    (ne_eqb _ _ c.if-head-eq0.false)
     (none_fits h a t c.requires n found.result.at (some_units h.form n good)
     (fit h a n c.cells_of-cells.result found.result.at c.cells_of-cells.ensures found.ensures.leftmost_found)
-    c.if-block-eq0.true)).0
+    c.if-found-eq0.true)).0
 
-pub first_word-requires : goal.first_word-requires
-first_word-requires c =
+pub first_word-address-requires : goal.first_word-address-requires
+first_word-address-requires c =
     let h = c.args.head in
     let a = c.args.arena.now in
     let t = c.args.table.now in
     let n = c.args.words in
     let found = c.leftmost_fit-found in
-    let g = granted h a t n c.in-At.field-0 found.result.at found.result.over c.requires
+    let g = granted h a t n c.in_ok-ok_or.field-0 found.result.at found.result.over c.requires
     (size h.form n c.limit_of.result c.limit_of.ensures c.if-words-limit_of.false)
-    (sym c.empty_slot.ensures ∙ c.in-At.is) c.if-next-eq0.false
+    (sym c.empty_slot.ensures ∙ c.in_ok-ok_or.ensures.ok_part) c.if-head-eq0.false
     (fit h a n c.cells_of-cells.result found.result.at c.cells_of-cells.ensures found.ensures.leftmost_found)
-    (found.ensures.node_of c.if-block-eq0.false) in
+    (found.ensures.node_of c.if-found-eq0.false) in
     omega (
       arith,
-      inside h a t n c.in-At.field-0 found.result.at found.result.over g,
-      few h a t n c.in-At.field-0 found.result.at found.result.over g,
+      inside h a t n c.in_ok-ok_or.field-0 found.result.at found.result.over g,
+      few h a t n c.in_ok-ok_or.field-0 found.result.at found.result.over g,
       div-le_self (length a) (form_of h.form).cell,
     )
 
-pub overflow_cast-first_word : goal.overflow_cast-first_word
-overflow_cast-first_word c =
+pub overflow_cast-address : goal.overflow_cast-address
+overflow_cast-address c =
     let h = c.args.head in
     let a = c.args.arena.now in
     let t = c.args.table.now in
     let n = c.args.words in
     let found = c.leftmost_fit-found in
-    let g = granted h a t n c.in-At.field-0 found.result.at found.result.over c.requires
+    let g = granted h a t n c.in_ok-ok_or.field-0 found.result.at found.result.over c.requires
     (size h.form n c.limit_of.result c.limit_of.ensures c.if-words-limit_of.false)
-    (sym c.empty_slot.ensures ∙ c.in-At.is) c.if-next-eq0.false
+    (sym c.empty_slot.ensures ∙ c.in_ok-ok_or.ensures.ok_part) c.if-head-eq0.false
     (fit h a n c.cells_of-cells.result found.result.at c.cells_of-cells.ensures found.ensures.leftmost_found)
-    (found.ensures.node_of c.if-block-eq0.false) in
+    (found.ensures.node_of c.if-found-eq0.false) in
     omega (
       arith,
-      c.first_word.ensures,
-      first-low h a t n c.in-At.field-0 found.result.at found.result.over g,
-      few h a t n c.in-At.field-0 found.result.at found.result.over g,
+      c.first_word-address.ensures,
+      first-low h a t n c.in_ok-ok_or.field-0 found.result.at found.result.over g,
+      few h a t n c.in_ok-ok_or.field-0 found.result.at found.result.over g,
     )
 
 pub returns : goal.returns
@@ -184,11 +185,10 @@ returns c =
     let t = c.args.table.now in
     let n = c.args.words in
     let found = c.leftmost_fit-found in
-    let g = granted h a t n c.in-At.field-0 found.result.at found.result.over c.requires
+    let g = granted h a t n c.in_ok-ok_or.field-0 found.result.at found.result.over c.requires
     (size h.form n c.limit_of.result c.limit_of.ensures c.if-words-limit_of.false)
-    (sym c.empty_slot.ensures ∙ c.in-At.is) c.if-next-eq0.false
+    (sym c.empty_slot.ensures ∙ c.in_ok-ok_or.ensures.ok_part) c.if-head-eq0.false
     (fit h a n c.cells_of-cells.result found.result.at c.cells_of-cells.ensures found.ensures.leftmost_found)
-    (found.ensures.node_of c.if-block-eq0.false) in
-    c.succeeded.ensures
-    ∙ ap (λ (x : ℕ). success (row h.next x n text_party)) c.first_word.ensures
-    ∙ place_answer h a t text_party n c.in-At.field-0 found.result.at found.result.over g
+    (found.ensures.node_of c.if-found-eq0.false) in
+    ap success (c.ours.ensures ∙ ap (λ (x : ℕ). row h.next x n text_party) c.first_word-address.ensures)
+    ∙ place_answer h a t text_party n c.in_ok-ok_or.field-0 found.result.at found.result.over g

@@ -1,0 +1,12 @@
+-- What a request comes to, as an answer. Assumes nothing.
+use Rattle.std.specs.Prelude.{Result, Ok, Err}
+use Rattle.ledger.specs.declared.Row.{Row}
+use Rattle.calls.specs.declared.Answer.{Answer}
+use Rattle.calls.specs.declared.Refusal.{Refusal}
+use Rattle.calls.specs.Step.{success, refusal}
+use Rattle.calls.specs.Refusals.{number_of}
+
+-- a record, or why there is none
+abbrev pub answer_in : Result Row Refusal → Answer
+answer_in (Ok r) = success r
+answer_in (Err e) = refusal (number_of e)

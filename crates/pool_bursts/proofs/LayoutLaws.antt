@@ -10,17 +10,14 @@ use lib.Seq.{length-take-le, take-add, drop-drop, drop-cons, drop_at}
 use Rattle.words.proofs.ByPlace.{all_replicate}
 use Rattle.words.specs.Lists.{all, is_zero, list_from}
 use Rattle.words.proofs.Tests.{and_l, and_r, le_of, eqb_eq}
-use Rattle.ledger.specs.Records.{record_words}
 use Rattle.calls.specs.Pool.{most_records}
 use Rattle.text.specs.Numbers.{Bytes}
-use Rattle.text.proofs.FieldLaws.{part_rest}
-use Rattle.word_bytes.specs.Little.{word_at, word_bytes, bytes_of_words, is_other, Small}
+use Rattle.word_bytes.specs.Little.{word_at, word_bytes, bytes_of_words, Small}
 use Rattle.word_bytes.proofs.LittleLaws.{word_again}
 use Rattle.session.specs.Meaning.{most_text_words}
-use Rattle.session.specs.State.{table_from, arena_from}
 use Rattle.session.specs.State.{padded}
 use Rattle.pool_bursts.specs.declared.Fields.{Fields}
-use Rattle.pool_bursts.specs.Layout.{is_sized, is_clear}
+use Rattle.pool_bursts.specs.Layout.{is_sized}
 
 -- ---- bytes had back from the words read there
 
@@ -135,18 +132,3 @@ module _ (f : Fields) (h : is_sized f ≡ true) where
 
   pub few_slots : f.slots ≤ most_records
   few_slots = few_both.1
-
--- ---- code's places are the layout's
-
-pub clear_is : (f : Fields) (b : Bytes) (w x y z : Bool) → w ≡ all (is_other 10) (take (24 + f.kept - 24) (drop 24 b))
-    → x ≡ all is_zero (take (92 - (24 + f.kept)) (drop (24 + f.kept) b))
-    → y ≡ all is_zero (take (4188 - (92 + 16 * f.slots)) (drop (92 + 16 * f.slots) b))
-    → z ≡ all is_zero (take (length b - (4188 + 4 * f.words)) (drop (4188 + 4 * f.words) b))
-    → (w && x && y && z) ≡ is_clear f b
-clear_is f b w x y z ew ex ey ez =
-    let s : 92 + 16 * f.slots ≡ 4 * (table_from + record_words * f.slots) = omega arith in
-    let r : 4188 + 4 * f.words ≡ 4 * (arena_from + f.words) = omega arith in
-    let first = ap₂ (λ (p q : Bool). p && q) ew ex in
-    let third = ey ∙ ap (λ (n : ℕ). all is_zero (take (4188 - n) (drop n b))) s in
-    let last = ez ∙ ap (all is_zero) (part_rest (4188 + 4 * f.words) b) ∙ ap (λ (n : ℕ). all is_zero (drop n b)) r in
-    ap₂ (λ (p q : Bool). p && q) (ap₂ (λ (p q : Bool). p && q) first third) last

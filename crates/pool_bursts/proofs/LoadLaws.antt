@@ -1,13 +1,12 @@
 -- A session read from its state: its words, and whether its pool is sound. Assumes nothing.
-use Prim.Native.Nat.{ℕ, ◌+◌, ◌*◌, ◌-◌, ◌≤◌}
-use mathlib.Core.Path.{◌≡◌, refl, sym, ap, ap₂, ◌∙◌, subst}
+use Prim.Native.Nat.{ℕ, ◌*◌, ◌≤◌}
+use mathlib.Core.Path.{◌≡◌, refl, sym, ap, ap₂, ◌∙◌}
 use mathlib.Core.Bool.{Bool, true, false, cond, ◌&&◌, and-true, false≢true}
 use mathlib.Core.List.{◌++◌}
-use native.Mathlib.Nat.{sub-zero}
 use native.Mathlib.Omega.{arith}
 use lib.Dec.{eqb, leb}
-use lib.ListN.{length, take, drop, length-drop}
-use lib.Seq.{sets, sets-eq, take_at, length-take-le}
+use lib.ListN.{length, take, drop}
+use lib.Seq.{take_at, length-take-le}
 use Rattle.words.specs.Lists.{Words, all, list_from}
 use Rattle.words.proofs.Tests.{bool_iff, eqb_eq, eqb_ne, of_le}
 use Rattle.words.proofs.ListLaws.{length_list_from}
@@ -20,10 +19,9 @@ use Rattle.calls.proofs.StoreLaws.{sound_lengths, sound_stored}
 use Rattle.calls.proofs.GateLaws.{is_zero, gate_opens}
 use Rattle.tree_check.specs.Gate.{tree_pool}
 use Rattle.text.specs.Numbers.{Bytes}
-use Rattle.text.specs.Fields.{Wrote}
 use Rattle.word_bytes.specs.Little.{word_at}
 use Rattle.session.specs.Meaning.{before, serving, stopped, most_text_words, text_form}
-use Rattle.session.specs.State.{session, table_from, arena_from, state_bytes, session_in, is_ours, right_pool}
+use Rattle.session.specs.State.{session, table_from, arena_from, session_in, is_ours, right_pool}
 use Rattle.pool_text.specs.declared.Own.{Own}
 use Rattle.pool_text.specs.declared.Stage.TheVariants.{Before, Serving, Stopped}
 use Rattle.pool_text.specs.Session.{own_pool, standing_of}
@@ -33,24 +31,18 @@ use Rattle.pool_bursts.specs.Inside.{stage_in}
 
 -- the first n words, where code took them as a part
 pub front_words : (f : ℕ → ℕ) (from n : ℕ) (out new rest : Words) → n ≤ length out
-    → new ≡ list_from f from (length (take (n - 0) out)) → take n (new ++ rest) ≡ list_from f from n
+    → new ≡ list_from f from (length (take n out)) → take n (new ++ rest) ≡ list_from f from n
 front_words f from n out new rest h e =
-    let long : length (take (n - 0) out) ≡ n =
-    ap (λ (k : ℕ). length (take k out)) (sub-zero n) ∙ length-take-le n out h in
-    let is : new ≡ list_from f from n = e ∙ ap (list_from f from) long in
+    let is : new ≡ list_from f from n = e ∙ ap (list_from f from) (length-take-le n out h) in
     take_at new rest n (ap length is ∙ length_list_from f from n) ∙ is
 
 -- the gate's number of a pool, and the rest of the test
 pub fitting_is : (o : Own) (a t : Words) (x : ℕ) → o.head.form ≡ text_form → o.words ≤ most_text_words
-    → o.words ≤ length a
-    → GateIs tree_engine (tree_pool o.head (take (o.words - 0) a) (take (record_words * o.slots - 0) t)) x
-    → (y : Bool) → y ≡ all is_ours (records_of (take (record_words * o.slots - 0) t))
+    → o.words ≤ length a → GateIs tree_engine (own_pool o a t) x
+    → (y : Bool) → y ≡ all is_ours (records_of (take (record_words * o.slots) t))
     → (eqb x 0 && y) ≡ right_pool (serving (own_pool o a t))
-fitting_is o a t x form few lies is y own =
+fitting_is o a t x form few lies there y own =
     let p = own_pool o a t in
-    let there : GateIs tree_engine p x =
-    subst (λ (q : Pool). GateIs tree_engine q x)
-    (ap₂ (λ (m n : ℕ). tree_pool o.head (take m a) (take n t)) (sub-zero o.words) (sub-zero (record_words * o.slots))) is in
     let same : eqb x 0 ≡ sound tree_engine p =
     bool_iff (eqb x 0) (sound tree_engine p)
     (λ h. gate_opens tree_engine p x there (eqb_eq x 0 h))
@@ -59,35 +51,23 @@ fitting_is o a t x form few lies is y own =
     let long : length (take o.words a) ≤ most_text_words = omega (arith, length-take-le o.words a lies) in
     let fine : eqb x 0 ≡ (sound tree_engine p && eqb p.shape text_form && leb (word_count p) most_text_words) =
     same ∙ sym (rw (form, of_le (length (take o.words a)) most_text_words long, and-true, and-true)) in
-    let records = own ∙ ap (λ (n : ℕ). all is_ours (records_of (take n t))) (sub-zero (record_words * o.slots)) in
-    ap₂ (λ (b c : Bool). b && c) fine records
+    ap₂ (λ (b c : Bool). b && c) fine own
 
 -- the record at slot i is empty or party 1's
 abbrev pub ours_at : Words → ℕ → Bool
 ours_at t i = is_ours (record_at t i)
 
--- the kept bytes, where code copied them
-pub line_back : (b line after : Bytes) (kept r : ℕ) → length line ≡ 65 → kept ≤ 65 → length b ≡ state_bytes
-    → Wrote line after 0 r (take (24 + kept - 24) (drop 24 b)) → take kept after ≡ take kept (drop 24 b)
-line_back b line after kept r ll few lb w =
-    let e : 24 + kept - 24 ≡ kept = omega arith in
-    let bs = take kept (drop 24 b) in
-    let long : length bs ≡ kept = length-take-le kept (drop 24 b) (omega (arith, length-drop 24 b)) in
-    ap (take kept) (w.1 ∙ ap (λ (n : ℕ). sets line 0 (take n (drop 24 b))) e
-    ∙ sets-eq bs line 0 (omega (arith, long)))
-    ∙ take_at bs (drop (0 + length bs) line) kept long
-
-module _ (f : Fields) (b line : Bytes) (e : f ≡ fields_in b) (same : take f.kept line ≡ take f.kept (drop 24 b)) where
+module _ (f : Fields) (b line : Bytes) (e : f ≡ fields_in b) (same : line ≡ take f.kept (drop 24 b)) where
   stage_is : (n : ℕ) → f.stage ≡ n → word_at b 0 ≡ n
   stage_is n h = ap (λ (g : Fields). g.stage) (sym e) ∙ h
 
-  kept_is : take f.kept line ≡ take (word_at b 1) (drop 24 b)
+  kept_is : line ≡ take (word_at b 1) (drop 24 b)
   kept_is = same ∙ ap (λ (g : Fields). take g.kept (drop 24 b)) e
 
   pub loaded_pool : (a t : Words) → f.stage ≡ 2 → take f.words a ≡ list_from (word_at b) arena_from f.words
       → take (record_words * f.slots) t ≡ list_from (word_at b) table_from (record_words * f.slots)
       → session (serving (tree_pool (record { root = f.root; next = f.next; form = 1 }) (take f.words a)
-      (take (record_words * f.slots) t))) (take f.kept line) ≡ session_in b
+      (take (record_words * f.slots) t))) line ≡ session_in b
   unfolding session_in
   loaded_pool a t h arena table =
       let read : Fields → Pool =
@@ -98,11 +78,11 @@ module _ (f : Fields) (b line : Bytes) (e : f ≡ fields_in b) (same : take f.ke
       (ap₂ (λ (x y : Words). tree_pool (record { root = f.root; next = f.next; form = 1 }) x y) arena table ∙ ap read e)
       kept_is)
 
-  pub loaded_stopped : f.stage ≡ 3 → session stopped (take f.kept line) ≡ session_in b
+  pub loaded_stopped : f.stage ≡ 3 → session stopped line ≡ session_in b
   unfolding session_in
   loaded_stopped h = rw (stage_is 3 h) (ap (session stopped) kept_is)
 
-  pub loaded_before : (f.stage ≡ 2 → ⊥) → (f.stage ≡ 3 → ⊥) → session before (take f.kept line) ≡ session_in b
+  pub loaded_before : (f.stage ≡ 2 → ⊥) → (f.stage ≡ 3 → ⊥) → session before line ≡ session_in b
   unfolding session_in
   loaded_before h k =
       let stage : f.stage ≡ word_at b 0 = ap (λ (g : Fields). g.stage) e in
@@ -114,7 +94,7 @@ module _ (f : Fields) (b line : Bytes) (e : f ≡ fields_in b) (same : take f.ke
       → (f.stage ≡ 2
       → (take f.words a ≡ list_from (word_at b) arena_from f.words)
       × (take (record_words * f.slots) t ≡ list_from (word_at b) table_from (record_words * f.slots)))
-      → session (standing_of (stage_in f) a t) (take f.kept line) ≡ session_in b
+      → session (standing_of (stage_in f) a t) line ≡ session_in b
   loaded a t fronts = go (eqb f.stage 2) refl
     where
       own : Own
@@ -125,12 +105,12 @@ module _ (f : Fields) (b line : Bytes) (e : f ≡ fields_in b) (same : take f.ke
       }
 
       on : (f.stage ≡ 2 → ⊥) → (w : Bool) → eqb f.stage 3 ≡ w
-          → session (standing_of (cond w Stopped Before) a t) (take f.kept line) ≡ session_in b
+          → session (standing_of (cond w Stopped Before) a t) line ≡ session_in b
       on n true q = loaded_stopped (eqb_eq f.stage 3 q)
       on n false q = loaded_before n (λ e. false≢true (sym q ∙ ap (λ (m : ℕ). eqb m 3) e))
 
       go : (v : Bool) → eqb f.stage 2 ≡ v
-          → session (standing_of (cond v (Serving own) (cond (eqb f.stage 3) Stopped Before)) a t) (take f.kept line)
+          → session (standing_of (cond v (Serving own) (cond (eqb f.stage 3) Stopped Before)) a t) line
           ≡ session_in b
       go true q =
           let here = eqb_eq f.stage 2 q in

@@ -1,5 +1,5 @@
 -- What is lent to a call inside, and what is there after a state was read. Assumes nothing.
-use Rattle.std.specs.Prelude.{ℕ, ◌*◌, ◌≤◌, ◌≡◌, ◌≢◌, Bool, true, cond, ◌&&◌, eqb, leb, take}
+use Rattle.std.specs.Prelude.{ℕ, ◌*◌, ◌≤◌, ◌≡◌, ◌≢◌, Bool, true, cond, ◌&&◌, eqb, leb, length, take}
 use Rattle.std.proofs.lemmas.List.Edits.{sets}
 use Rattle.words.specs.Lists.{Words, list_from}
 use Rattle.ledger.specs.Records.{record_words}
@@ -47,11 +47,11 @@ is_placed (Serving o) a t = eqb o.head.form text_form && leb o.words a && leb (r
 is_placed Stopped a t = true
 
 -- what is there after a state was read: the session that it is, in lent memory
-abbrev pub Read : Stage → ℕ → Bytes → Words → Words → Bytes → Type 0
-Read stage kept line arena table state =
+abbrev pub Read : Stage → Bytes → Words → Words → Bytes → Type 0
+Read stage line arena table state =
     Lent stage arena table
-    × (kept ≤ 65)
-    × (session (standing_of stage arena table) (take kept line) ≡ session_in state)
+    × (length line ≤ 65)
+    × (session (standing_of stage arena table) line ≡ session_in state)
     × (well_formed state ≡ true)
 
 -- a state with the words of table and arena that a pool uses

@@ -1,7 +1,7 @@
 // A session of the text program in one byte buffer: its state tested, read and written, and the three calls on it.
 #![tactic(auto)]
 
-ghost use Rattle.std.specs.Prelude.{◌≡◌, true, cond, [], ◌∷◌, ◌+◌, ◌*◌, ◌-◌, ◌≤◌, eqb, length, take};
+ghost use Rattle.std.specs.Prelude.{◌≡◌, true, false, cond, [], ◌∷◌, ◌+◌, ◌*◌, ◌-◌, ◌≤◌, eqb, length, take, MatchOption};
 ghost use Rattle.std.proofs.lemmas.List.Edits.{sets};
 ghost use Rattle.words.specs.Lists.{all, list_from};
 ghost use Rattle.ledger.specs.Records.{record_words, records_of};
@@ -20,10 +20,20 @@ ghost use Rattle.pool_bursts.specs.Inside.{Suits, stage_in, Fronts, is_placed, R
 
 use ledger::Row;
 use pool_text::{Own, Stage};
+use text::Line;
 use tree_check::Head;
 
+// A state's length in bytes, and where its line, its table and its arena begin.
+const STATE: usize = 36956;
+
+const LINE: usize = 24;
+
+const TABLE: usize = 92;
+
+const ARENA: usize = 4188;
+
 // The six words at the state's start.
-#[derive(Clone, Copy)]
+#[derive(Clone, Copy, PartialEq, Eq)]
 struct Fields {
     stage: u32,
     kept: u32,
@@ -32,6 +42,16 @@ struct Fields {
     root: u32,
     next: u32,
 }
+
+// Those of a session without a pool, but for the stage and the bytes kept.
+const NO_POOL: Fields = Fields {
+    stage: 0,
+    kept: 0,
+    words: 0,
+    slots: 0,
+    root: 0,
+    next: 0,
+};
 
 // Code knows of the state's bytes that they are below 256, which it tells here.
 fn read_fields(state: &[u8]) -> Fields
@@ -51,31 +71,29 @@ fn read_fields(state: &[u8]) -> Fields
 fn is_sized(f: Fields) -> bool
     ensures { result ≡ is_sized f }
 {
-    let pool = (f.words <= 8192) & (f.slots <= 256);
-    let none = ((f.stage == 1) | (f.stage == 3))
-        & (f.words == 0)
-        & (f.slots == 0)
-        & (f.root == 0)
-        & (f.next == 0);
-    if f.stage == 2 {
-        return (f.kept <= 65) & pool;
-    }
-    (f.kept <= 65) & none
+    let none = Fields {
+        stage: f.stage,
+        kept: f.kept,
+        ..NO_POOL
+    };
+    let fits = match f.stage {
+        1 | 3 => f == none,
+        2 => (f.words <= 8192) & (f.slots <= 256),
+        _ => false,
+    };
+    (f.kept <= 65) & fits
 }
 
 fn is_clear(f: Fields, state: &[u8]) -> bool
     requires { (is_sized f ≡ true) × (length state.now ≡ state_bytes) }
     ensures { result ≡ is_clear f state.now }
 {
-    let line = 24;
-    let spare = 24 + f.kept as usize;
-    let table = 92;
-    let behind = 92 + 16 * f.slots as usize;
-    let arena = 4188;
-    let rest = 4188 + 4 * f.words as usize;
-    word_bytes::is_without(&state[line..spare], 10)
-        & words::is_zero(&state[spare..table])
-        & words::is_zero(&state[behind..arena])
+    let spare = LINE + f.kept as usize;
+    let behind = TABLE + 16 * f.slots as usize;
+    let rest = ARENA + 4 * f.words as usize;
+    word_bytes::is_without(&state[LINE..spare], b'\n')
+        & words::is_zero(&state[spare..TABLE])
+        & words::is_zero(&state[behind..ARENA])
         & words::is_zero(&state[rest..])
 }
 
@@ -92,10 +110,7 @@ fn is_well_formed(state: &[u8]) -> bool
     ensures { result ≡ well_formed state.now }
 {
     let f = read_fields(state);
-    if !is_sized(f) {
-        return false;
-    }
-    is_clear(f, state)
+    is_sized(f) && is_clear(f, state)
 }
 
 // ---- the session in the state's bytes
@@ -105,8 +120,7 @@ fn get_front(state: &[u8], from: usize, out: &mut [u32], n: usize)
     requires { (n ≤ length out.old) × (4 * (from + n) ≤ length state.now) }
     ensures { take n out.new ≡ list_from (word_at state.now) from n }
 {
-    let start = 0;
-    word_bytes::get_words(state, from, &mut out[start..n]);
+    word_bytes::get_words(state, from, &mut out[..n]);
 }
 
 // Reads the words of a state's pool: only what is used. It is done where the buffers are a function's own, since there the
@@ -118,8 +132,8 @@ fn load_words(state: &[u8], arena: &mut [u32], table: &mut [u32])
 {
     let f = read_fields(state);
     if is_sized(f) & (f.stage == 2) {
-        get_front(state, 23, table, 4 * f.slots as usize);
-        get_front(state, 1047, arena, f.words as usize);
+        get_front(state, TABLE / 4, table, 4 * f.slots as usize);
+        get_front(state, ARENA / 4, arena, f.words as usize);
     }
 }
 
@@ -127,20 +141,19 @@ fn load_words(state: &[u8], arena: &mut [u32], table: &mut [u32])
 fn stage_of(f: Fields) -> Stage
     ensures { result ≡ stage_in f }
 {
-    if f.stage == 2 {
-        let words = f.words as usize;
-        let slots = f.slots as usize;
-        let head = Head {
-            root: f.root,
-            next: f.next,
-            form: 1,
-        };
-        return Stage::Serving(Own { head, words, slots });
+    match f.stage {
+        2 => Stage::Serving(Own {
+            head: Head {
+                root: f.root,
+                next: f.next,
+                form: 1,
+            },
+            words: f.words as usize,
+            slots: f.slots as usize,
+        }),
+        3 => Stage::Stopped,
+        _ => Stage::Before,
     }
-    if f.stage == 3 {
-        return Stage::Stopped;
-    }
-    Stage::Before
 }
 
 // Whether a record is empty or party 1's.
@@ -150,16 +163,13 @@ fn is_own(r: Row) -> bool
     record_table::is_empty(r) | (r.party == 1)
 }
 
-// Whether all records are.
+// Whether all records are: with no way out of the loop, which is most often gone through.
 fn is_ours(table: &[u32]) -> bool
     ensures { result ≡ all is_ours (records_of table.now) }
 {
-    let n = record_table::slot_count(table);
     let mut fine = true;
-    let mut i = 0;
-    while i < n {
+    for i in 0..record_table::slot_count(table) {
         fine = fine & is_own(record_table::read_row(table, i));
-        i += 1;
     }
     fine
 }
@@ -170,11 +180,8 @@ fn is_fitting(own: Own, arena: &[u32], table: &[u32]) -> bool
         × (own.slots ≤ most_records) × (record_words * own.slots ≤ length table.now) }
     ensures { result ≡ right_pool (serving (own_pool own arena.now table.now)) }
 {
-    let start = 0;
-    let n = own.words;
-    let t = 4 * own.slots;
-    (tree_check::gate_number(own.head, &arena[start..n], &table[start..t]) == 0)
-        & is_ours(&table[start..t])
+    let table = &table[..4 * own.slots];
+    tree_check::gate(own.head, &arena[..own.words], table).is_ok() & is_ours(table)
 }
 
 // Whether a session's pool, if it has one, is a sound one of the text program.
@@ -190,40 +197,34 @@ fn is_fit(stage: Stage, arena: &[u32], table: &[u32]) -> bool
     }
 }
 
-// What was read of a buffer: whether it is a state, and if so where the session stands and how many bytes it keeps.
-#[derive(Clone, Copy)]
+// A session that was read of a buffer, but for the words of its pool.
+#[derive(Drop)]
 struct Loaded {
-    fine: bool,
     stage: Stage,
-    kept: usize,
+    line: Line,
 }
 
-// Reads a buffer of a state's length, of whose pool the words were read before.
-fn load_state(state: &[u8], line: &mut [u8], arena: &[u32], table: &[u32]) -> Loaded
-    requires state_len { (length state.now ≡ state_bytes) × (length line.old ≡ 65)
+// Reads a buffer of a state's length, of whose pool the words were read before; there is nothing where it is no state.
+fn load_state(state: &[u8], arena: &[u32], table: &[u32]) -> Option<Loaded>
+    requires state_len { (length state.now ≡ state_bytes)
         × Suits (fields_in state.now) (length arena.now) (length table.now) }
     requires fronts { Fronts (fields_in state.now) state.now arena.now table.now }
-    ensures fine_value { result.fine ≡ is_state state.now }
-    ensures read { result.fine ≡ true → Read result.stage result.kept line.new arena.now table.now
-        state.now }
+    ensures { MatchOption result (is_state state.now ≡ false)
+        (λ s. (is_state state.now ≡ true) × Read s.stage s.line arena.now table.now state.now) }
 {
     let f = read_fields(state);
     if !is_well_formed(state) {
-        return Loaded {
-            fine: false,
-            stage: Stage::Before,
-            kept: 0,
-        };
+        return None;
     }
-    let from = 24;
-    let to = 24 + f.kept as usize;
-    text::put_bytes(line, 0, &state[from..to]);
     let stage = stage_of(f);
-    Loaded {
-        fine: is_fit(stage, arena, table),
-        stage,
-        kept: f.kept as usize,
+    if !is_fit(stage, arena, table) {
+        return None;
     }
+    let spare = LINE + f.kept as usize;
+    Some(Loaded {
+        stage,
+        line: Line::of(&state[LINE..spare]),
+    })
 }
 
 // ---- the state's bytes of a session
@@ -255,33 +256,25 @@ fn fields_of(stage: Stage, kept: usize, arena: &[u32], table: &[u32]) -> Fields
         Stage::Before => Fields {
             stage: 1,
             kept,
-            words: 0,
-            slots: 0,
-            root: 0,
-            next: 0,
+            ..NO_POOL
         },
         Stage::Serving(own) => pool_fields(own, kept),
         Stage::Stopped => Fields {
             stage: 3,
             kept,
-            words: 0,
-            slots: 0,
-            root: 0,
-            next: 0,
+            ..NO_POOL
         },
     }
 }
 
 // Puts the six words and the kept bytes.
-fn put_front(f: Fields, line: &[u8], kept: usize, state: &mut [u8])
-    requires { (kept ≤ length line.now) × (24 + kept ≤ length state.old) }
-    ensures { state.new
-        ≡ sets (sets state.old 0 (bytes_of_words (field_words f))) 24 (take kept line.now) }
+fn put_front(f: Fields, line: &[u8], state: &mut [u8])
+    requires { 24 + length line.now ≤ length state.old }
+    ensures { state.new ≡ sets (sets state.old 0 (bytes_of_words (field_words f))) 24 line.now }
 {
     let words = [f.stage, f.kept, f.words, f.slots, f.root, f.next];
     word_bytes::put_words(state, 0, &words);
-    let start = 0;
-    text::put_bytes(state, 24, &line[start..kept]);
+    text::put_bytes(state, LINE, line);
 }
 
 // Puts the words of table and arena that a pool uses.
@@ -291,11 +284,8 @@ fn put_pool(own: Own, arena: &[u32], table: &[u32], state: &mut [u8])
         ≡ sets (sets state.old (4 * table_from) (bytes_of_words (take (record_words * own.slots) table.now)))
         (4 * arena_from) (bytes_of_words (take own.words arena.now)) }
 {
-    let start = 0;
-    let n = own.words;
-    let t = 4 * own.slots;
-    word_bytes::put_words(state, 23, &table[start..t]);
-    word_bytes::put_words(state, 1047, &arena[start..n]);
+    word_bytes::put_words(state, TABLE / 4, &table[..4 * own.slots]);
+    word_bytes::put_words(state, ARENA / 4, &arena[..own.words]);
 }
 
 // Puts the words of a session's pool, if it has one.
@@ -322,38 +312,28 @@ fn clear_for(f: Fields, state: &mut [u8])
         words::fill(state, 0);
         return;
     }
-    let start = 0;
-    let front = 92;
-    words::fill(&mut state[start..front], 0);
+    words::fill(&mut state[..TABLE], 0);
 }
 
 // The state's bytes of a session, over those of another, but for the words of its pool: only what is used is written.
-fn store_front(
-    stage: Stage,
-    line: &[u8],
-    kept: usize,
-    arena: &[u32],
-    table: &[u32],
-    state: &mut [u8],
-)
+fn store_front(stage: Stage, line: &[u8], arena: &[u32], table: &[u32], state: &mut [u8])
     requires lent { Lent stage arena.now table.now × (length state.old ≡ state_bytes) × (well_formed state.old ≡ true) }
-    requires line_len { (length line.now ≡ 65) × (kept ≤ 65) }
+    requires line_len { length line.now ≤ 65 }
     ensures { with_pool state.new (standing_of stage arena.now table.now)
-        ≡ bytes_of (session (standing_of stage arena.now table.now) (take kept line.now)) }
+        ≡ bytes_of (session (standing_of stage arena.now table.now) line.now) }
 {
-    let f = fields_of(stage, kept, arena, table);
+    let f = fields_of(stage, line.len(), arena, table);
     clear_for(f, state);
-    put_front(f, line, kept, state);
+    put_front(f, line, state);
 }
 
 // The same with the words of its pool.
-fn store(stage: Stage, line: &[u8], kept: usize, arena: &[u32], table: &[u32], state: &mut [u8])
+fn store(stage: Stage, line: &[u8], arena: &[u32], table: &[u32], state: &mut [u8])
     requires lent { Lent stage arena.now table.now × (length state.old ≡ state_bytes) × (well_formed state.old ≡ true) }
-    requires line_len { (length line.now ≡ 65) × (kept ≤ 65) }
-    ensures { state.new
-        ≡ bytes_of (session (standing_of stage arena.now table.now) (take kept line.now)) }
+    requires line_len { length line.now ≤ 65 }
+    ensures { state.new ≡ bytes_of (session (standing_of stage arena.now table.now) line.now) }
 {
-    store_front(stage, line, kept, arena, table, state);
+    store_front(stage, line, arena, table, state);
     put_stage(stage, arena, table, state);
 }
 
@@ -399,25 +379,23 @@ struct ServedBurst {
 // Serves a burst on a session that was read, and leaves its state but for the pool's words.
 fn burst_loaded(
     stage: Stage,
-    kept: usize,
-    line: &mut [u8],
+    line: &mut Line,
     arena: &mut [u32],
     table: &mut [u32],
     bytes: &[u8],
     answers: &mut [u8],
     state: &mut [u8],
 ) -> ServedBurst
-    requires lent { Lent stage arena.old table.old × (length state.old ≡ state_bytes) × (well_formed state.old ≡ true) }
-    requires line_len { (length line.old ≡ 65) × (kept ≤ 65) }
-    ensures lent_2 { Lent result.stage arena.new table.new }
+    requires { Lent stage arena.old table.old × (length state.old ≡ state_bytes) × (well_formed state.old ≡ true) }
+    ensures lent { Lent result.stage arena.new table.new }
     ensures answers_after { replied result.counts
         (with_pool state.new (standing_of result.stage arena.new table.new)) answers.new
         ≡ burst_done (burst serve (length answers.old) (standing_of stage arena.old table.old)
-        (take kept line.old) bytes.now) bytes.now answers.old }
+        line.old bytes.now) bytes.now answers.old }
 {
-    let done = pool_text::serve_burst(stage, kept, line, arena, table, bytes, answers);
+    let done = pool_text::serve_burst(stage, line, arena, table, bytes, answers);
     let after = done.stage;
-    store_front(after, &*line, done.kept, &*arena, &*table, state);
+    store_front(after, line.bytes(), &*arena, &*table, state);
     ServedBurst {
         counts: Counts {
             number: number_at(done.from, bytes.len()),
@@ -444,46 +422,31 @@ fn burst_in(
         (with_pool state.new (standing_of result.stage arena.new table.new)) answers.new
         ≡ burst_call state.old bytes.now answers.old }
 {
-    let mut line = [0u8; 65];
-    let read = load_state(&*state, &mut line, &*arena, &*table);
-    if !read.fine {
+    let Some(read) = load_state(&*state, &*arena, &*table) else {
         return ServedBurst {
             counts: unchanged(1),
             stage: Stage::Stopped,
         };
-    }
-    let stage = read.stage;
-    burst_loaded(
-        stage, read.kept, &mut line, arena, table, bytes, answers, state,
-    )
+    };
+    let mut line = read.line;
+    burst_loaded(read.stage, &mut line, arena, table, bytes, answers, state)
 }
 
-// Where the pool has at most 1,024 words and 16 records: less is zeroed for it.
-fn burst_small(state: &mut [u8], bytes: &[u8], answers: &mut [u8]) -> Counts
-    requires { (length state.old ≡ state_bytes) × (is_small (fields_in state.old) ≡ true) }
+// The same in A words and a table of T words, which are zeroed for it.
+fn burst_within<const A: usize, const T: usize>(
+    state: &mut [u8],
+    bytes: &[u8],
+    answers: &mut [u8],
+) -> Counts
+    requires { (length state.old ≡ state_bytes) × Suits (fields_in state.old) A T }
     ensures { replied result state.new answers.new
         ≡ burst_call state.old bytes.now answers.old }
 {
-    let mut arena = [0u32; 1024];
-    let mut table = [0u32; 64];
+    let mut arena = [0u32; A];
+    let mut table = [0u32; T];
     load_words(&*state, &mut arena, &mut table);
     let done = burst_in(state, bytes, answers, &mut arena, &mut table);
-    let stage = done.stage;
-    put_stage(stage, &arena, &table, state);
-    done.counts
-}
-
-fn burst_large(state: &mut [u8], bytes: &[u8], answers: &mut [u8]) -> Counts
-    requires { length state.old ≡ state_bytes }
-    ensures { replied result state.new answers.new
-        ≡ burst_call state.old bytes.now answers.old }
-{
-    let mut arena = [0u32; 8192];
-    let mut table = [0u32; 1024];
-    load_words(&*state, &mut arena, &mut table);
-    let done = burst_in(state, bytes, answers, &mut arena, &mut table);
-    let stage = done.stage;
-    put_stage(stage, &arena, &table, state);
+    put_stage(done.stage, &arena, &table, state);
     done.counts
 }
 
@@ -492,20 +455,18 @@ pub fn burst(state: &mut [u8], bytes: &[u8], answers: &mut [u8]) -> Counts
     ensures { replied result state.new answers.new
         ≡ burst_call state.old bytes.now answers.old }
 {
-    if state.len() != 36956 {
+    if state.len() != STATE {
         return unchanged(8);
     }
-    let f = read_fields(&*state);
-    if is_small(f) {
-        return burst_small(state, bytes, answers);
+    if is_small(read_fields(&*state)) {
+        return burst_within::<1024, 64>(state, bytes, answers);
     }
-    burst_large(state, bytes, answers)
+    burst_within::<8192, 1024>(state, bytes, answers)
 }
 
 // Serves a last line that has no line feed, where a session was read, and leaves its state.
 fn end_loaded(
     stage: Stage,
-    kept: usize,
     line: &[u8],
     arena: &mut [u32],
     table: &mut [u32],
@@ -513,26 +474,23 @@ fn end_loaded(
     state: &mut [u8],
 ) -> Counts
     requires lent { Lent stage arena.old table.old × (length state.old ≡ state_bytes) × (well_formed state.old ≡ true) }
-    requires line_len { (length line.now ≡ 65) × (kept ≤ 65) }
+    requires line_len { length line.now ≤ 65 }
     ensures { replied result state.new answers.new
-        ≡ end_done (finish serve (standing_of stage arena.old table.old) (take kept line.now))
+        ≡ end_done (finish serve (standing_of stage arena.old table.old) line.now)
         state.old answers.old }
 {
-    if kept == 0 {
-        store(stage, line, 0, &*arena, &*table, state);
+    if line.is_empty() {
+        store(stage, line, &*arena, &*table, state);
         return unchanged(0);
     }
-    let from = 0;
-    let tried = pool_text::try_line(stage, &line[from..kept], arena, table, answers, 0);
-    if !tried.done {
+    let Some(done) = pool_text::try_line(stage, line, arena, table, answers, 0) else {
         return unchanged(10);
-    }
-    let after = tried.stage;
-    store(after, line, 0, &*arena, &*table, state);
+    };
+    store(done.stage, &[], &*arena, &*table, state);
     Counts {
         number: 0,
         taken: 0,
-        written: tried.at,
+        written: done.at,
     }
 }
 
@@ -541,20 +499,23 @@ pub fn end(state: &mut [u8], answers: &mut [u8]) -> Counts
     ensures { replied result state.new answers.new
         ≡ end_call state.old answers.old }
 {
-    if state.len() != 36956 {
+    if state.len() != STATE {
         return unchanged(8);
     }
-    let mut line = [0u8; 65];
     let mut arena = [0u32; 8192];
     let mut table = [0u32; 1024];
     load_words(&*state, &mut arena, &mut table);
-    let read = load_state(&*state, &mut line, &arena, &table);
-    if !read.fine {
+    let Some(read) = load_state(&*state, &arena, &table) else {
         return unchanged(1);
-    }
-    let stage = read.stage;
+    };
+    let line = read.line;
     end_loaded(
-        stage, read.kept, &line, &mut arena, &mut table, answers, state,
+        read.stage,
+        line.bytes(),
+        &mut arena,
+        &mut table,
+        answers,
+        state,
     )
 }
 
@@ -562,19 +523,14 @@ pub fn end(state: &mut [u8], answers: &mut [u8]) -> Counts
 pub fn start(state: &mut [u8]) -> u32
     ensures { started result state.new ≡ start_call state.old }
 {
-    if state.len() != 36956 {
+    if state.len() != STATE {
         return 8;
     }
     let f = Fields {
         stage: 1,
-        kept: 0,
-        words: 0,
-        slots: 0,
-        root: 0,
-        next: 0,
+        ..NO_POOL
     };
-    let line = [0u8; 1];
     words::fill(state, 0);
-    put_front(f, &line, 0, state);
+    put_front(f, &[], state);
     0
 }

@@ -14,6 +14,10 @@ pub returns-then-f-old : goal.returns-then-f-old
 returns-then-f-old c =
     ap (is_blank c.args.f) c.fill.ensures ∙ blank_zeros c.args.f (length c.args.state.now)
 
+pub slice_bounds-fill-end-2 : goal.slice_bounds-fill-end-2
+slice_bounds-fill-end-2 c =
+    omega (arith, c.requires.0, length-take-le 92 c.args.state.now (omega (arith, c.requires.0)))
+
 pub returns : goal.returns
 returns c =
     let f = c.args.f in

@@ -1,16 +1,9 @@
--- `pool_bursts::is_ours` meets its contract: the flag so far and the test of what is left make the answer. Assumes
--- nothing.
-use Prim.Native.Nat.{◌≤◌, ◌-◌}
+use Rattle.std.proofs.Common.{◌≡◌, ◌-◌}
 use mathlib.Core.Bool.{◌&&◌}
-use mathlib.Core.Path.{◌≡◌}
 use Rattle.words.specs.Counted.{every}
-use Rattle.ledger.specs.Records.{slots}
 use Rattle.pool_bursts.proofs.LoadLaws.{ours_at}
 use Rattle.pool_bursts.proofs.is_ours.Given as goal
 
+-- the flag so far, and the test of what is left, make the answer
 abbrev pub invariant-loop-i : goal.invariant-loop-i
-invariant-loop-i l =
-    (l.n ≡ slots l.table) × (l.i ≤ l.n) × ((l.fine && every (ours_at l.table) l.i (l.n - l.i)) ≡ every (ours_at l.table) 0 l.n)
-
-abbrev pub decreases-loop-i : goal.decreases-loop-i
-decreases-loop-i l = l.n - l.i
+invariant-loop-i l = (l.fine && every (ours_at l.table) l.i (l.i-end - l.i)) ≡ every (ours_at l.table) 0 l.i-end

@@ -19,15 +19,15 @@ use Rattle.pool_bursts.proofs.start.Goals as goal
 abbrev begun : Fields
 begun = record { stage = 1; kept = 0; words = 0; slots = 0; root = 0; next = 0 }
 
-pub returns-then-state-ne36956 : goal.returns-then-state-ne36956
-returns-then-state-ne36956 c = sym (start_eight c.args.state.now c.if-state-ne36956.true)
+pub returns-then-state-ne-STATE : goal.returns-then-state-ne-STATE
+returns-then-state-ne-STATE c = sym (start_eight c.args.state.now c.if-state-ne-STATE.true)
 
 pub returns : goal.returns
 returns c =
     let st = c.args.state.now in
     let p = c.put_front in
     let w = c.fill in
-    let long = c.if-state-ne36956.false in
+    let long = c.if-state-ne-STATE.false in
     let filled = p.ensures
     ∙ ap (λ (l : Bytes). sets (sets l 0 (bytes_of_words (1 ∷ 0 ∷ 0 ∷ 0 ∷ 0 ∷ 0 ∷ []))) 24 []) w.ensures
     ∙ stored before [] (replicate (length st) 0) begun (length-replicate {A = ℕ} (length st) 0 ∙ long) (omega arith)

@@ -1,6 +1,6 @@
 -- The spans of a map: noted in a byte or in an entry, and read again. Assumes nothing.
 use Prim.Native.Nat.{ℕ, zero, suc, ◌+◌, ◌-◌, ◌*◌, ◌/◌, ◌%◌, ◌≤◌, ◌<◌}
-use native.Mathlib.Decide.{dec_lt, ℕ_discrete}
+use native.Mathlib.Decide.{ℕ_discrete}
 use native.Mathlib.Numerals.{unary_clauses}
 use native.Mathlib.Omega.{arith}
 use mathlib.Core.Path.{◌≡◌, refl, sym, ap, ◌∙◌, subst}
@@ -12,11 +12,10 @@ use lib.Seq.{get_or-set_same, get_or-set_other}
 use borrow.Rule.Slice.PartMut.{put_mid}
 use Rattle.std.specs.Int.{w32, to_le_bytes}
 use Rattle.words.specs.Lists.{Words, all, is_zero}
-use Rattle.words.proofs.Tests.{eqb_eq}
 use Rattle.words.proofs.ListLaws.{zeros_at}
 use Rattle.tree_check.specs.Maps.{four_at, is_entries, first_at, cells_at, Covers, Adds}
 use Rattle.record_table.specs.Leads.{here, more}
-use Rattle.tree_check.specs.Maps.{home, Reaches, Next, Leads, Bare, Spare, Grows, FourPut}
+use Rattle.tree_check.specs.Maps.{home, Next, Leads, Bare, Spare, Grows, FourPut}
 use Rattle.tree_check.proofs.LeadLaws.{byte_next, byte_found}
 
 -- ---- no span
@@ -65,17 +64,6 @@ pub record Spanning (map map' : Words) (lo n at left : ℕ) : Type 0 where
   pub others : (k : ℕ) → (lo ≤ k → k < lo + n → ⊥) → get_or map' k 0 ≡ get_or map k 0
   pub led : (map'' : Words) → is_entries map'' ≡ false → ((k : ℕ) → lo ≤ k → k < at → get_or map'' k 0 ≡ get_or map' k 0)
       → Leads map'' at (lo + n) → Leads map'' lo (lo + n)
-
-pub span_start : (map : Words) (lo n : ℕ) → 0 < n → Spanning map map lo n lo n
-span_start map lo n h = record {
-  long = refl;
-  sum = refl;
-  low = omega arith;
-  some = h;
-  adds = λ u k out. k;
-  others = λ k out. refl;
-  led = λ map'' bytes same x. x;
-}
 
 module _ {map map' : Words} {lo n at left : ℕ} (s : Spanning map map' lo n at left)
     (bytes : is_entries map ≡ false) (room : lo + n ≤ length map) where
@@ -325,16 +313,6 @@ module _ {map map' : Words} {i lo n : ℕ} (put : EntryPut map map' i lo n) (som
       leads = λ p spare out. entry_leads out;
     }
 
--- the search for a place goes on
-pub entry_met : (map : Words) (lo p : ℕ) → is_entries map ≡ true
-    → ((q : ℕ) → home (length map) lo ≤ q → q < p → 0 < cells_at map q) → 0 < four_at map (8 * p + 4)
-    → (q : ℕ) → home (length map) lo ≤ q → q < p + 1 → 0 < cells_at map q
-entry_met map lo p entries met full q l h = go (dec_lt q p)
-  where
-    go : Dec (q < p) → 0 < cells_at map q
-    go (yes g) = met q l g
-    go (no g) = let at : q ≡ p = omega arith in rw (entries, at) full
-
 -- nothing is written where all places from the first on are taken
 pub entry_full : (map : Words) (lo n p : ℕ) → length map / 8 ≤ p
     → ((q : ℕ) → home (length map) lo ≤ q → q < p → 0 < cells_at map q) → is_entries map ≡ true → Grows map map lo n
@@ -359,52 +337,3 @@ grows_none map lo n e = record {
   bare = λ p spare e q g. (spare e).2 q (omega arith);
   leads = λ p spare out. here {k = lo} (omega arith);
 }
-
--- ---- a span that is read
-
-get_d_past : (l : Words) (k : ℕ) → length l ≤ k → get_or l k 0 ≡ 0
-get_d_past [] k h = refl
-get_d_past (x ∷ l) zero h = absurd (omega arith)
-get_d_past (x ∷ l) (suc k) h = get_d_past l k (omega arith)
-
--- a search in entries has come to place p
-module _ (map : Words) (k p : ℕ) (entries : is_entries map ≡ true) (s : Reaches map k p) where
-  pub search_more : 0 < four_at map (8 * p + 4) → four_at map (8 * p) ≢ k → Reaches map k (p + 1)
-  search_more some unlike = (omega (arith, s.0), λ q l h. go q l h (dec_lt q p))
-    where
-      go : (q : ℕ) → home (length map) k ≤ q → q < p + 1 → Dec (q < p) → (0 < cells_at map q) × (first_at map q ≢ k)
-      go q l h (yes g) = s.1 q l g
-      go q l h (no g) = let at : q ≡ p = omega arith in (rw (entries, at) some, rw (entries, at) unlike)
-
-  pub search_found : (n : ℕ) → 0 < n → four_at map (8 * p) ≡ k → n ≡ four_at map (8 * p + 4) → Next map k n
-  search_found n some first units = record {
-    place = p;
-    is = rw entries first;
-    units = rw entries (sym units);
-    some = some;
-    reached = λ e. s;
-  }
-
-  -- an empty entry, or the end
-  pub search_none : (p < length map / 8 → four_at map (8 * p + 4) ≡ 0) → (x : ℕ) → Next map k x → ⊥
-  search_none empty x f =
-      go (f.reached entries) (rw entries at f.units) f.some (dec_lt f.place p) (dec_lt p f.place)
-      (dec_lt p (length map / 8))
-    where
-      go : Reaches map k f.place → four_at map (8 * f.place + 4) ≡ x → 0 < x → Dec (f.place < p) → Dec (p < f.place)
-          → Dec (p < length map / 8) → ⊥
-      go r units some (yes l) d e = (s.1 f.place r.0 l).1 f.is
-      go r units some (no l) (no g) (yes e) =
-          let at : f.place ≡ p = omega arith in
-          let zero : four_at map (8 * f.place + 4) ≡ 0 = ap (λ j. four_at map (8 * j + 4)) at ∙ empty e in
-          omega arith
-      go r units some (no l) (yes g) (yes e) =
-          let full : 0 < four_at map (8 * p + 4) = rw entries at (r.1 p s.0 g).0 in
-          omega (arith, empty e)
-      go r units some (no l) d (no e) =
-          let size = eqb_eq (length map % 8) 1 entries in
-          let at0 = get_d_past map (8 * f.place + 4) (omega arith) in
-          let at1 = get_d_past map (8 * f.place + 4 + 1) (omega arith) in
-          let at2 = get_d_past map (8 * f.place + 4 + 2) (omega arith) in
-          let at3 = get_d_past map (8 * f.place + 4 + 3) (omega arith) in
-          omega arith

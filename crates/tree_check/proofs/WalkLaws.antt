@@ -4,7 +4,6 @@ use Prim.Native.Nat.{ℕ, suc, ◌+◌, ◌≤◌, ◌<◌}
 use native.Mathlib.Decide.{dec_le}
 use native.Mathlib.Omega.{arith}
 use mathlib.Core.Path.{◌≡◌, refl, sym, ap, ◌∙◌, subst}
-use mathlib.Core.Logic.{◌≢◌}
 use mathlib.Core.Bool.{true, false, false≢true}
 use mathlib.Core.List.{List, [], ◌∷◌, ◌++◌}
 use lib.ListN.{length, length-append}
@@ -117,19 +116,6 @@ pub walked_as : {F : Form} {m map : Words} {N l limit k allowed before next free
     → Walked F m map N l limit k before next free → Passes F m map N l limit k allowed before next free
     → Walked F m map N l limit k before n s × Passes F m map N l limit k allowed before n s
 walked_as en es x p = rw (en, es) (x, p)
-
--- a part of the arena
-pub ready_part : {F : Form} {m map : Words} {n N : ℕ} → n ≤ N → Ready F m map N → Ready F m map n
-ready_part h r =
-    let inside = r.inside in
-    let linked = r.linked in
-    let small = r.small in
-    record {
-      places = λ bytes. omega (arith, r.places bytes);
-      inside = omega arith;
-      linked = omega arith;
-      small = omega arith;
-    }
 
 -- ---- runs one after another
 
@@ -335,13 +321,3 @@ module _ {F : Form} (back : Readable F F.links) {m map : Words} {N : ℕ} (ready
         let linked = x.linked in
         absurd (omega arith);
   }
-
-  -- a tree at a link that is not 0 has a node
-  pub not_allowed : {l limit k allowed before r free : ℕ} → l ≢ 0 → allowed ≡ 0
-      → Passes F m map N l limit k allowed before r free
-  not_allowed {l} {limit} {k} {allowed} {before} {r} {free} some none = record { meets = go }
-    where
-      go : (t : Tree) → LiesAt F m map N l limit k t → length (inorder t) ≤ allowed
-          → (r ≡ ends k (inorder t)) × (free ≡ before + total (inorder t))
-      go leaf x few = absurd (some (sym x.linked))
-      go (node a q b) x few = absurd (omega (arith, length-append (inorder a) (q ∷ inorder b)))

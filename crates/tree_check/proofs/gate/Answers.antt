@@ -20,10 +20,6 @@ returns-then-not-right_lengths c =
     is_eight tree_engine (tree_pool c.args.head c.args.arena.now c.args.table.now) known bad
 
 -- the lengths are right
-pub is_stored-requires : goal.is_stored-requires
-is_stored-requires c =
-    sym (c.right_lengths.ensures c.args.head refl) ∙ c.if-not-right_lengths.false
-
 pub returns-then-not-is_stored : goal.returns-then-not-is_stored
 returns-then-not-is_stored c =
     let right = sym (c.right_lengths.ensures c.args.head refl) ∙ c.if-not-right_lengths.false in

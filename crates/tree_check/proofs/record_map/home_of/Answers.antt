@@ -9,9 +9,6 @@ pub returns-then-bytes-eq769 : goal.returns-then-bytes-eq769
 unfolding home
 returns-then-bytes-eq769 c = (sym (rw c.if-bytes-eq769.true), omega arith)
 
-pub overflow_mul-result : goal.overflow_mul-result
-overflow_mul-result c = omega (arith, c.requires)
-
 pub returns : goal.returns
 unfolding home
 returns c = (sym (rw (eqb_ne c.args.bytes 769 c.if-bytes-eq769.false)), omega arith)

@@ -1,12 +1,8 @@
 -- `tree_check::record_map::note_span` meets its contract: up to cell `at` the span is noted. Assumes nothing.
 use native.Mathlib.Omega.{arith}
-use mathlib.Core.Path.{refl}
 use lib.ListN.{length-set}
-use Rattle.tree_check.proofs.SpanLaws.{span_start, span_more, span_last}
+use Rattle.tree_check.proofs.SpanLaws.{span_more, span_last}
 use Rattle.tree_check.proofs.record_map.note_span.Goals as goal
-
-pub loop-left-init : goal.loop-left-init
-loop-left-init c = (omega arith, omega arith, omega arith, refl, span_start _ _ _ c.requires.0)
 
 pub loop-left-preserved : goal.loop-left-preserved
 loop-left-preserved c =

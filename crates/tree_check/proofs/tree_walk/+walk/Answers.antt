@@ -9,10 +9,10 @@ use Rattle.stored_forms.specs.Tree.{Form, form_of}
 use Rattle.stored_forms.proofs.NodeLaws.{Readable, readable}
 use Rattle.tree_nodes.specs.Nodes.{cells}
 use Rattle.tree_check.specs.Walk.{Ready, Between, Walked, Passes}
-use Rattle.tree_check.proofs.WalkLaws.{none_found, joined, ready_part, walked_as, passes_none, passes_both}
-use Rattle.tree_check.proofs.WalkLaws.{not_inside, not_allowed, not_between, not_left, not_following}
+use Rattle.tree_check.proofs.WalkLaws.{none_found, joined, walked_as, passes_none, passes_both}
+use Rattle.tree_check.proofs.WalkLaws.{not_inside, not_between, not_left, not_following}
 use Rattle.tree_check.proofs.tree_walk.+walk.Goals as goal
-use Rattle.tree_check.proofs.tree_walk.+walk.Goals.{then-lower-ne0+else-c-next, else-lower-ne0}
+use Rattle.tree_check.proofs.tree_walk.+walk.Goals.{After-node_ok, then-lower-ne0+else-c-next, else-lower-ne0}
 
 -- the left part of the node at cell c, of z cells, is found right
 abbrev Left : Form → Words → Words → ℕ → ℕ → ℕ → ℕ → ℕ → ℕ → ℕ → ℕ → ℕ → Type 0
@@ -32,27 +32,33 @@ module _ {F : Form} {m map : Words} {N l z k rest before c next sum : ℕ} where
   skipped back ready none inside few low en es =
       let (x, y) = walked_as en es (none_found none inside few) (passes_none back ready none) in (x, omega arith, y)
 
-pub returns-then-link-eq0 : goal.returns-then-link-eq0
-returns-then-link-eq0 t c =
-    let p = c.requires in record {
-      walked = λ h. none_found c.if-link-eq0.true p.k_bound.0 p.k_bound.1;
-      passes = passes_none (readable c.args.form) p.ready c.if-link-eq0.true;
-    }
+-- past the test of the node the block lies right, and so does what is to the left of it
+left_is : {t : ℕ} (c : After-node_ok t)
+    → Between c.args.k (cells (form_of c.args.form) c.args.arena.now.now) c.args.limit (c.args.link - 1) c.length_of-z.result
+    × Left (form_of c.args.form) c.args.arena.now.now c.args.map.now.now (cells (form_of c.args.form) c.args.arena.now.now)
+    c.left_of-lower.result c.length_of-z.result c.args.k (c.args.allowed - 1) c.args.free.now (c.args.link - 1)
+    c.if-lower-ne0.next c.if-lower-ne0.free
+left_is c =
+    let b = subst (λ n. Between c.args.k n c.args.limit (c.args.link - 1) c.length_of-z.result) c.cell_count-count.ensures
+    (c.is_between.ensures.0 c.if-not-is_between.false) in
+    let low = b.low in
+    let some = b.some in
+    let high = b.high in (
+      b,
+      elim c.if-lower-ne0.branch [
+        | then-lower-ne0+else-c-next w ↦
+            called (omega arith) w.walk-next.ensures.walked w.walk-next.ensures.passes (omega arith) w.next-is w.free-is
+        | else-lower-ne0 w ↦
+            skipped (readable c.args.form) c.requires.ready w.if-lower-ne0.false c.requires.k_bound.0 c.requires.k_bound.1 low
+            w.next-is w.free-is
+      ],
+    )
 
 pub returns-then-count-link : goal.returns-then-count-link
 returns-then-count-link t c = record {
   walked = λ h. absurd (omega (arith, c.requires.ready.small));
   passes = not_inside (readable c.args.form) c.requires.ready (omega (arith, c.cell_count-count.ensures));
 }
-
-pub returns-then-allowed-eq0 : goal.returns-then-allowed-eq0
-returns-then-allowed-eq0 t c = record {
-  walked = λ h. absurd (omega (arith, c.requires.ready.small));
-  passes = not_allowed (readable c.args.form) c.requires.ready c.if-link-eq0.false c.if-allowed-eq0.true;
-}
-
-pub length_of-z-requires : goal.length_of-z-requires
-length_of-z-requires t c = omega (arith, c.cell_count-count.ensures)
 
 pub returns-then-not-is_between : goal.returns-then-not-is_between
 returns-then-not-is_between t c =
@@ -66,12 +72,6 @@ returns-then-not-is_between t c =
           ∙ c.if-not-is_between.true));
     }
 
-pub left_of-lower-requires : goal.left_of-lower-requires
-left_of-lower-requires t c = omega (arith, c.cell_count-count.ensures)
-
-pub walk-next-requires : goal.walk-next-requires
-walk-next-requires t c = (omega (arith, c.decreases), (c.requires.ready, c.requires.k_bound))
-
 pub returns-then-c-next : goal.returns-then-c-next
 returns-then-c-next t c =
     record {
@@ -81,46 +81,12 @@ returns-then-c-next t c =
           (omega arith) c.walk-next.ensures.passes (omega arith);
     }
 
-pub node_ok-requires : goal.node_ok-requires
-node_ok-requires t c =
-    let b = subst (λ n. Between c.args.k n c.args.limit (c.args.link - 1) c.length_of-z.result) c.cell_count-count.ensures
-    (c.is_between.ensures.0 c.if-not-is_between.false) in
-    let low = b.low in
-    let some = b.some in
-    let high = b.high in
-    let a = c.args in
-    let F = form_of a.form in
-    let N = cells F a.arena.now.now in
-    let l : Left F a.arena.now.now a.map.now.now N c.left_of-lower.result c.length_of-z.result a.k (a.allowed - 1)
-    a.free.now (a.link - 1) c.if-lower-ne0.next c.if-lower-ne0.free = elim c.if-lower-ne0.branch [
-      | then-lower-ne0+else-c-next w ↦
-          called (omega arith) w.walk-next.ensures.walked w.walk-next.ensures.passes (omega arith) w.next-is w.free-is
-      | else-lower-ne0 w ↦
-          skipped (readable a.form) c.requires.ready w.if-lower-ne0.false c.requires.k_bound.0 c.requires.k_bound.1 low
-          w.next-is w.free-is
-    ] in
-    let (x, inner, p) = l in
-    (inner, some, ready_part high c.requires.ready)
-
 pub returns-then-not-node_ok : goal.returns-then-not-node_ok
 returns-then-not-node_ok t c =
-    let b = subst (λ n. Between c.args.k n c.args.limit (c.args.link - 1) c.length_of-z.result) c.cell_count-count.ensures
-    (c.is_between.ensures.0 c.if-not-is_between.false) in
-    let low = b.low in
-    let some = b.some in
+    let (b, left) = left_is (goal.at.returns-then-not-node_ok t c).After-node_ok in
+    let (x, inner, p) = left in
     let high = b.high in
     let a = c.args in
-    let F = form_of a.form in
-    let N = cells F a.arena.now.now in
-    let l : Left F a.arena.now.now a.map.now.now N c.left_of-lower.result c.length_of-z.result a.k (a.allowed - 1)
-    a.free.now (a.link - 1) c.if-lower-ne0.next c.if-lower-ne0.free = elim c.if-lower-ne0.branch [
-      | then-lower-ne0+else-c-next w ↦
-          called (omega arith) w.walk-next.ensures.walked w.walk-next.ensures.passes (omega arith) w.next-is w.free-is
-      | else-lower-ne0 w ↦
-          skipped (readable a.form) c.requires.ready w.if-lower-ne0.false c.requires.k_bound.0 c.requires.k_bound.1 low
-          w.next-is w.free-is
-    ] in
-    let (x, inner, p) = l in
     record {
       walked = λ h. absurd (omega (arith, c.requires.ready.small));
       passes =
@@ -128,66 +94,12 @@ returns-then-not-node_ok t c =
           (omega arith) p (λ f. true≢false (sym (c.node_ok.ensures.1 f) ∙ c.if-not-node_ok.true));
     }
 
-pub overflow_add-free : goal.overflow_add-free
-overflow_add-free t c =
-    let b = subst (λ n. Between c.args.k n c.args.limit (c.args.link - 1) c.length_of-z.result) c.cell_count-count.ensures
-    (c.is_between.ensures.0 c.if-not-is_between.false) in
-    let low = b.low in
-    let some = b.some in
-    let high = b.high in
-    let a = c.args in
-    let F = form_of a.form in
-    let N = cells F a.arena.now.now in
-    let l : Left F a.arena.now.now a.map.now.now N c.left_of-lower.result c.length_of-z.result a.k (a.allowed - 1)
-    a.free.now (a.link - 1) c.if-lower-ne0.next c.if-lower-ne0.free = elim c.if-lower-ne0.branch [
-      | then-lower-ne0+else-c-next w ↦
-          called (omega arith) w.walk-next.ensures.walked w.walk-next.ensures.passes (omega arith) w.next-is w.free-is
-      | else-lower-ne0 w ↦
-          skipped (readable a.form) c.requires.ready w.if-lower-ne0.false c.requires.k_bound.0 c.requires.k_bound.1 low
-          w.next-is w.free-is
-    ] in
-    let (x, inner, p) = l in
-    let few = x.few in
-    let small = c.requires.ready.small in
-    omega arith
-
-pub right_of-upper-requires : goal.right_of-upper-requires
-right_of-upper-requires t c =
-    let b = subst (λ n. Between c.args.k n c.args.limit (c.args.link - 1) c.length_of-z.result) c.cell_count-count.ensures
-    (c.is_between.ensures.0 c.if-not-is_between.false) in
-    let low = b.low in
-    let some = b.some in
-    let high = b.high in
-    omega arith
-
-pub overflow_add-result : goal.overflow_add-result
-overflow_add-result t c =
-    let b = subst (λ n. Between c.args.k n c.args.limit (c.args.link - 1) c.length_of-z.result) c.cell_count-count.ensures
-    (c.is_between.ensures.0 c.if-not-is_between.false) in
-    let low = b.low in
-    let some = b.some in
-    let high = b.high in
-    omega (arith, c.requires.ready.small)
-
 pub returns-then-upper-eq0 : goal.returns-then-upper-eq0
 returns-then-upper-eq0 t c =
-    let b = subst (λ n. Between c.args.k n c.args.limit (c.args.link - 1) c.length_of-z.result) c.cell_count-count.ensures
-    (c.is_between.ensures.0 c.if-not-is_between.false) in
-    let low = b.low in
-    let some = b.some in
+    let (b, left) = left_is (goal.at.returns-then-upper-eq0 t c).After-node_ok in
+    let (x, inner, p) = left in
     let high = b.high in
     let a = c.args in
-    let F = form_of a.form in
-    let N = cells F a.arena.now.now in
-    let l : Left F a.arena.now.now a.map.now.now N c.left_of-lower.result c.length_of-z.result a.k (a.allowed - 1)
-    a.free.now (a.link - 1) c.if-lower-ne0.next c.if-lower-ne0.free = elim c.if-lower-ne0.branch [
-      | then-lower-ne0+else-c-next w ↦
-          called (omega arith) w.walk-next.ensures.walked w.walk-next.ensures.passes (omega arith) w.next-is w.free-is
-      | else-lower-ne0 w ↦
-          skipped (readable a.form) c.requires.ready w.if-lower-ne0.false c.requires.k_bound.0 c.requires.k_bound.1 low
-          w.next-is w.free-is
-    ] in
-    let (x, inner, p) = l in
     let few = x.few in
     let none = c.if-upper-eq0.true in record {
       walked = λ h.
@@ -198,65 +110,12 @@ returns-then-upper-eq0 t c =
           c.right_of-upper.ensures (omega arith) p (passes_none (readable a.form) c.requires.ready none);
     }
 
-pub overflow_add-z : goal.overflow_add-z
-overflow_add-z t c =
-    let b = subst (λ n. Between c.args.k n c.args.limit (c.args.link - 1) c.length_of-z.result) c.cell_count-count.ensures
-    (c.is_between.ensures.0 c.if-not-is_between.false) in
-    let low = b.low in
-    let some = b.some in
-    let high = b.high in
-    omega (arith, c.requires.ready.small)
-
-pub overflow_add-c : goal.overflow_add-c
-overflow_add-c t c =
-    let b = subst (λ n. Between c.args.k n c.args.limit (c.args.link - 1) c.length_of-z.result) c.cell_count-count.ensures
-    (c.is_between.ensures.0 c.if-not-is_between.false) in
-    let low = b.low in
-    let some = b.some in
-    let high = b.high in
-    omega (arith, c.requires.ready.small)
-
-pub walk-requires : goal.walk-requires
-walk-requires t c =
-    let b = subst (λ n. Between c.args.k n c.args.limit (c.args.link - 1) c.length_of-z.result) c.cell_count-count.ensures
-    (c.is_between.ensures.0 c.if-not-is_between.false) in
-    let low = b.low in
-    let some = b.some in
-    let high = b.high in
-    let a = c.args in
-    let F = form_of a.form in
-    let N = cells F a.arena.now.now in
-    let l : Left F a.arena.now.now a.map.now.now N c.left_of-lower.result c.length_of-z.result a.k (a.allowed - 1)
-    a.free.now (a.link - 1) c.if-lower-ne0.next c.if-lower-ne0.free = elim c.if-lower-ne0.branch [
-      | then-lower-ne0+else-c-next w ↦
-          called (omega arith) w.walk-next.ensures.walked w.walk-next.ensures.passes (omega arith) w.next-is w.free-is
-      | else-lower-ne0 w ↦
-          skipped (readable a.form) c.requires.ready w.if-lower-ne0.false c.requires.k_bound.0 c.requires.k_bound.1 low
-          w.next-is w.free-is
-    ] in
-    let (x, inner, p) = l in
-    let few = x.few in
-    (omega (arith, c.decreases), (c.requires.ready, (high, omega arith)))
-
 pub returns : goal.returns
 returns t c =
-    let b = subst (λ n. Between c.args.k n c.args.limit (c.args.link - 1) c.length_of-z.result) c.cell_count-count.ensures
-    (c.is_between.ensures.0 c.if-not-is_between.false) in
-    let low = b.low in
-    let some = b.some in
+    let (b, left) = left_is (goal.at.returns t c).After-node_ok in
+    let (x, inner, p) = left in
     let high = b.high in
     let a = c.args in
-    let F = form_of a.form in
-    let N = cells F a.arena.now.now in
-    let l : Left F a.arena.now.now a.map.now.now N c.left_of-lower.result c.length_of-z.result a.k (a.allowed - 1)
-    a.free.now (a.link - 1) c.if-lower-ne0.next c.if-lower-ne0.free = elim c.if-lower-ne0.branch [
-      | then-lower-ne0+else-c-next w ↦
-          called (omega arith) w.walk-next.ensures.walked w.walk-next.ensures.passes (omega arith) w.next-is w.free-is
-      | else-lower-ne0 w ↦
-          skipped (readable a.form) c.requires.ready w.if-lower-ne0.false c.requires.k_bound.0 c.requires.k_bound.1 low
-          w.next-is w.free-is
-    ] in
-    let (x, inner, p) = l in
     record {
       walked = λ h.
           joined c.length_of-z.ensures c.left_of-lower.ensures c.right_of-upper.ensures b x inner

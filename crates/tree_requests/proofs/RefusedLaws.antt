@@ -2,18 +2,13 @@
 use mathlib.Core.Path.{◌≡◌, ap, ◌∙◌}
 use mathlib.Core.Bool.{false}
 use mathlib.Core.List.{[]}
-use Prim.Native.Nat.{ℕ, ◌<◌}
-use native.Mathlib.Omega.{arith}
+use Prim.Native.Nat.{ℕ}
 use lib.Dec.{eqb}
 use Rattle.words.specs.Lists.{Words}
 use Rattle.ledger.specs.declared.Row.{Row}
 use Rattle.calls.specs.Pool.{next_after}
 use Rattle.calls.specs.Step.{Act, ask, success}
 use Rattle.calls.specs.Engines.{tree_engine}
-use Rattle.calls.specs.declared.Refusal.{Refusal}
-use Rattle.calls.specs.declared.Refusal.TheVariants.{Damaged, BadSize, NoRecord, NoTicket, NoRoom, UnknownTicket}
-use Rattle.calls.specs.declared.Refusal.TheVariants.{Mismatch, BadLengths, BadRequest, UnknownForm, NoParty}
-use Rattle.calls.specs.Refusals.{number_of}
 use Rattle.call_parts.specs.Results.{acted}
 use Rattle.call_parts.proofs.AskLaws.{RefusedBy}
 use Rattle.call_parts.proofs.ResultLaws.{acted_refused}
@@ -22,20 +17,6 @@ use Rattle.tree_requests.specs.declared.Outcome.{Outcome}
 use Rattle.tree_check.specs.Gate.{tree_pool}
 use Rattle.tree_requests.specs.Outcomes.{handed, refused_with, grant_outcome, release_outcome}
 use Rattle.tree_requests.specs.Outcomes.{effect_number, effect_root, effect_address}
-
--- an effect has room for each number
-pub number_few : (why : Refusal) → number_of why < 16
-number_few Damaged = omega arith
-number_few BadSize = omega arith
-number_few NoRecord = omega arith
-number_few NoTicket = omega arith
-number_few NoRoom = omega arith
-number_few UnknownTicket = omega arith
-number_few Mismatch = omega arith
-number_few BadLengths = omega arith
-number_few BadRequest = omega arith
-number_few UnknownForm = omega arith
-number_few NoParty = omega arith
 
 -- the effect of a request that was served
 module _ (h : Head) (e root : ℕ) (number : effect_number e ≡ 0) (rooted : effect_root e ≡ root) where

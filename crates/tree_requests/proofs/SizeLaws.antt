@@ -29,13 +29,6 @@ few_cells =
     each_form (λ F. (n : ℕ) → n ≤ F.limit → cell_span F n < 4294967296) (λ n l. omega arith) (λ n l. omega arith)
     (λ n l. omega arith)
 
--- and for any words at all nothing wraps
-pub cells_fit : (f n : ℕ) → n < 4294967296 → cell_span (form_of f) n < 8589934592
-unfolding form_one form_two form_three span
-cells_fit =
-    each_form (λ F. (n : ℕ) → n < 4294967296 → cell_span F n < 8589934592) (λ n l. omega arith) (λ n l. omega arith)
-    (λ n l. omega arith)
-
 module _ (f : ℕ) where
   abbrev F : Form
   F = form_of f

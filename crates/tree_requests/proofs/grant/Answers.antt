@@ -89,19 +89,3 @@ returns-then-block-eq0 c =
     (empty_found c.args.table.now c.in-Some.slot found).1 (ne_eqb _ _ c.if-next-eq0.false)
     (none_fits h c.args.arena.now c.args.table.now c.requires.0 c.args.words at (some_units h.form c.args.words good) fit
     c.if-block-eq0.true))
-
-pub place-requires : goal.place-requires
-place-requires c =
-    record {
-      grantable = record {
-        ok = c.requires.0;
-        party = c.requires.1;
-        size = size c.args.head.form c.args.words c.limit_of.ensures c.if-words-limit_of.false;
-        empty = sym c.empty_slot.ensures ∙ c.in-Some.is;
-        ticket = c.if-next-eq0.false;
-        fit = subst (λ (x : ℕ). LeftmostFound (form_of c.args.head.form) c.args.arena.now c.args.head.root x
-            c.leftmost_fit-found.result.at) c.cells_of-cells.ensures c.leftmost_fit-found.ensures.leftmost_found;
-        node_of = c.leftmost_fit-found.ensures.node_of c.if-block-eq0.false;
-      };
-      cells_value = c.cells_of-cells.ensures;
-    }

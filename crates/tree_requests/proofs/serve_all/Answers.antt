@@ -6,23 +6,11 @@ use Rattle.words.specs.Lists.{Words}
 use Rattle.calls.specs.Pool.{Pool}
 use Rattle.calls.specs.Engines.{tree_engine}
 use Rattle.call_parts.specs.Parts.{request_at}
-use Rattle.call_parts.proofs.ListLaws.{list_start, list_next, list_end}
+use Rattle.call_parts.proofs.ListLaws.{list_next, list_end}
 use Rattle.tree_check.specs.Gate.{tree_pool}
 use Rattle.calls.proofs.Engines.{tree_laws}
 use Rattle.call_parts.proofs.ResultLaws.{acted_sound}
 use Rattle.tree_requests.proofs.serve_all.Goals as goal
-
-pub loop-i-init : goal.loop-i-init
-loop-i-init c =
-    let p = tree_pool c.args.head c.args.arena.now c.args.table.now in
-    (c.requires.table_value.0, list_start tree_engine p c.args.party c.args.asked.now c.args.answers.now)
-
-pub serve_at-after-requires : goal.serve_at-after-requires
-serve_at-after-requires c =
-    record {
-      table_value = (c.loop-i.invariant.0, c.requires.table_value.1);
-      i_in_bounds = (omega arith, omega (arith, c.loop-i.invariant.1.size, c.requires.asked_len.1));
-    }
 
 pub loop-i-preserved : goal.loop-i-preserved
 loop-i-preserved c =

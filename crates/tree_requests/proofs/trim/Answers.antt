@@ -18,13 +18,6 @@ returns-then-not-can_keep c =
     (cut_two tree_engine (tree_pool c.args.head c.args.arena.now c.args.table.now) r c.args.keep _ e
     (sym c.can_keep.ensures ∙ c.if-not-can_keep.true))
 
-pub cut_back-requires : goal.cut_back-requires
-cut_back-requires c = (
-  c.requires,
-  sym c.named_slot.ensures ∙ c.in-Ok.is,
-  sym c.can_keep.ensures ∙ c.if-not-can_keep.false,
-)
-
 pub returns-in-Err : goal.returns-in-Err
 returns-in-Err c =
     let r = c.args.named in

@@ -8,10 +8,6 @@ use Rattle.tree_check.specs.Gate.{tree_pool}
 use Rattle.tree_requests.proofs.RefusedLaws.{named_refusal}
 use Rattle.tree_requests.proofs.vacate.Goals as goal
 
-pub give_back-requires : goal.give_back-requires
-give_back-requires c =
-    (c.requires, sym c.named_slot.ensures ∙ c.in-Ok.is)
-
 pub returns-in-Err : goal.returns-in-Err
 returns-in-Err c =
     let t = c.args.table.now in

@@ -1,20 +1,13 @@
 -- `tree_requests::sizes::first_word` meets its contract: by the form. Assumes nothing.
 use Prim.Native.Nat.{◌*◌}
-use native.Mathlib.Omega.{arith}
 use mathlib.Core.Path.{sym, ap}
 use Rattle.stored_forms.specs.Tree.{Form, form_two}
 use Rattle.tree_nodes.proofs.FormLaws.{form_two_lem, form_narrow}
 use Rattle.tree_requests.proofs.sizes.first_word.Goals as goal
 
-pub overflow_mul-result : goal.overflow_mul-result
-overflow_mul-result c = let low = c.requires in omega (arith, low)
-
 pub returns-then-form-eq2 : goal.returns-then-form-eq2
 unfolding form_two
 returns-then-form-eq2 c = sym (ap (λ (F : Form). F.cell * c.args.c) (form_two_lem c.args.form c.if-form-eq2.true))
-
-pub overflow_mul-result-2 : goal.overflow_mul-result-2
-overflow_mul-result-2 c = let low = c.requires in omega (arith, low)
 
 pub returns : goal.returns
 returns c = sym (ap (λ (F : Form). F.cell * c.args.c) (form_narrow c.args.form c.if-form-eq2.false))

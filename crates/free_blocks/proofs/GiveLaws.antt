@@ -279,9 +279,6 @@ module _ {F : Form} (readable : Readable F F.links) where
               (omega (arith, g.some)) (λ u h l. uncovered rs u (g.held u h (omega arith)));
         }
 
-    pub wiped_inside : hi ≤ cells F m₁
-    wiped_inside = rw wiped_long g.inside
-
     module _ {a b : ℕ} (touch : TouchFound F m₁ root lo hi a b) where
       -- what touches the cells from below
       pub touch_below : HeldCell F m₁ root lo (ends_at lo) a rs

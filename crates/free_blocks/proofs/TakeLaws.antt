@@ -14,7 +14,7 @@ use Rattle.stored_forms.specs.Blocks.{Zeros}
 use Rattle.stored_forms.proofs.NodeLaws.{Readable}
 use Rattle.tree_nodes.specs.Nodes.{cells, NodeCleared}
 use Rattle.free_tree.specs.Shapes.{insert, shrink, begins_at}
-use Rattle.free_tree.specs.Held.{At, Deleted, Longer, Shrunk, NodeOf}
+use Rattle.free_tree.specs.Held.{Deleted, Longer, Shrunk}
 use Rattle.free_tree.proofs.ChangeLaws.{within_delete, insert_tree}
 use Rattle.free_tree.proofs.CellLaws.{outside_first}
 use Rattle.free_tree.proofs.ShrinkLaws.{shrink_is}
@@ -69,16 +69,6 @@ module _ {F : Form} (readable : Readable F F.links) where
       let some = b.filled in
       let inside = b.high in
       (omega (arith, p.at), omega (arith, p.at, p.enough, p.lies.tree.small))
-
-  pub take_tree : {m : Words} {root block over k : ℕ}
-      → Takeable F m root block over k
-      → (t : Tree) × At F m root t
-  take_tree (xs, r, ys, p) = (tree_of (xs ++ r ∷ ys), p.lies.tree)
-
-  pub take_node : {m : Words} {root block over k : ℕ}
-      → Takeable F m root block over k
-      → NodeOf F m root block over
-  take_node (xs, r, ys, p) = p.node_of
 
   module _ {m : Words} {root block over k n : ℕ} (len : n ≡ length_at F m (block - 1)) where
     at_block : (xs : List Run) (r : Run) (ys : List Run) → Takes F m root block over k xs r ys

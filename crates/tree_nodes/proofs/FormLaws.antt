@@ -17,11 +17,11 @@ use Rattle.words.specs.Flags.{Says}
 use Rattle.words.specs.Counted.{every}
 use Rattle.words.proofs.Tests.{eqb_eq, eqb_ne}
 use Rattle.words.proofs.CountedLaws.{every_at, every_of}
-use Rattle.stored_forms.specs.Tree.{Form, form_one, form_two, form_three, form_of, narrow, two_words, four_words}
-use Rattle.stored_forms.specs.Tree.{length_at, left_at, right_at, cells_per_unit}
+use Rattle.stored_forms.specs.Tree.{form_one, form_two, form_three, form_of, narrow, two_words, four_words}
+use Rattle.stored_forms.specs.Tree.{length_at, left_at, right_at}
 use Rattle.stored_forms.specs.Blocks.{Zeros}
 use Rattle.stored_forms.proofs.NodeLaws.{each_form, readable}
-use Rattle.tree_nodes.specs.Nodes.{cells, NodeOnly, NodePut, LeftSet, RightSet, NodeCleared}
+use Rattle.tree_nodes.specs.Nodes.{NodeOnly, NodePut, NodeCleared}
 
 -- ---- the forms
 
@@ -46,29 +46,8 @@ form_narrow f e = rw (eqb_ne f 2 e) (go (eqb f 3))
     go true = refl
     go false = refl
 
-module _ (f : ℕ) (e : f ≢ 2) {m m' : Words} {c : ℕ} where
-  pub narrow_put : {n l r : ℕ} → NodePut form_one m m' c n l r → NodePut (form_of f) m m' c n l r
-  unfolding form_one
-  narrow_put put = rw (form_narrow f e) (record { node = put.node; frame = put.frame; long = put.long })
-
-  pub narrow_left : {l : ℕ} → LeftSet form_one m m' c l → LeftSet (form_of f) m m' c l
-  unfolding form_one
-  narrow_left set = rw (form_narrow f e) (λ node.
-      let put = set node in record { node = put.node; frame = put.frame; long = put.long })
-
-  pub narrow_right : {r : ℕ} → RightSet form_one m m' c r → RightSet (form_of f) m m' c r
-  unfolding form_one
-  narrow_right set = rw (form_narrow f e) (λ node.
-      let put = set node in record { node = put.node; frame = put.frame; long = put.long })
-
--- a unit is one cell in all but the third
-pub one_cell : (f : ℕ) → f ≢ 3 → cells_per_unit (form_of f) ≡ 1
-unfolding form_of form_one form_two
-one_cell f e = rw (eqb_ne f 3 e) (go (eqb f 2))
-  where
-    go : (b : Bool) → cells_per_unit (cond b form_two form_one) ≡ 1
-    go true = refl
-    go false = refl
+-- which form has the number, for goals that a form's number decides
+pub ruleset by_form = (form_one_lem, form_two_lem, form_three_lem, form_narrow)
 
 pub link_zero : (f : ℕ) → 0 < (form_of f).links
 unfolding form_one form_two form_three

@@ -83,23 +83,7 @@ module _ (m : Words) (c : ℕ) (inside : c < cells form_two m) where
   -- ---- a cell that was zero
 
   module _ (zeros : Zeros m (form_two.cell * c) (form_two.cell * suc c)) (n : ℕ) where
-    pub left_zero : (4 * c + 1 < length (set m (4 * c) n)) × (get_or (set m (4 * c) n) (4 * c + 1) 0 ≡ 0)
-    unfolding form_two
-    left_zero = (
-      simp length-set (omega (arith, four_in)),
-      get_or-set_other m (4 * c) (4 * c + 1) n 0 (λ z. omega arith) ∙ zeros (4 * c + 1) (omega arith) (omega arith),
-    )
-
     module _ {m₂ : Words} (l : ℕ) (e : m₂ ≡ set (set m (4 * c) n) (4 * c + 1) l) where
-      pub right_zero : (4 * c + 2 < length m₂) × (get_or m₂ (4 * c + 2) 0 ≡ 0)
-      unfolding form_two
-      right_zero = rw e (
-        simp length-set (omega (arith, four_in)),
-        get_or-set_other (set m (4 * c) n) (4 * c + 1) (4 * c + 2) l 0 (λ z. omega arith)
-            ∙ get_or-set_other m (4 * c) (4 * c + 2) n 0 (λ z. omega arith)
-            ∙ zeros (4 * c + 2) (omega arith) (omega arith),
-      )
-
       pub four_put_first : {m₃ : Words} {r : ℕ} → m₃ ≡ set m₂ (4 * c + 2) r → NodePut form_two m m₃ c n l r
       unfolding form_two
       four_put_first {m₃} {r} f = rw (f, e) (four_put n l r (zeros (4 * c + 3) (omega arith) (omega arith)))

@@ -6,7 +6,6 @@ ghost use Rattle.tree_nodes.specs.Nodes.{differ};
 use crate::layout::Layout;
 
 // Writes the link `l` to word `i`, which is zero, if it is not 0. Returns 1 if it was written, else 0.
-#[tactic(auto, unfolding(stored_forms::specs::Tree::form_two))]
 fn put_link(arena: &mut [u32], i: usize, l: usize) -> u64
     requires { (i < length arena.old) × (l < form_two.links) × (get_or arena.old i 0 ≡ 0) }
     ensures { (arena.new ≡ set arena.old i l) × (result ≡ differ 0 l) }
@@ -21,7 +20,6 @@ fn put_link(arena: &mut [u32], i: usize, l: usize) -> u64
 // The layout of form 2.
 pub struct FourWords;
 
-#[tactic(auto, unfolding(stored_forms::specs::Tree::form_two))]
 impl Layout for FourWords {
     ghost form = { form_two };
 

@@ -1,6 +1,6 @@
 // Nodes of the free tree (01, "Stored form of the tree pool"), one by one: no other crate's code knows how a node lies
 // in the words of its cell. The first parameter is the form's number (02, ticket 3).
-#![tactic(auto)]
+#![tactic(auto, using(crate::proofs::FormLaws::by_form), unfolding(stored_forms::specs::Tree::form_one, stored_forms::specs::Tree::form_two, stored_forms::specs::Tree::form_three, stored_forms::specs::Tree::tree_range))]
 
 pub mod forms;
 pub mod four_words;

@@ -18,7 +18,6 @@ fn if_link(l: usize) -> u64
 // The layout of forms 1 and 3.
 pub struct TwoWords;
 
-#[tactic(auto, unfolding(stored_forms::specs::Tree::form_one))]
 impl Layout for TwoWords {
     ghost form = { form_one };
 

@@ -1,26 +1,15 @@
 -- `free_blocks::give_cells` meets its contract: the cells are wiped, the blocks that touch them are taken out, and the
 -- sum is put in. Assumes nothing.
 use native.Mathlib.Omega.{arith}
-use Rattle.stored_forms.specs.Tree.{tree_of}
 use Rattle.stored_forms.proofs.NodeLaws.{readable}
 use Rattle.tree_nodes.proofs.FormLaws.{few_links}
-use Rattle.free_blocks.proofs.GiveLaws.{wiped_inside, wiped_clear, touch_below, touch_above}
+use Rattle.free_blocks.proofs.GiveLaws.{wiped_clear, touch_below, touch_above}
 use Rattle.free_blocks.proofs.GiveLaws.{sum_fits, room, give}
 use Rattle.free_blocks.proofs.give_cells.Goals as goal
 
-pub wipe_cells-requires : goal.wipe_cells-requires
-wipe_cells-requires c =
-    let (rs, g) = c.requires in
-    (omega (arith, g.some), g.inside)
-
-pub touching-touched-requires : goal.touching-touched-requires
-touching-touched-requires c =
-    let (rs, g) = c.requires in
-    let wipe = c.wipe_cells.ensures in
-    record {
-      hi_bound = wiped_inside (readable _) wipe g;
-      clear = (tree_of rs, wiped_clear (readable _) wipe g);
-    }
+pub touching-touched-requires-clause-clear : goal.touching-touched-requires-clause-clear
+touching-touched-requires-clause-clear c =
+    let (rs, g) = c.requires in (_, wiped_clear (readable _) c.wipe_cells.ensures g)
 
 pub merge_below-below-requires : goal.merge_below-below-requires
 merge_below-below-requires c =

@@ -2,20 +2,14 @@
 use Rattle.stored_forms.specs.Tree.{form_of}
 use Rattle.free_tree.proofs.Numbers.{in_kept}
 use Rattle.stored_forms.proofs.NodeLaws.{readable}
-use Rattle.free_blocks.proofs.TakeLaws.{take_in, take_tree, take_node, take_longer, take_part, take_whole}
+use Rattle.free_blocks.proofs.TakeLaws.{take_in, take_longer, take_part, take_whole}
 use Rattle.free_blocks.proofs.take_cells.Goals as goal
 
 pub length_of-n-requires : goal.length_of-n-requires
 length_of-n-requires c = (take_in (readable _) c.requires).0
 
-pub shrink-whole-requires : goal.shrink-whole-requires
-shrink-whole-requires c =
-    let p = c.requires in
-    let longer = take_longer (readable _) c.length_of-n.ensures c.if-k-n.true p in
-    record {
-      by_index = longer;
-      node_of = take_node (readable _) p;
-    }
+pub shrink-whole-requires-clause-by_index : goal.shrink-whole-requires-clause-by_index
+shrink-whole-requires-clause-by_index c = take_longer (readable _) c.length_of-n.ensures c.if-k-n.true c.requires
 
 pub clear_node-requires : goal.clear_node-requires
 clear_node-requires c =
@@ -24,13 +18,6 @@ clear_node-requires c =
 pub returns-then-k-n : goal.returns-then-k-n
 returns-then-k-n c =
     take_part (readable _) c.length_of-n.ensures c.if-k-n.true c.shrink-whole.ensures c.clear_node.ensures
-
-pub delete_at-rest-requires : goal.delete_at-rest-requires
-delete_at-rest-requires c =
-    let p = c.requires in record {
-      at = take_tree (readable _) p;
-      node_of = take_node (readable _) p;
-    }
 
 pub clear_node-requires-2 : goal.clear_node-requires-2
 clear_node-requires-2 c =

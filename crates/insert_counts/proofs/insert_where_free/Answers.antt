@@ -1,25 +1,9 @@
 -- `insert_counts::insert_where_free` meets its contract. Assumes nothing.
-use Rattle.std.proofs.Common.{arith}
 use Rattle.insert_counts.proofs.MapLaws.{root_read, room, inserted}
 use Rattle.insert_counts.proofs.insert_where_free.Goals as goal
 
 pub returns-then-not-fits : goal.returns-then-not-fits
 returns-then-not-fits c = root_read _ c.requires
-
-pub overflow_add-x : goal.overflow_add-x
-overflow_add-x c =
-    let f = c.fits.ensures c.if-not-fits.false in
-    omega (arith, f.inside, c.requires.paired.few)
-
-pub mark-requires : goal.mark-requires
-mark-requires c =
-    let f = c.fits.ensures c.if-not-fits.false in
-    (omega arith, f.inside)
-
-pub overflow_cast-n : goal.overflow_cast-n
-overflow_cast-n c =
-    let f = c.fits.ensures c.if-not-fits.false in
-    omega (arith, f.inside, c.requires.paired.few)
 
 pub insert-requires : goal.insert-requires
 insert-requires c =

@@ -2,13 +2,8 @@
 use Rattle.tree_nodes.proofs.FormLaws.{link_zero, put_cleared}
 use Rattle.tree_nodes.proofs.clear_node.Goals as goal
 
-pub put_node-requires : goal.put_node-requires
-put_node-requires c =
-    let some = link_zero c.args.form in
-    record {
-      c_bound = c.requires;
-      l_bound = (some, some);
-    }
+pub put_node-requires-clause-l_bound : goal.put_node-requires-clause-l_bound
+put_node-requires-clause-l_bound c = (link_zero c.args.form, link_zero c.args.form)
 
 pub returns : goal.returns
 returns c =

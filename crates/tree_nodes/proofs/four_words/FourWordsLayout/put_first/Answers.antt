@@ -1,7 +1,5 @@
 -- `FourWords::put_first` meets its contract: word 0, and words 1 and 2 where a link is not 0. Assumes nothing.
-use Rattle.std.proofs.Common.{arith}
-use Rattle.tree_nodes.proofs.LinkLaws.{differ_few}
-use Rattle.tree_nodes.proofs.FormTwo.{left_zero, right_zero, four_put_first}
+use Rattle.tree_nodes.proofs.FormTwo.{four_put_first}
 use Rattle.tree_nodes.proofs.four_words.FourWordsLayout.put_first.Goals as goal
 
 pub returns-clause-node_put : goal.returns-clause-node_put

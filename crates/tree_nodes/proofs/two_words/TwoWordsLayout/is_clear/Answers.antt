@@ -1,5 +1,4 @@
 -- `TwoWords::is_clear` meets its contract: behind the node's words, one test of zeros. Assumes nothing.
-use Rattle.std.proofs.Common.{arith}
 use Rattle.stored_forms.specs.Tree.{form_one}
 use Rattle.tree_nodes.proofs.FormLaws.{two_clear}
 use Rattle.tree_nodes.proofs.two_words.TwoWordsLayout.is_clear.Goals as goal

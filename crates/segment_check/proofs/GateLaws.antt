@@ -1,14 +1,12 @@
 -- The gate: the lent lengths, and when table, arena and index together are a stored pool. Assumes nothing.
-use Prim.Native.Nat.{ℕ, ◌+◌, ◌*◌, ◌%◌, ◌≤◌, ◌<◌, ◌^◌}
-use native.Mathlib.Decide.{ℕ_discrete, dec_le}
+use Prim.Native.Nat.{ℕ, ◌*◌, ◌%◌, ◌≤◌}
 use native.Mathlib.Omega.{arith}
-use mathlib.Core.Path.{◌≡◌, refl, sym, ap, ◌∙◌, subst}
+use mathlib.Core.Path.{◌≡◌, refl, sym, ap, ◌∙◌}
 use mathlib.Core.Bool.{Bool, true, false, ◌&&◌, true≢false}
 use mathlib.Core.List.{List, []}
 use lib.Dec.{eqb, leb}
-use lib.IntN.{ℤ, pos}
-use lib.ListN.{length, get_or, length-map, get_or-eq_default}
-use lib.Signed.{mag}
+use lib.IntN.{ℤ}
+use lib.ListN.{length, length-map}
 use mir.Syntax.{w32}
 use mir.Val.{of_z}
 use Rattle.words.specs.Lists.{Words}
@@ -75,25 +73,6 @@ module _ {S : ℕ} {v : List ℤ} {t x : Words} (fit : InRange S v t x) {r : Seg
 
   pub measured : Measured v t x r.count r.size
   measured = record { sizes = sized; few = fit.few; long = fit.indexed ∙ ap (λ (s : ℕ). 3 * s) (sym d.count) }
-
--- ---- the words
-
-abbrev Below : List ℤ → ℕ → Type 0
-Below v i = (j : ℕ) → j < i → mag (get_or v j (pos 0)) < 2 ^ 31
-
-pub ranged_next : (v : List ℤ) (i : ℕ) → Below v i → mag (get_or v i (pos 0)) < 2 ^ 31 → Below v (i + 1)
-ranged_next v i below here j l = go (ℕ_discrete j i)
-  where
-    go : Dec (j ≡ i) → mag (get_or v j (pos 0)) < 2 ^ 31
-    go (yes e) = subst (λ (k : ℕ). mag (get_or v k (pos 0)) < 2 ^ 31) (sym e) here
-    go (no n) = below j (omega arith)
-
-pub ranged_end : (v : List ℤ) (i : ℕ) → Below v i → length v ≤ i → Ranged v
-ranged_end v i below end j = go (dec_le i j)
-  where
-    go : Dec (i ≤ j) → mag (get_or v j (pos 0)) < 2 ^ 31
-    go (yes h) = rw (get_or-eq_default v (pos 0) {n = j} (omega arith)) (omega arith)
-    go (no h) = below j (omega arith)
 
 -- ---- the pool
 

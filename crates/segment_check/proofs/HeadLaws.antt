@@ -12,7 +12,7 @@ use mathlib.Core.Path.{◌≡◌, refl, sym, ap, ◌∙◌, subst}
 use lib.Dec.{eqb}
 use lib.IntN.{ℤ, pos, neg_ℤ, nat_abs}
 use lib.ListN.{length, get_or}
-use Rattle.words.specs.Lists.{Words, all, is_zero}
+use Rattle.words.specs.Lists.{Words}
 use Rattle.words.specs.Counted.{every}
 use Rattle.words.proofs.Tests.{and_l, and_r, and_i, eqb_eq, eqb_ne, eqb_same, of_not}
 use Rattle.ledger.specs.declared.Row.{Row}
@@ -29,11 +29,10 @@ use Rattle.segment_cores.proofs.ChangeLaws.{controls}
 use Rattle.segment_check.specs.Right.{held_right, tree_right, segment_right, Measured}
 use Rattle.segment_check.proofs.IndexLaws.{stored_ground, index_stored}
 use Rattle.record_table.specs.Partition.{Noted, Joins}
-use Rattle.record_table.proofs.EnterLaws.{enter_start, enter_next, noted_start}
+use Rattle.record_table.proofs.EnterLaws.{enter_next}
 use Rattle.record_table.proofs.PartitionLaws.{held_by, partition_valid, valid_count}
 use Rattle.segment_check.specs.BitMaps.{bit_at}
 use Rattle.segment_check.specs.Adjoining.{held_from, Adjoining, Matched, Heads, Sets, Good, Joined, Headed, Shown, WalksAll}
-use Rattle.segment_check.proofs.BitLaws.{no_bit}
 use Rattle.segment_check.proofs.ArenaLaws.{held_is, arena_partitioned, arena_kept, arena_good}
 use Rattle.segment_check.proofs.KeptLaws.{passing}
 
@@ -137,15 +136,6 @@ module _ (v : List ℤ) (next : ℕ) (t : Words) (i u : ℕ) (J : Joins segment_
 -- ---- slot after slot
 
 module _ (v : List ℤ) (next : ℕ) (t : Words) (m : ℕ) where
-  pub headed_start : (map seen : Words) → all is_zero map ≡ true → Headed v next t map seen m 0 0
-  headed_start map seen z = record {
-    entered = enter_start segment_rule (length v) next t;
-    right = refl;
-    noted = noted_start m seen t;
-    heads = λ k e. absurd (no_bit map z k e);
-    sets = λ j l. absurd (omega arith);
-  }
-
   pub headed_next : (map seen map' seen' : Words) (i held u : ℕ) → Headed v next t map seen m i held
       → Joined v next t map' seen' m i u → Headed v next t map' seen' m (i + 1) (held + u)
   headed_next map seen map' seen' i held u H J = record {
@@ -228,9 +218,6 @@ module _ (v : List ℤ) (next : ℕ) (t x : Words) (s g : ℕ) (Z : Measured v t
     count =
         rw (div-one (length v)) at
         (valid_count segment_rule (omega arith) (length v) next t P.0 held H.entered)
-
-    pub stored_held : held ≤ length v
-    stored_held = omega (arith, count)
 
     -- the words that were walked over, and those of the records, are all
     pub stored_exact : (free' : Option ℕ) → WalksAll v map x s g free' → IsSomeAnd free' (λ n. n + held ≡ length v)

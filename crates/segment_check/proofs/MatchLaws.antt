@@ -1,10 +1,9 @@
 -- Laws of blocks that are walked over segment by segment, each with its two words in the index. Assumes nothing.
 use Prim.Native.Nat.{ℕ, ◌+◌, ◌-◌, ◌*◌, ◌≤◌, ◌<◌, min}
-use native.Mathlib.Nat.{zero-mul}
 use native.Mathlib.Omega.{arith}
 use mathlib.Core.Bool.{Bool, true, false, not, ◌||◌}
 use mathlib.Core.List.{List}
-use mathlib.Core.Path.{◌≡◌, refl, sym, ap, ap₂, ◌∙◌, subst}
+use mathlib.Core.Path.{◌≡◌, sym, ap, ap₂, ◌∙◌, subst}
 use lib.IntN.{ℤ}
 use lib.Dec.{eqb}
 use lib.ListN.{length, get_or}
@@ -17,11 +16,10 @@ use Rattle.stored_forms.proofs.SegmentLaws.{segment_size_lem}
 use Rattle.record_table.proofs.PairLaws.{every_last}
 use Rattle.segment_blocks.specs.Upkeep.{Sizes, Ground, first_from}
 use Rattle.segment_blocks.proofs.ScanLaws.{come_start, come_end}
-use Rattle.segment_blocks.proofs.BuildLaws.{Passing, pass_start, pass_facing, pass_on}
+use Rattle.segment_blocks.proofs.BuildLaws.{Passing, pass_facing, pass_on}
 use Rattle.segment_blocks.proofs.UpkeepLaws.{sizes_some, leaf_right, first_right}
 use Rattle.segment_check.specs.Right.{two_right, segment_right}
 use Rattle.segment_check.specs.Adjoining.{Adjoining, Walked, Matched}
-use Rattle.segment_check.proofs.AdjoiningLaws.{adjoining_start}
 
 -- no block begins from `at` up to hi, where blocks have led past that
 pub walked_none : (v : List ℤ) (map : Words) (at hi free : ℕ) (after : Bool) → Adjoining v map at free after → free ≤ at
@@ -97,15 +95,6 @@ pub record Matching (v : List ℤ) (map t : Words) (s g k at free : ℕ) (after 
       → Passing v c g k at × (every (segment_right c (length v) s t) 0 k ≡ true)
 
 module _ (v : List ℤ) (map t : Words) (s g : ℕ) where
-  pub match_start : Matching v map t s g 0 0 0 false
-  match_start = record {
-    adjoining = adjoining_start v map;
-    few = omega arith;
-    inside = omega arith;
-    high = omega (arith, zero-mul g);
-    right = λ c G. (pass_start v c s g G, refl);
-  }
-
   -- the two words of the next segment, where the index is that of the blocks
   pub match_two : (k at free hi next free' most : ℕ) (after after' : Bool) → Matching v map t s g k at free after
       → k < s → hi ≡ min ((k + 1) * g) (length v) → Walked v map at hi next free' after' most

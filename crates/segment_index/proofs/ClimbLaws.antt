@@ -118,14 +118,6 @@ pub record Down (s : ℕ) (t : Words) (lo hi h j : ℕ) : Type 0 where
   pub reach : j * 2 ^ h + 2 ^ h ≤ hi
   pub empty : (k : ℕ) → j * 2 ^ h + 2 ^ h ≤ k → k < hi → get_or t k 0 ≡ 0
 
-pub down_start : (s : ℕ) (t : Words) (h j : ℕ) → Under s t h j → Down s t (j * 2 ^ h) (j * 2 ^ h + 2 ^ h) h j
-down_start s t h j u = record {
-  under = u;
-  above = omega arith;
-  reach = omega arith;
-  empty = λ k a b. absurd (omega arith);
-}
-
 module _ (s : ℕ) (t : Words) (lo hi : ℕ) where
   module _ (h j : ℕ) (D : Down s t lo hi (suc h) j) where
     u : Under s t (suc h) j

@@ -43,9 +43,6 @@ ones_power s h =
     let log = not (is_power s depth) || (eqb s (2 ^ count_trailing_zeros 32 s) && leb (count_trailing_zeros 32 s) depth) in
     same_is (eqb (ones s) 1) (is_power s depth) (and_l agree log (right_at_lem s h))
 
-pub power_large : (s : ℕ) → 256 < s → is_power s depth ≡ false
-power_large s h = false_of (is_power s depth) (λ e. omega (arith, (power_range s depth e).1))
-
 pub power_log : (s : ℕ) → is_power s depth ≡ true → (s ≡ 2 ^ count_trailing_zeros 32 s) × (count_trailing_zeros 32 s ≤ depth)
 unfolding right
 power_log s e =

@@ -26,9 +26,6 @@ right c =
     let a = c.args in
     sym (c.right_lengths.ensures a.head) ∙ c.if-not-right_lengths.false
 
-pub is_stored-requires : goal.is_stored-requires
-is_stored-requires c = right (goal.at.is_stored-requires c).Else-not-right_lengths
-
 pub returns-then-not-is_stored : goal.returns-then-not-is_stored
 returns-then-not-is_stored c =
     let lengths-right = right (goal.at.returns-then-not-is_stored c).Else-not-right_lengths in

@@ -2,7 +2,7 @@
 use Prim.Native.Nat.{ℕ, ◌-◌, ◌≤◌}
 use native.Mathlib.Omega.{arith}
 use mathlib.Core.Path.{◌≡◌, ◌∙◌, sym, ap}
-use mathlib.Core.Bool.{true≢false, false≢true}
+use mathlib.Core.Bool.{true≢false}
 use mathlib.Core.Logic.{◌≢◌}
 use mathlib.Core.List.{List}
 use lib.IntN.{ℤ, pos, nat_abs}
@@ -24,9 +24,6 @@ place v next t i u r joins is some =
     let (low, high, at) = head_inside v next t i u joins some in
     let same = ap (λ (q : Row). q.address) is in
     (omega arith, omega arith)
-
-pub returns-in_err-u-clause-good : goal.returns-in_err-u-clause-good
-returns-in_err-u-clause-good c = λ g. absurd (false≢true (c.in_err-u.ensures.accepts g.fits g.new))
 
 pub returns-then-u-eq0-clause-joined : goal.returns-then-u-eq0-clause-joined
 returns-then-u-eq0-clause-joined c =
@@ -62,13 +59,6 @@ returns-then-not-is_held-clause-good c =
     let same = ap (λ (q : Row). q.address - 1) c.read_row-r.ensures in
     let is = ap (λ k. get_or a.v.now k (pos 0)) same ∙ word in
     absurd (true≢false (sym (c.is_held.ensures.value is) ∙ c.if-not-is_held.true))
-
-pub put_bit-requires : goal.put_bit-requires
-put_bit-requires c =
-    let a = c.args in
-    let (low, high) = place a.v.now a.next a.table.now a.i c.in_ok-u.u c.read_row-r.result c.in_ok-u.ensures.joins.1
-    c.read_row-r.ensures c.if-u-eq0.false in
-    omega (arith, c.requires.1)
 
 pub returns-clause-joined : goal.returns-clause-joined
 returns-clause-joined c =

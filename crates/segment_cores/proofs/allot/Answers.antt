@@ -5,12 +5,9 @@ use mathlib.Core.List.{List}
 use mathlib.Core.Path.{◌∙◌, ap}
 use lib.IntN.{ℤ, pos, neg_ℤ}
 use lib.ListN.{set}
-use Rattle.segment_cores.proofs.ChangeLaws.{controls, grant_inside, grant_large, grant_fits, grant_touches}
+use Rattle.segment_cores.proofs.ChangeLaws.{controls, grant_large, grant_fits, grant_touches}
 use Rattle.segment_cores.proofs.ChangeLaws.{grant_becomes}
 use Rattle.segment_cores.proofs.allot.Goals as goal
-
-pub size_at-requires : goal.size_at-requires
-size_at-requires c = let (L, M, k) = c.requires in grant_inside L M _ _ _ _ _ _ k
 
 pub overflow_sub-y : goal.overflow_sub-y
 overflow_sub-y c =

@@ -1,11 +1,8 @@
 -- `segment_cores::free_below` meets its contract. Assumes nothing.
 use native.Mathlib.Omega.{arith}
 use Rattle.segment_cores.proofs.ChangeLaws.{controls}
-use Rattle.segment_cores.proofs.NearLaws.{later_block, chain, beneath_none, before_inside, beneath}
+use Rattle.segment_cores.proofs.NearLaws.{later_block, chain, before_inside, beneath}
 use Rattle.segment_cores.proofs.free_below.Goals as goal
-
-pub returns-then-p-eq0 : goal.returns-then-p-eq0
-returns-then-p-eq0 c = λ L k. beneath_none L _ _ _ _ _ _ k c.if-p-eq0.true
 
 pub begun_before-from-requires : goal.begun_before-from-requires
 begun_before-from-requires c =

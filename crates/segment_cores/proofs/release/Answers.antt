@@ -17,9 +17,6 @@ use Rattle.segment_cores.proofs.ChangeLaws.{controls, release_touches, release_b
 use Rattle.segment_cores.proofs.NearLaws.{held_at, rest_below, rest_above}
 use Rattle.segment_cores.proofs.release.Goals as goal
 
-pub free_below-x-requires : goal.free_below-x-requires
-free_below-x-requires c = let (L, M, k) = c.requires in (L, held_at L M _ _ _ _ _ _ _ k)
-
 -- the free words above the block
 above : (L M : Ledger) (v : List ℤ) (t : Words) (s d g p n y : ℕ) → Releasing L M v t s d g p n → y ≡ rest_at v (p + n)
     → RunOf (free segment_rule M) (p + n) (length v - (p + n)) y
@@ -31,11 +28,6 @@ merge-requires c =
     let (L, M, k) = c.requires in
     let low = c.free_below-x.ensures L (held_at L M _ _ _ _ _ _ _ k) in
     (k.adds.some, low.fits, omega (arith, (above L M _ _ _ _ _ _ _ _ k c.free_above-y.ensures).fits, k.adds.inside), k.sound.sizes.most)
-
-pub overflow_sub-p : goal.overflow_sub-p
-overflow_sub-p c =
-    let (L, M, k) = c.requires in
-    (c.free_below-x.ensures L (held_at L M _ _ _ _ _ _ _ k)).fits
 
 pub overflow_add-p-4 : goal.overflow_add-p-4
 overflow_add-p-4 c =

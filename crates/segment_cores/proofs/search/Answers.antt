@@ -6,7 +6,7 @@ use Rattle.ledger.specs.Records.{Ledger}
 use Rattle.segment_blocks.specs.Blocks.{FirstFit}
 use Rattle.segment_cores.specs.Cores.{Searching}
 use Rattle.segment_cores.proofs.ChangeLaws.{controls}
-use Rattle.segment_cores.proofs.SearchLaws.{few_segments, index_long, root_inside, heap, search_none, leaf_low}
+use Rattle.segment_cores.proofs.SearchLaws.{index_long, root_inside, heap, search_none}
 use Rattle.segment_cores.proofs.SearchLaws.{leaf_inside, search_scan, search_few, search_found}
 use Rattle.segment_cores.proofs.search.Goals as goal
 use Rattle.segment_cores.proofs.search.Goals.{After-first_fit-fit}
@@ -21,17 +21,6 @@ pub descend-requires : goal.descend-requires
 descend-requires c =
     let (L, k) = c.requires in
     (k.few, heap L _ _ _ _ _ k, c.if-t-n.false)
-
-pub overflow_sub-k : goal.overflow_sub-k
-overflow_sub-k c = let (L, k) = c.requires in leaf_low L _ _ _ _ _ k _ c.descend.ensures
-
-pub overflow_mul-s : goal.overflow_mul-s
-overflow_mul-s c = let (L, k) = c.requires in omega (arith, few_segments L _ _ _ _ _ k)
-
-pub overflow_add-s : goal.overflow_add-s
-overflow_add-s c =
-    let (L, k) = c.requires in
-    omega (arith, few_segments L _ _ _ _ _ k, leaf_inside L _ _ _ _ _ k _ c.descend.ensures)
 
 pub index_word-from-requires : goal.index_word-from-requires
 index_word-from-requires c =
@@ -56,12 +45,6 @@ scanned c L k =
     let leaf = c.descend.ensures in
     let from = c.index_word-from.ensures in
     rw from at (c.first_fit-fit.ensures (controls L (length v)) (rw from (search_scan L _ _ _ _ _ k _ leaf)))
-
-pub overflow_cast-places : goal.overflow_cast-places
-overflow_cast-places c = let (L, k) = c.requires in omega (arith, k.few)
-
-pub overflow_add-places : goal.overflow_add-places
-overflow_add-places c = let (L, k) = c.requires in omega (arith, k.few)
 
 pub overflow_add-places-2 : goal.overflow_add-places-2
 overflow_add-places-2 c =

@@ -46,8 +46,9 @@ fn shown(b: u8) -> u8 {
 }
 
 // The text that a line has behind so many blanks.
-fn read_text(alloc: Global, line: &[u8], blanks: usize) -> Result<Vec<u8>, AllocError> {
-    let part = line.splitn(blanks + 1, |b| *b == b' ').nth(blanks);
+fn read_text(alloc: Global, line: &[u8], blanks: u8) -> Result<Vec<u8>, AllocError> {
+    let n = usize::from(blanks);
+    let part = line.splitn(n + 1, |b| *b == b' ').nth(n);
     part.unwrap_or(&[])
         .iter()
         .take(4096)
@@ -131,7 +132,7 @@ fn command_of(line: &[u8]) -> Option<Command> {
 }
 
 // The first given number is the room for answers.
-fn call(
+fn serve(
     rt: &HostRuntime,
     call: Call,
     line: &[u8],
@@ -167,7 +168,7 @@ fn call_lent(
     let before = *state;
     let n = lent.min(state.len());
     let room = given.word(0) as usize;
-    call(rt, kind, line, room, &mut state[..n], &mut answers)?;
+    serve(rt, kind, line, room, &mut state[..n], &mut answers)?;
     let change = if *state == before {
         "; the buffer as it was"
     } else {

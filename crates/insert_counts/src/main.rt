@@ -2,10 +2,10 @@
 // insertion says it stored is held to a count over the arena's words before and after.
 #![tactic(auto)]
 
-ghost use Rattle.std.specs.Prelude.{◌≡◌, ◌≤◌, true, length};
+ghost use Rattle.std.specs.Prelude.{◌≡◌, ◌≤◌, true, length, MatchOption};
 ghost use Rattle.stored_forms.specs.Tree.{form_of};
 ghost use Rattle.free_tree.specs.Links.{link_of};
-ghost use Rattle.insert_counts.specs.Map.{Paired, Mapped, Fits, Marked};
+ghost use Rattle.insert_counts.specs.Map.{Mapped, Fits, Marked};
 
 use free_tree::{count_of, link_of};
 use std::{fmt, io};
@@ -173,21 +173,26 @@ fn turns(
 
 // ---- rounds
 
-// An arena of zeros with no block, and its map. The map has a word for each cell.
-fn opened(form: u32, arena: &mut [u32], map: &mut [u32], seed: u64) -> Round
-    requires { Paired (form_of form) arena.old map.old }
-    ensures { Mapped (form_of result.form) arena.new map.new result.root }
+// An arena of zeros with no block, and its map, which has to have a word for each cell.
+fn opened(form: u32, arena: &mut [u32], map: &mut [u32], seed: u64) -> Option<Round>
+    ensures { MatchOption result (Unit {0}) (λ r. Mapped (form_of r.form) arena.new map.new r.root) }
 {
+    if map.len() != cell_count(form, arena.len()) {
+        return None;
+    }
+    if 8192 < map.len() {
+        return None;
+    }
     words::fill(arena, 0);
     words::fill(map, 0);
-    Round {
+    Some(Round {
         form,
         root: 0,
         seed,
         insertions: 0,
         links: 0,
         differences: 0,
-    }
+    })
 }
 
 impl fmt::Display for Round {
@@ -209,13 +214,9 @@ fn play(
     most: usize,
     seed: u64,
 ) -> io::Result<()> {
-    if map.len() != cell_count(form, arena.len()) {
+    let Some(start) = opened(form, arena, map, seed) else {
         return Ok(());
-    }
-    if 8192 < map.len() {
-        return Ok(());
-    }
-    let start = opened(form, arena, map, seed);
+    };
     let done = turns(start, arena, map, before, most, 600);
     println!(rt; "{} words: {done}", arena.len())
 }
@@ -236,13 +237,9 @@ fn bench_sheet(
     map: &mut [u32],
     before: &mut [u32],
 ) -> io::Result<()> {
-    if map.len() != cell_count(form, arena.len()) {
+    let Some(start) = opened(form, arena, map, 0) else {
         return Ok(());
-    }
-    if 8192 < map.len() {
-        return Ok(());
-    }
-    let start = opened(form, arena, map, 0);
+    };
     let done = sheet_blocks(start, arena, map, before);
     println!(rt; "T8:{}", Shown(arena))?;
     println!(rt; "{done}")
@@ -285,52 +282,37 @@ const SIZES: [Size; 9] = [
     },
 ];
 
-// The same on the first words.
-fn play_on(
-    rt: &impl Print,
-    form: u32,
-    arena: &mut [u32],
-    map: &mut [u32],
-    before: &mut [u32],
-    size: Size,
-    seed: u64,
-) -> io::Result<()> {
-    let w = size.words.min(arena.len());
-    let m = cell_count(form, size.words).min(map.len());
-    play(
-        rt,
-        form,
-        &mut arena[..w],
-        &mut map[..m],
-        before,
-        size.most,
-        seed,
-    )
-}
-
-// T8's eight cells.
-fn sheet_on(
-    rt: &impl Print,
+// Runs `f` on the first words, and on the map of their cells.
+fn on_first<R, F: FnOnce(&mut [u32], &mut [u32]) -> R>(
     form: u32,
     words: usize,
     arena: &mut [u32],
     map: &mut [u32],
-    before: &mut [u32],
-) -> io::Result<()> {
+    f: F,
+) -> R
+    requires { F.IsAlwaysCallable f }
+{
     let w = words.min(arena.len());
     let m = cell_count(form, words).min(map.len());
-    bench_sheet(rt, form, &mut arena[..w], &mut map[..m], before)
+    f(&mut arena[..w], &mut map[..m])
 }
 
+// T8 on so many words, which are eight cells, and then rounds of each size.
 fn run(
     rt: &impl Print,
     form: u32,
+    sheet: usize,
     arena: &mut [u32],
     map: &mut [u32],
     before: &mut [u32],
 ) -> io::Result<()> {
+    on_first(form, sheet, arena, map, |arena, map| {
+        bench_sheet(rt, form, arena, map, before)
+    })?;
     for (seed, size) in SIZES.iter().enumerate() {
-        play_on(rt, form, arena, map, before, *size, seed as u64)?;
+        on_first(form, size.words, arena, map, |arena, map| {
+            play(rt, form, arena, map, before, size.most, seed as u64)
+        })?;
     }
     Ok(())
 }
@@ -339,8 +321,6 @@ fn main(rt: HostRuntime) -> io::Result<()> {
     let mut arena = [0u32; 16384];
     let mut map = [0u32; 8192];
     let mut before = [0u32; 16384];
-    sheet_on(&rt, 1, 16, &mut arena, &mut map, &mut before)?;
-    run(&rt, 1, &mut arena, &mut map, &mut before)?;
-    sheet_on(&rt, 2, 32, &mut arena, &mut map, &mut before)?;
-    run(&rt, 2, &mut arena, &mut map, &mut before)
+    run(&rt, 1, 16, &mut arena, &mut map, &mut before)?;
+    run(&rt, 2, 32, &mut arena, &mut map, &mut before)
 }

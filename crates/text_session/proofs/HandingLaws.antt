@@ -124,20 +124,16 @@ module _ (st : Bytes) (h : Ready st) where
         ∙ ap led (cut serve x k t.taken zs)
         ∙ ap (λ (y : Fed Standing). led (more serve y zs)) t.alone)
 
--- a piece of some bytes
-module _ (st : Bytes) (h : Ready st) (bytes out : Bytes) (from end : ℕ) (less : from ≤ end) where
+-- a piece at the front of some bytes
+module _ (st : Bytes) (h : Ready st) (bytes out : Bytes) (end : ℕ) where
   abbrev c : Bytes
-  c = take (end - from) (drop from bytes)
+  c = take end bytes
 
-  pub piece_on : (let y = burst_call st c out in after y.state (drop (from + y.taken) bytes)) ≡ after st (drop from bytes)
+  pub piece_on : (let y = burst_call st c out in after y.state (drop y.taken bytes)) ≡ after st bytes
   piece_on =
       let y = burst_call st c out in
-      let past : from + (end - from) ≡ end = omega arith in
-      let all : c ++ drop end bytes ≡ drop from bytes =
-      ap (λ (l : Bytes). c ++ l) (sym (drop-drop (end - from) from bytes ∙ ap (λ (n : ℕ). drop n bytes) past))
-      ∙ take-append-drop (end - from) (drop from bytes) in
+      let all : c ++ drop end bytes ≡ bytes = take-append-drop end bytes in
       ap (after y.state)
-      (sym (drop-drop y.taken from bytes) ∙ ap (drop y.taken) (sym all)
-      ∙ drop-append-le y.taken c (drop end bytes) (takes st h c out))
+      (ap (drop y.taken) (sym all) ∙ drop-append-le y.taken c (drop end bytes) (takes st h c out))
       ∙ goes_on st h c out (drop end bytes)
       ∙ ap (after st) all

@@ -2,7 +2,7 @@
 // reads again. What a burst does is pool_bursts' promise. Of what is read and written no contract here speaks.
 #![tactic(auto)]
 
-ghost use Rattle.std.specs.Prelude.{◌≡◌, true, ◌≤◌, ◌<◌, eqb, length, drop, get_or};
+ghost use Rattle.std.specs.Prelude.{◌≡◌, ◌≤◌, ◌<◌, eqb, length, drop, get_or, IfOk, OnOk};
 ghost use Rattle.session.specs.Bursts.{most_answer};
 ghost use Rattle.session.specs.Calls.{end_call};
 ghost use Rattle.text_session.specs.Handing.{Ready, after};
@@ -12,83 +12,63 @@ use std::io::{Read, Write};
 // Standard error's number.
 const STDERR: i32 = 2;
 
-// Tells on standard error what went wrong.
-fn complain(words: &[u8]) {
-    io::write_all(STDERR, words);
-}
-
-// Writes the first n answer bytes: whether they could be written.
-fn write_out<W: Write>(output: &mut W, answers: &[u8], n: usize) -> bool
-    requires { n ≤ length answers.now }
-{
-    if output.write_all(&answers[..n]).is_ok() {
-        return true;
-    }
-    complain(b"pool: the answers could not be written\n");
-    false
-}
-
-// The end of a piece of at most `piece` bytes.
-fn piece_end(from: usize, piece: usize, length: usize) -> usize
-    requires { (from < length) × (0 < piece) }
-    ensures { (from < result) × (result ≤ length) }
-{
-    if length - from <= piece {
-        return length;
-    }
-    from + piece
-}
-
-// A place in what was read, and whether all answers before it could be written.
+// What can go wrong with a reader or a writer.
 #[derive(Clone, Copy)]
-struct Reached {
-    from: usize,
-    written: bool,
+enum Trouble {
+    Input,
+    Output,
 }
 
-// Hands over the next piece of what was read, and writes its answers: the place after what was taken of it.
+// Tells on standard error what went wrong.
+fn complain(trouble: Trouble) {
+    match trouble {
+        Trouble::Input => io::write_all(STDERR, b"pool: the input could not be read\n"),
+        Trouble::Output => io::write_all(STDERR, b"pool: the answers could not be written\n"),
+    };
+}
+
+fn write_out<W: Write>(output: &mut W, answers: &[u8]) -> Result<(), Trouble> {
+    output.write_all(answers).map_err(|_| Trouble::Output)
+}
+
+// Hands over the next piece of what was read, and writes its answers: how many bytes were taken of it.
 fn serve_piece<W: Write>(
     output: &mut W,
     state: &mut [u8],
     bytes: &[u8],
-    from: usize,
     piece: usize,
     answers: &mut [u8],
-) -> Reached
+) -> Result<usize, Trouble>
     requires ready { Ready state.old × (most_answer ≤ length answers.old) }
-    requires from_in_bounds { (from < length bytes.now) × (0 < piece) }
-    ensures ready_2 { Ready state.new × (from < result.from) × (result.from ≤ length bytes.now) }
-    ensures bytes_after { after state.new (drop result.from bytes.now)
-        ≡ after state.old (drop from bytes.now) }
+    requires some { (0 < length bytes.now) × (0 < piece) }
+    ensures ready_2 { Ready state.new }
+    ensures taken { IfOk result (λ n. (0 < n) × (n ≤ length bytes.now)
+        × (after state.new (drop n bytes.now) ≡ after state.old bytes.now)) }
 {
-    let end = piece_end(from, piece, bytes.len());
-    let done = pool_bursts::burst(state, &bytes[from..end], answers);
-    Reached {
-        from: from + done.taken,
-        written: write_out(output, &*answers, done.written),
-    }
+    let end = piece.min(bytes.len());
+    let done = pool_bursts::burst(state, &bytes[..end], answers);
+    write_out(output, &answers[..done.written])?;
+    Ok(done.taken)
 }
 
-// Hands over all that was read, in pieces of at most `piece` bytes, as long as answers can be written: whether they could.
+// Hands over all that was read, in pieces of at most `piece` bytes, as long as answers can be written.
 fn serve_read<W: Write>(
     output: &mut W,
     state: &mut [u8],
     bytes: &[u8],
     piece: usize,
     answers: &mut [u8],
-) -> bool
+) -> Result<(), Trouble>
     requires { Ready state.old × (most_answer ≤ length answers.old) × (0 < piece) }
     ensures ready { Ready state.new }
-    ensures state_after { result ≡ true → state.new ≡ after state.old bytes.now }
+    ensures state_after { OnOk result (state.new ≡ after state.old bytes.now) }
 {
-    let mut place = Reached {
-        from: 0,
-        written: true,
-    };
-    while place.written & (place.from < bytes.len()) {
-        place = serve_piece(output, state, bytes, place.from, piece, answers);
+    let mut rest = bytes;
+    while !rest.is_empty() {
+        let taken = serve_piece(output, state, rest, piece, answers)?;
+        rest = &rest[taken..];
     }
-    place.written
+    Ok(())
 }
 
 // Whether the program has stopped, by the low byte of the state's first word: then nothing more is read.
@@ -99,14 +79,7 @@ fn has_stopped(state: &[u8]) -> bool
     state[0] == 3
 }
 
-// What one read came to: whether to read on, and whether nothing failed.
-#[derive(Clone, Copy)]
-struct AfterRead {
-    more: bool,
-    fine: bool,
-}
-
-// One read, handed over: its answers are written before the next.
+// One read, handed over: its answers are written before the next. Whether to read on.
 fn read_once<R: Read, W: Write>(
     input: &mut R,
     output: &mut W,
@@ -114,34 +87,25 @@ fn read_once<R: Read, W: Write>(
     chunk: &mut [u8],
     piece: usize,
     answers: &mut [u8],
-) -> AfterRead
+) -> Result<bool, Trouble>
     requires { Ready state.old × (most_answer ≤ length answers.old) × (0 < piece) }
     ensures { Ready state.new }
 {
-    let Ok(n) = input.read(chunk) else {
-        complain(b"pool: the input could not be read\n");
-        return AfterRead {
-            more: false,
-            fine: false,
-        };
-    };
-    let fine = serve_read(output, state, &chunk[..n], piece, answers);
-    AfterRead {
-        more: fine & (n != 0) & !has_stopped(&*state),
-        fine,
-    }
+    let n = input.read(chunk).map_err(|_| Trouble::Input)?;
+    serve_read(output, state, &chunk[..n], piece, answers)?;
+    Ok((n != 0) & !has_stopped(&*state))
 }
 
-// The end of the input: a last line without a line feed counts if not empty. Whether its answer could be written.
-fn finish<W: Write>(output: &mut W, state: &mut [u8], answers: &mut [u8]) -> bool
+// The end of the input: a last line without a line feed counts if not empty.
+fn finish<W: Write>(output: &mut W, state: &mut [u8], answers: &mut [u8]) -> Result<(), Trouble>
     requires { Ready state.old × (most_answer ≤ length answers.old) }
     ensures { state.new ≡ (end_call state.old answers.old).state }
 {
     let done = pool_bursts::end(state, answers);
-    write_out(output, &*answers, done.written)
+    write_out(output, &answers[..done.written])
 }
 
-// All reads of a session, as long as nothing fails, and its end: whether nothing failed.
+// All reads of a session, as long as nothing fails, and its end.
 fn converse<R: Read, W: Write>(
     input: &mut R,
     output: &mut W,
@@ -149,20 +113,13 @@ fn converse<R: Read, W: Write>(
     chunk: &mut [u8],
     piece: usize,
     answers: &mut [u8],
-) -> bool
+) -> Result<(), Trouble>
     requires { Ready state.old × (most_answer ≤ length answers.old) × (0 < piece) }
 {
-    let mut last = AfterRead {
-        more: true,
-        fine: true,
-    };
-    let mut reads = u64::MAX;
-    while last.more & (reads > 0) {
-        last = read_once(input, output, state, chunk, piece, answers);
-        reads -= 1;
-    }
-    if !last.fine {
-        return false;
+    for _ in 0..u64::MAX {
+        if !read_once(input, output, state, chunk, piece, answers)? {
+            break;
+        }
     }
     finish(output, state, answers)
 }
@@ -173,8 +130,12 @@ pub fn run<R: Read, W: Write>(input: &mut R, output: &mut W, piece: usize) -> bo
     requires { 0 < piece }
 {
     let mut state = [0u8; 36956];
-    let mut chunk = io::large_buffer();
-    let mut answers = io::large_buffer();
+    let mut chunk = [0u8; 65536];
+    let mut answers = [0u8; 65536];
     pool_bursts::start(&mut state);
-    converse(input, output, &mut state, &mut chunk, piece, &mut answers)
+    let ended = converse(input, output, &mut state, &mut chunk, piece, &mut answers);
+    if let Err(trouble) = ended {
+        complain(trouble);
+    }
+    ended.is_ok()
 }

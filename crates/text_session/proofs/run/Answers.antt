@@ -8,10 +8,10 @@ use Rattle.text_session.specs.Handing.{Ready}
 use Rattle.text_session.proofs.HandingLaws.{start_ready}
 use Rattle.text_session.proofs.run.Goals as goal
 
-pub converse-requires : goal.converse-requires
-converse-requires g c =
+pub converse-ended-requires : goal.converse-ended-requires
+converse-ended-requires g c =
     let left = ap (λ (r : Reply). r.state) c.start.ensures in (
       subst Ready (sym left) (start_ready (replicate 36956 0) (length-replicate {A = ℕ} 36956 0)),
-      omega (arith, c.large_buffer-answers.ensures),
+      omega (arith, length-replicate {A = ℕ} 65536 0),
       c.requires,
     )

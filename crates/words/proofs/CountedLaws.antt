@@ -1,6 +1,5 @@
 -- Laws of tests of consecutive numbers, and of the loops that decide them by counting up. Assumes nothing.
 use Prim.Native.Nat.{ℕ, zero, suc, ◌+◌, ◌-◌, ◌≤◌, ◌<◌}
-use native.Mathlib.Nat.{sub-zero}
 use native.Mathlib.Numerals.{add-one}
 use native.Mathlib.Omega.{arith}
 use native.Mathlib.Decide.{ℕ_discrete}
@@ -47,9 +46,6 @@ every_more : (p : ℕ → Bool) (n i : ℕ) → i < n → every p i (n - i) ≡ 
 every_more p n i h = let z : n - i ≡ suc (n - (i + 1)) = omega arith in rw (z, add-one)
 
 -- ---- a flag that each turn may clear: whole is the answer, and ok what the turns before i found
-
-pub flag_start : (p : ℕ → Bool) (n : ℕ) → (true && every p 0 (n - 0)) ≡ every p 0 n
-flag_start p n = rw sub-zero
 
 module _ (whole ok : Bool) (p : ℕ → Bool) (n i : ℕ) (inv : (ok && every p i (n - i)) ≡ whole) where
   pub flag_next : (next : Bool) → i < n → next ≡ (ok && p i) → (next && every p (i + 1) (n - (i + 1))) ≡ whole

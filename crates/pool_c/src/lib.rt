@@ -101,18 +101,20 @@ fn both(told: Told, block: Block) -> Answer
     Answer { told, block }
 }
 
-fn c_answer(answer: calls::Answer) -> Answer
-    ensures { answer_of result ≡ answer }
-{
-    let told = Told {
-        number: answer.number,
-        ticket: answer.ticket,
-    };
-    let block = Block {
-        address: answer.address,
-        words: answer.words,
-    };
-    both(told, block)
+impl From<calls::Answer> for Answer {
+    ghost from_gives = { λ answer r. answer_of r ≡ answer };
+
+    fn from(answer: calls::Answer) -> Answer {
+        let told = Told {
+            number: answer.number,
+            ticket: answer.ticket,
+        };
+        let block = Block {
+            address: answer.address,
+            words: answer.words,
+        };
+        both(told, block)
+    }
 }
 
 // So for the head.
@@ -122,38 +124,56 @@ fn with_form(first: First, form: u32) -> TreeHead
     TreeHead { first, form }
 }
 
-fn c_tree_outcome(done: tree_requests::Outcome) -> TreeOutcome
-    ensures { tree_outcome result ≡ done }
-{
-    let after = done.head;
-    let first = First {
-        root: after.root,
-        next: after.next,
-    };
-    TreeOutcome {
-        head: with_form(first, after.form),
-        answer: c_answer(done.answer),
+impl From<tree_requests::Outcome> for TreeOutcome {
+    ghost from_gives = { λ done r. tree_outcome r ≡ done };
+
+    fn from(done: tree_requests::Outcome) -> TreeOutcome {
+        let after = done.head;
+        let first = First {
+            root: after.root,
+            next: after.next,
+        };
+        TreeOutcome {
+            head: with_form(first, after.form),
+            answer: Answer::from(done.answer),
+        }
     }
 }
 
-fn c_segment_outcome(done: segment_requests::Outcome) -> SegmentOutcome
-    ensures { segment_outcome result ≡ done }
-{
-    let after = done.head;
-    SegmentOutcome {
-        next: after.next,
-        answer: c_answer(done.answer),
+impl From<segment_requests::Outcome> for SegmentOutcome {
+    ghost from_gives = { λ done r. segment_outcome r ≡ done };
+
+    fn from(done: segment_requests::Outcome) -> SegmentOutcome {
+        SegmentOutcome {
+            next: done.head.next,
+            answer: Answer::from(done.answer),
+        }
     }
 }
 
-fn c_segment_allocation(done: segment_requests::Allocation) -> SegmentAllocation
-    ensures { segment_allocation result ≡ done }
-{
-    let after = done.head;
-    SegmentAllocation {
-        next: after.next,
-        answer: c_answer(done.answer),
-        places: done.places,
+impl From<segment_requests::Allocation> for SegmentAllocation {
+    ghost from_gives = { λ done r. segment_allocation r ≡ done };
+
+    fn from(done: segment_requests::Allocation) -> SegmentAllocation {
+        SegmentAllocation {
+            next: done.head.next,
+            answer: Answer::from(done.answer),
+            places: done.places,
+        }
+    }
+}
+
+// ---- and back
+
+impl From<TreeHead> for tree_check::Head {
+    ghost from_gives = { λ head r. r ≡ head_of head };
+
+    fn from(head: TreeHead) -> tree_check::Head {
+        tree_check::Head {
+            root: head.first.root,
+            next: head.first.next,
+            form: head.form,
+        }
     }
 }
 
@@ -170,7 +190,7 @@ pub extern "C" fn lf_tree_format(
         ≡ result_of (step tree_engine (format first) (tree_pool (no_head form) arena.old table.old)) }
 {
     let done = tree_pool::format(form, arena, table, first);
-    c_tree_outcome(done)
+    TreeOutcome::from(done)
 }
 
 #[unsafe(no_mangle)]
@@ -185,13 +205,9 @@ pub extern "C" fn lf_tree_allocate(
         ≡ result_of (step tree_engine (allocate party words)
         (tree_pool (head_of head) arena.old table.old)) }
 {
-    let pool = tree_check::Head {
-        root: head.first.root,
-        next: head.first.next,
-        form: head.form,
-    };
+    let pool = tree_check::Head::from(head);
     let done = tree_pool::allocate(pool, arena, table, party, words);
-    c_tree_outcome(done)
+    TreeOutcome::from(done)
 }
 
 #[unsafe(no_mangle)]
@@ -208,11 +224,7 @@ pub extern "C" fn lf_tree_release(
         ≡ result_of (step tree_engine (release (row ticket address words party))
         (tree_pool (head_of head) arena.old table.old)) }
 {
-    let pool = tree_check::Head {
-        root: head.first.root,
-        next: head.first.next,
-        form: head.form,
-    };
+    let pool = tree_check::Head::from(head);
     let named = Row {
         ticket,
         address,
@@ -220,7 +232,7 @@ pub extern "C" fn lf_tree_release(
         party,
     };
     let done = tree_pool::release(pool, arena, table, named);
-    c_tree_outcome(done)
+    TreeOutcome::from(done)
 }
 
 #[unsafe(no_mangle)]
@@ -238,11 +250,7 @@ pub extern "C" fn lf_tree_trim(
         ≡ result_of (step tree_engine (trim (row ticket address words party) keep)
         (tree_pool (head_of head) arena.old table.old)) }
 {
-    let pool = tree_check::Head {
-        root: head.first.root,
-        next: head.first.next,
-        form: head.form,
-    };
+    let pool = tree_check::Head::from(head);
     let named = Row {
         ticket,
         address,
@@ -250,7 +258,7 @@ pub extern "C" fn lf_tree_trim(
         party,
     };
     let done = tree_pool::trim(pool, arena, table, named, keep);
-    c_tree_outcome(done)
+    TreeOutcome::from(done)
 }
 
 #[unsafe(no_mangle)]
@@ -267,11 +275,7 @@ pub extern "C" fn lf_tree_find(
         ≡ (step tree_engine (find (row ticket address words party))
         (tree_pool (head_of head) arena.now table.now)).answer }
 {
-    let pool = tree_check::Head {
-        root: head.first.root,
-        next: head.first.next,
-        form: head.form,
-    };
+    let pool = tree_check::Head::from(head);
     let named = Row {
         ticket,
         address,
@@ -279,7 +283,7 @@ pub extern "C" fn lf_tree_find(
         party,
     };
     let answer = tree_pool::find(pool, arena, table, named);
-    c_answer(answer)
+    Answer::from(answer)
 }
 
 #[unsafe(no_mangle)]
@@ -295,13 +299,9 @@ pub extern "C" fn lf_tree_list(
         ≡ result_of (step tree_engine (list party requests.now answers.old)
         (tree_pool (head_of head) arena.old table.old)) }
 {
-    let pool = tree_check::Head {
-        root: head.first.root,
-        next: head.first.next,
-        form: head.form,
-    };
+    let pool = tree_check::Head::from(head);
     let done = tree_pool::list(pool, arena, table, party, requests, answers);
-    c_tree_outcome(done)
+    TreeOutcome::from(done)
 }
 
 // ---- the segment pool; its head is the next ticket alone
@@ -319,7 +319,7 @@ pub extern "C" fn lf_segment_format(
         (segment_pool segments (segment_head 0) arena.old table.old index.old)) }
 {
     let done = segment_pool::format(segments, arena, table, index, first);
-    c_segment_outcome(done)
+    SegmentOutcome::from(done)
 }
 
 #[unsafe(no_mangle)]
@@ -343,7 +343,7 @@ pub extern "C" fn lf_segment_allocate(
 {
     let head = segment_check::Head { next };
     let done = segment_pool::allocate(head, segments, arena, table, index, party, words);
-    c_segment_allocation(done)
+    SegmentAllocation::from(done)
 }
 
 #[unsafe(no_mangle)]
@@ -370,7 +370,7 @@ pub extern "C" fn lf_segment_release(
         party,
     };
     let done = segment_pool::release(head, segments, arena, table, index, named);
-    c_segment_outcome(done)
+    SegmentOutcome::from(done)
 }
 
 #[unsafe(no_mangle)]
@@ -398,7 +398,7 @@ pub extern "C" fn lf_segment_trim(
         party,
     };
     let done = segment_pool::trim(head, segments, arena, table, index, named, keep);
-    c_segment_outcome(done)
+    SegmentOutcome::from(done)
 }
 
 #[unsafe(no_mangle)]
@@ -425,7 +425,7 @@ pub extern "C" fn lf_segment_find(
         party,
     };
     let answer = segment_pool::find(head, segments, arena, table, index, named);
-    c_answer(answer)
+    Answer::from(answer)
 }
 
 #[unsafe(no_mangle)]
@@ -448,7 +448,7 @@ pub extern "C" fn lf_segment_list(
     let done = segment_pool::list(
         head, segments, arena, table, index, party, requests, answers,
     );
-    c_segment_outcome(done)
+    SegmentOutcome::from(done)
 }
 
 // ---- tables from before parties, of either pool
@@ -457,18 +457,24 @@ pub extern "C" fn lf_segment_list(
 pub extern "C" fn lf_copy_table(old: &[u32], table: &mut [u32]) -> u32
     ensures { (result, table.new) ≡ copy_of old.now table.old }
 {
-    old_tables::copy_table(old, table)
+    let copied = old_tables::copy_table(old, table);
+    match copied {
+        Ok(()) => 0,
+        Err(why) => why.number(),
+    }
 }
 
 // ---- the text program in bursts
 
-fn c_burst(c: Counts) -> Burst
-    ensures { counts_of result ≡ c }
-{
-    Burst {
-        number: c.number,
-        taken: c.taken,
-        written: c.written,
+impl From<Counts> for Burst {
+    ghost from_gives = { λ c r. counts_of r ≡ c };
+
+    fn from(c: Counts) -> Burst {
+        Burst {
+            number: c.number,
+            taken: c.taken,
+            written: c.written,
+        }
     }
 }
 
@@ -485,7 +491,7 @@ pub extern "C" fn lf_session_burst(state: &mut [u8], bytes: &[u8], answers: &mut
         ≡ burst_call state.old bytes.now answers.old }
 {
     let done = pool_bursts::burst(state, bytes, answers);
-    c_burst(done)
+    Burst::from(done)
 }
 
 #[unsafe(no_mangle)]
@@ -494,5 +500,5 @@ pub extern "C" fn lf_session_end(state: &mut [u8], answers: &mut [u8]) -> Burst
         ≡ end_call state.old answers.old }
 {
     let done = pool_bursts::end(state, answers);
-    c_burst(done)
+    Burst::from(done)
 }

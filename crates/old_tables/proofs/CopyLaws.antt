@@ -9,7 +9,6 @@ use lib.Dec.{eqb}
 use lib.ListN.{length, get_or, set, length-set}
 use lib.Seq.{ext_get_or, get_or-set_same, get_or-set_other}
 use Rattle.words.specs.Lists.{Words, list_from}
-use Rattle.words.proofs.Tests.{and_r, eqb_eq}
 use Rattle.words.proofs.ListLaws.{length_list_from, get_d_list_from}
 use Rattle.ledger.specs.Records.{Ledger, record_words, empty_row, records_of, table_of}
 use Rattle.ledger.proofs.RecordLaws.{length_table_of, length_records, records_table, table_records}
@@ -42,12 +41,6 @@ pub record Copying (old t : Words) (i : ℕ) : Type 0 where
   pub same : (j : ℕ) → j < i → get_or (records_of t) j empty_row ≡ widened_at old j
 
 module _ (old : Words) where
-  pub copying_start : (t : Words) → copy_suits old t ≡ true → Copying old t 0
-  copying_start t h = record {
-    long = eqb_eq (length t) (record_words * (length old / 3)) (search and_r);
-    same = λ j l. absurd (omega arith);
-  }
-
   pub copying_next : (t u : Words) (i : ℕ) → i < length old / 3 → u ≡ table_of (set (records_of t) i (widened_at old i))
       → Copying old t i → Copying old u (i + 1)
   copying_next t u i l e c = record {

@@ -6,14 +6,14 @@ use native.Mathlib.Omega.{arith}
 use native.Mathlib.Decide.{ℕ_discrete}
 use native.Mathlib.Numerals.{add-one}
 use mathlib.Core.Path.{◌≡◌, refl, sym, ap, ap₂, ◌∙◌}
-use mathlib.Core.Bool.{Bool, true, false, cond, not, ◌&&◌, ◌||◌, or-true, true≢false}
+use mathlib.Core.Bool.{Bool, true, false, not, ◌&&◌, ◌||◌, or-true, true≢false}
 use lib.Dec.{eqb}
 use lib.ListN.{length, get_or, set}
 use lib.Seq.{get_or-set_same, get_or-set_other}
 use Rattle.words.specs.Lists.{Words, is_zero}
 use Rattle.words.specs.Counted.{every, sum_to}
-use Rattle.words.proofs.Tests.{and_l, and_r, and_i, bool_iff, not_true, eqb_eq, eqb_ne, eqb_same}
-use Rattle.words.proofs.CountedLaws.{every_at, every_of}
+use Rattle.words.proofs.Tests.{and_l, and_r, and_i, not_true, eqb_eq, eqb_ne, eqb_same}
+use Rattle.words.proofs.CountedLaws.{every_of}
 use Rattle.ledger.specs.declared.Row.{Row}
 use Rattle.ledger.specs.declared.Rule.{Rule}
 use Rattle.ledger.specs.Records.{record_at, is_empty}
@@ -39,36 +39,6 @@ enter_next ρ W next t i held u e (fit, new, units) =
       sum = ap₂ (λ (a b : ℕ). a + b) e.sum units ∙ sym (ap (sum_to size) (add-one i));
     }
 
--- ---- a ticket that is none of the earlier ones
-
-pub other_new : (t : Words) (i : ℕ) → every (other_than t (record_at t i).ticket) 0 i ≡ true → new_at t i ≡ true
-other_new t i e =
-    every_of (λ j. differ (record_at t j) (record_at t i)) 0 i
-    (λ j a b. let other = every_at (other_than t (record_at t i).ticket) 0 i e j a b in
-    ap (λ y. is_zero (record_at t j).ticket || y) other ∙ or-true (is_zero (record_at t j).ticket))
-
-pub new_other : (t : Words) (i : ℕ) → is_zero (record_at t i).ticket ≡ false → new_at t i ≡ true
-    → every (other_than t (record_at t i).ticket) 0 i ≡ true
-new_other t i live e =
-    every_of (other_than t (record_at t i).ticket) 0 i
-    (λ j a b. go j (is_zero (record_at t j).ticket) refl
-    (every_at (λ j. differ (record_at t j) (record_at t i)) 0 i e j a b))
-  where
-    x : ℕ
-    x = (record_at t i).ticket
-
-    go : (j : ℕ) (z : Bool) → is_zero (record_at t j).ticket ≡ z → (z || other_than t x j) ≡ true → other_than t x j ≡ true
-    go j false q h = h
-    go j true q h =
-        ap not (eqb_ne (record_at t j).ticket x
-        (λ y. true≢false (sym q ∙ ap is_zero y ∙ live)))
-
--- a flag that compares a ticket with the earlier ones says whether it is new
-pub other_is_new : (t : Words) (i : ℕ) → is_zero (record_at t i).ticket ≡ false
-    → every (other_than t (record_at t i).ticket) 0 i ≡ new_at t i
-other_is_new t i live =
-    bool_iff (every (other_than t (record_at t i).ticket) 0 i) (new_at t i) (other_new t i) (new_other t i live)
-
 -- ---- an empty slot
 
 zero_ticket : (r : Row) → is_empty r ≡ true → is_zero r.ticket ≡ true
@@ -87,15 +57,7 @@ empty_joins ρ W next t i e =
     either true = refl
     either false = refl
 
--- ---- a slot with a record, which the code holds as r
-
-pub live_joins : (ρ : Rule) (W next : ℕ) (t : Words) (i u : ℕ) (r : Row) → r ≡ record_at t i → is_empty r ≡ false
-    → row_ok ρ W next r ≡ true → new_at t i ≡ true → u ≡ span ρ r.words → Joins ρ W next t i u
-live_joins ρ W next t i u r is live ok new units = (
-  ap (row_ok ρ W next) (sym is) ∙ ok,
-  new,
-  units ∙ sym (ap (λ (b : Bool). cond b 0 (span ρ r.words)) live) ∙ ap (units_of ρ) is,
-)
+-- ---- a slot with a record
 
 -- a record that fits has a ticket, and no more units than the arena has words
 pub fit_row : (ρ : Rule) → 0 < ρ.unit → (W next : ℕ) (r : Row) → is_empty r ≡ false → row_ok ρ W next r ≡ true
@@ -202,15 +164,3 @@ module _ (m : ℕ) (seen t : Words) (i : ℕ) (N : Noted m seen t i) where
               ∙ ap₂ (λ (p q : Bool). p || q) a b),
           put several (or-true (eqb several (mark_of x))) (λ y q. or-true (eqb several (mark_of y))),
         )
-
-    pub noted_there : (not (eqb kept mark) && not (eqb kept several)) ≡ false → Noted m seen t (i + 1)
-    noted_there e =
-        note_same
-        (λ live. ap (λ y. notes (get_or seen (residue_of m y) 0) y) (sym own) ∙ ap (λ k. notes (get_or seen k 0) x) (sym is)
-        ∙ ap (λ v. notes v x) (sym was) ∙ ap (λ k. eqb kept k || eqb kept several) (sym made)
-        ∙ either (eqb kept mark) (eqb kept several) e)
-      where
-        either : (p q : Bool) → (not p && not q) ≡ false → (p || q) ≡ true
-        either true q e = refl
-        either false true e = refl
-        either false false e = absurd (true≢false e)

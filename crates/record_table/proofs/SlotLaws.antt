@@ -1,18 +1,18 @@
 -- Laws of the slots that a search finds. Assumes nothing.
-use Prim.Native.Nat.{ℕ, zero, suc, ◌+◌, ◌≤◌, ◌<◌}
+use Prim.Native.Nat.{ℕ, zero, suc, ◌≤◌, ◌<◌}
 use native.Mathlib.Nat.{not-suc-le-zero, le_of_suc-le-suc}
-use native.Mathlib.Decide.{ℕ_discrete, dec_lt}
+use native.Mathlib.Decide.{dec_lt}
 use native.Mathlib.Omega.{arith}
 use mathlib.Core.Path.{◌≡◌, refl, sym, ap, ◌∙◌}
 use mathlib.Core.Logic.{◌≢◌}
-use mathlib.Core.Bool.{Bool, true, false, not, ◌||◌, and-false}
+use mathlib.Core.Bool.{Bool, true, false, not, and-false}
 use mathlib.Core.Option.{Option, none, some}
 use mathlib.Core.List.{[], ◌∷◌}
 use lib.Dec.{eqb}
 use lib.ListN.{length, get_or, set}
 use Rattle.words.specs.Lists.{Words, first_that}
 use Rattle.words.specs.Counted.{lowest}
-use Rattle.words.proofs.Tests.{false_of, or_l, or_r, eqb_ne, eqb_false, absurd_some}
+use Rattle.words.proofs.Tests.{false_of, eqb_ne, absurd_some}
 use Rattle.words.proofs.CountedLaws.{lowest_some, lowest_none, lowest_nothing, lowest_is}
 use Rattle.ledger.specs.declared.Row.{Row}
 use Rattle.ledger.specs.declared.Rule.{Rule}
@@ -78,41 +78,6 @@ module _ (f : Row → Bool) (t : Words) (i n : ℕ) (all_slots : n ≡ slots t)
   }
 
 -- ---- slots without a ticket
-
-module _ (t : Words) (x : ℕ) where
-  pub without_none : Without t x 0 0
-  without_none j a b = absurd (omega arith)
-
-  pub without_next : (i : ℕ) → Without t x 0 i → Without t x i (i + 4) → Without t x 0 (i + 4)
-  without_next i low four j a b = go (dec_lt j i)
-    where
-      go : Dec (j < i) → (record_at t j).ticket ≢ x
-      go (yes h) = low j a h
-      go (no h) = four j (omega arith) b
-
-  -- by the four tests
-  abbrev pub is_at : ℕ → Bool
-  is_at k = eqb (record_at t k).ticket x
-
-  pub without_four : (i : ℕ)
-      → (((is_at i || is_at (i + 1)) || is_at (i + 2)) || is_at (i + 3)) ≡ false → Without t x i (i + 4)
-  without_four i h j a b e = go (ℕ_discrete j i) (ℕ_discrete j (i + 1)) (ℕ_discrete j (i + 2))
-    where
-      differs : (k : ℕ) → j ≡ k → is_at k ≡ false → ⊥
-      differs k q off = eqb_false (record_at t k).ticket x off (ap (λ n. (record_at t n).ticket) (sym q) ∙ e)
-
-      three : ((is_at i || is_at (i + 1)) || is_at (i + 2)) ≡ false
-      three = or_l ((is_at i || is_at (i + 1)) || is_at (i + 2)) (is_at (i + 3)) h
-
-      two : (is_at i || is_at (i + 1)) ≡ false
-      two = or_l (is_at i || is_at (i + 1)) (is_at (i + 2)) three
-
-      go : Dec (j ≡ i) → Dec (j ≡ i + 1) → Dec (j ≡ i + 2) → ⊥
-      go (yes q) _ _ = differs i q (or_l (is_at i) (is_at (i + 1)) two)
-      go (no _) (yes q) _ = differs (i + 1) q (or_r (is_at i) (is_at (i + 1)) two)
-      go (no _) (no _) (yes q) = differs (i + 2) q (or_r (is_at i || is_at (i + 1)) (is_at (i + 2)) three)
-      go (no p) (no q) (no r) =
-          differs (i + 3) (omega arith) (or_r ((is_at i || is_at (i + 1)) || is_at (i + 2)) (is_at (i + 3)) h)
 
 pub without_empty : (t : Words) (i e : ℕ) → Without t 0 i e → (j : ℕ) → i ≤ j → j < e → is_empty (record_at t j) ≡ false
 without_empty t i e h j a b = rw (eqb_ne (record_at t j).ticket 0 (h j a b))

@@ -12,9 +12,6 @@ use Rattle.words.specs.Lists.{Words}
 use Rattle.words.proofs.Tests.{eqb_ne, false_of}
 use Rattle.ledger.specs.Records.{is_party}
 use Rattle.calls.specs.declared.Answer.{Answer}
-use Rattle.calls.specs.declared.Refusal.{Refusal}
-use Rattle.calls.specs.Refusals.{number_of}
-use Rattle.calls.proofs.RefusalLaws.{number_no_zero}
 use Rattle.calls.specs.Pool.{Pool, Engine, Laws, sound}
 use Rattle.calls.specs.Step.{Call, single, list, refusal, zero_answer, Act, answer_to, pool_after, list_suits, fills, suits}
 use Rattle.calls.specs.Step.{buffers_of, party_given, right_party, partied, GateIs, refused_by, acts_done, step}
@@ -25,10 +22,6 @@ use Rattle.call_parts.specs.Parts.{with_party}
 use Rattle.call_parts.specs.Results.{result, result_of, acted, ran}
 use Rattle.call_parts.proofs.AskLaws.{RefusedBy}
 use Rattle.call_parts.proofs.WholeLists.{unknown_list, unsuited_list}
-
--- the pool's own refusal comes before the party's
-pub own_first : (x : Refusal) (c : ℕ) → with_party (number_of x) c ≡ number_of x
-own_first x c = rw (number_no_zero x)
 
 module _ (E : Engine) where
   -- ---- one act

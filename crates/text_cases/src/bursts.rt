@@ -1,43 +1,15 @@
 // A case handed over in bursts of many cuttings, each held to one burst with room enough, and that to the text program.
-ghost use Rattle.io.specs.Counts.{IsPrefixLen};
-
 use burst_runs::NOTHING;
-use std::io::Read;
+use std::alloc::Alloc;
 use std::rt::Files;
 use std::{fs, io};
 
-// The bytes of a file, at the start of `out`: how many. A file that can't be opened has none.
-fn read_file<R: Files>(rt: &R, name: &str, out: &mut [u8]) -> usize
-    ensures { IsPrefixLen result out.new }
-{
-    let Ok(mut file) = fs::open(rt, name) else {
-        return 0;
-    };
-    let mut n = 0;
-    while n < out.len() {
-        let Ok(got) = file.read(&mut out[n..]) else {
-            break;
-        };
-        if got == 0 {
-            break;
-        }
-        n += got;
-    }
-    n
-}
-
-// What the text program writes on a case, by way of a file, at the start of `out`: how many bytes.
-fn answers_to<R: Files>(rt: &R, name: &str, out: &mut [u8]) -> usize
-    ensures { IsPrefixLen result out.new }
-{
-    let Ok(mut input) = fs::open(rt, name) else {
-        return 0;
-    };
-    let Ok(mut output) = fs::create(rt, "answers") else {
-        return 0;
-    };
+// What the text program writes on a case, by way of a file.
+fn answers_to<R: Files + Alloc>(rt: &R, name: &str) -> io::Result<Vec<u8, R::A>> {
+    let mut input = fs::open(rt, name)?;
+    let mut output = fs::create(rt, "answers")?;
     text_session::run(&mut input, &mut output, 65536);
-    read_file(rt, "answers", out)
+    fs::read(rt, "answers")
 }
 
 // The case in bursts, held to the answers of the text program.
@@ -48,11 +20,9 @@ fn try_text(rt: &impl Print, text: &[u8], answers: &[u8], due: &mut [u8]) -> io:
     println!(rt; "{tally}")
 }
 
-pub fn run_case<R: Files + Print>(rt: &R, name: &str) -> io::Result<()> {
-    let mut text = [0u8; 131072];
-    let mut answers = [0u8; 262144];
+pub fn run_case<R: Files + Alloc + Print>(rt: &R, name: &str) -> io::Result<()> {
+    let text = fs::read(rt, name)?;
+    let answers = answers_to(rt, name)?;
     let mut due = [0u8; 262144];
-    let n = read_file(rt, name, &mut text);
-    let m = answers_to(rt, name, &mut answers);
-    try_text(rt, &text[..n], &answers[..m], &mut due)
+    try_text(rt, text.as_slice(), answers.as_slice(), &mut due)
 }

@@ -41,11 +41,12 @@ fn run_bursts(rt: &HostRuntime, n: usize) -> io::Result<()> {
 }
 
 fn main(rt: HostRuntime) -> io::Result<()> {
-    let mut n = 0;
-    while n < 100 && run_case(&rt, n, "\n", 65536)? {
+    for n in 0..100 {
+        if !run_case(&rt, n, "\n", 65536)? {
+            break;
+        }
         run_case(&rt, n, " by bytes\n", 1)?;
         run_bursts(&rt, n)?;
-        n += 1;
     }
     Ok(())
 }

@@ -2,4 +2,4 @@
 pub mod Shapes
 pub mod Links
 pub mod Held
-pub mod Tops
+pub mod Readings

@@ -11,7 +11,7 @@ ghost use Rattle.free_tree.specs.Links.{link_of, count_of};
 ghost use Rattle.free_tree.specs.Held.{At, Beside, LeftWins, RightWins, LeftJoined, RightJoined, BothJoined};
 ghost use Rattle.free_tree.specs.Held.{Parts, Room, PutOver, Inserted, Deleted, OverRoot, Heavier, OverRoots};
 ghost use Rattle.free_tree.specs.Held.{OnTop, Between};
-ghost use Rattle.free_tree.specs.Tops.{top_number};
+ghost use Rattle.free_tree.specs.Readings.{run_of, top_number};
 ghost use Rattle.free_tree.specs.Held.{Heapified, Longer, Shrunk, LeftmostFound, Placed, PlacedBy, NodeOf, Attached, Clear, TouchFound};
 ghost use Rattle.free_tree.specs.Held.{if_ends, if_begins};
 
@@ -151,6 +151,13 @@ fn lower_part(form: u32, arena: &mut [u32], l: usize, x: usize) -> u64
 
 // ---- the place of a change
 
+// A block: its first cell, and how many cells it has.
+#[derive(Clone, Copy)]
+struct Block {
+    start: usize,
+    size: u32,
+}
+
 // Where a search ends: the link to what lies there, 0 for none, and the link to its father, 0 for none.
 #[derive(Clone, Copy)]
 pub struct Place {
@@ -158,11 +165,11 @@ pub struct Place {
     pub over: usize,
 }
 
-// Whether a block of `n` cells at cell `x` stands above one of `k` cells at cell `c`.
-fn stands_above(x: usize, n: u32, c: usize, k: u32) -> bool
-    ensures { result ≡ stands_above (run x n) (run c k) }
+// Whether the block stands above another.
+fn stands_above(block: Block, other: Block) -> bool
+    ensures { result ≡ stands_above (run_of block) (run_of other) }
 {
-    (k < n) | ((k == n) & (x < c))
+    (other.size < block.size) | ((other.size == block.size) & (block.start < other.start))
 }
 
 // From the link `l` down by the address of cell `x`, to the first node at whose cell `stops` holds.
@@ -188,13 +195,14 @@ fn seek<F: Fn(usize) -> bool>(form: u32, arena: &[u32], l: usize, x: usize, stop
     Place { at, over }
 }
 
-// The place of a block of `n` cells at cell `x`: the first node that it stands above.
-fn place_for(form: u32, arena: &[u32], l: usize, x: usize, n: u32) -> Place
+// The place of the block: the first node that it stands above.
+fn place_for(form: u32, arena: &[u32], l: usize, block: Block) -> Place
     requires { (t : Tree) × At (form_of form) arena.now l t }
-    ensures { Placed (form_of form) arena.now l (stands_above (run x n)) x result.at result.over }
+    ensures { Placed (form_of form) arena.now l (stands_above (run_of block)) block.start result.at result.over }
 {
-    seek(form, arena, l, x, |c| {
-        stands_above(x, n, c, length_of(form, arena, c))
+    seek(form, arena, l, block.start, |c| {
+        let size = length_of(form, arena, c);
+        stands_above(block, Block { start: c, size })
     })
 }
 
@@ -237,12 +245,14 @@ fn attach(
 
 // ---- insert, delete
 
-// Puts the node of a block of `n` cells at cell `x` in place of the tree at the link `l`, whose parts become its sons.
-// Returns how many links were stored.
-fn put_over(form: u32, arena: &mut [u32], l: usize, x: usize, n: u32) -> u64
-    requires { (t : Tree) × Room (form_of form) arena.old l (run x n) t }
-    ensures { PutOver (form_of form) arena.old arena.new l (run x n) result }
+// Puts the block's node in place of the tree at the link `l`, whose parts become its sons. Returns how many links were
+// stored.
+fn put_over(form: u32, arena: &mut [u32], l: usize, block: Block) -> u64
+    requires { (t : Tree) × Room (form_of form) arena.old l (run_of block) t }
+    ensures { PutOver (form_of form) arena.old arena.new l (run_of block) result }
 {
+    let x = block.start;
+    let n = block.size;
     if l == 0 {
         return put_first(form, arena, x, n, 0, 0);
     }
@@ -260,10 +270,9 @@ pub fn insert(form: u32, arena: &mut [u32], l: usize, x: usize, n: u32) -> u64
     requires { (t : Tree) × Room (form_of form) arena.old l (run x n) t }
     ensures { Inserted (form_of form) arena.old arena.new l (run x n) result }
 {
-    let p = place_for(form, arena, l, x, n);
-    let at = p.at;
-    let over = p.over;
-    let stored = put_over(form, arena, at, x, n);
+    let block = Block { start: x, size: n };
+    let Place { at, over } = place_for(form, arena, l, block);
+    let stored = put_over(form, arena, at, block);
     attach(form, arena, l, over, x, x + 1, stored)
 }
 
@@ -287,9 +296,7 @@ pub fn delete(form: u32, arena: &mut [u32], l: usize, x: usize) -> usize
     requires { (t : Tree) × At (form_of form) arena.old l t }
     ensures { Deleted (form_of form) arena.old arena.new l x result }
 {
-    let p = place_of(form, arena, l, x);
-    let at = p.at;
-    let over = p.over;
+    let Place { at, over } = place_of(form, arena, l, x);
     if at == 0 {
         return l;
     }
@@ -304,17 +311,17 @@ pub fn delete(form: u32, arena: &mut [u32], l: usize, x: usize) -> usize
 
 // ---- shrink
 
-// Whether a block of `n` cells at cell `x` stands above the root at the link `l`, or there is none.
-fn over_root(form: u32, arena: &[u32], l: usize, x: usize, n: u32) -> bool
+// Whether the block stands above the root at the link `l`, or there is none.
+fn over_root(form: u32, arena: &[u32], l: usize, block: Block) -> bool
     requires { (t : Tree) × At (form_of form) arena.now l t }
-    ensures { OverRoot (form_of form) arena.now l (run x n) result }
+    ensures { OverRoot (form_of form) arena.now l (run_of block) result }
 {
     if l == 0 {
         return true;
     }
-    let c = l - 1;
-    let k = length_of(form, arena, c);
-    stands_above(x, n, c, k)
+    let start = l - 1;
+    let size = length_of(form, arena, start);
+    stands_above(block, Block { start, size })
 }
 
 // Whether the root at the link `a` stays above the one at the link `b`.
@@ -331,13 +338,13 @@ fn is_heavier(form: u32, arena: &[u32], a: usize, b: usize) -> bool
     length_of(form, arena, b - 1) <= length_of(form, arena, a - 1)
 }
 
-// Whether a block of `n` cells at cell `x` stands above the roots at the links `lo` and `hi`.
-fn over_roots(form: u32, arena: &[u32], lo: usize, hi: usize, x: usize, n: u32) -> bool
+// Whether the block stands above the roots at the links `lo` and `hi`.
+fn over_roots(form: u32, arena: &[u32], lo: usize, hi: usize, block: Block) -> bool
     requires { ((ta : Tree) × At (form_of form) arena.now lo ta) × ((tb : Tree) × At (form_of form) arena.now hi tb) }
-    ensures { OverRoots (form_of form) arena.now lo hi (run x n) result }
+    ensures { OverRoots (form_of form) arena.now lo hi (run_of block) result }
 {
-    if over_root(form, arena, lo, x, n) {
-        return over_root(form, arena, hi, x, n);
+    if over_root(form, arena, lo, block) {
+        return over_root(form, arena, hi, block);
     }
     false
 }
@@ -350,12 +357,12 @@ enum Top {
     High,
 }
 
-// Which stays on top where a block of `n` cells at cell `x` goes between the trees at the links `lo` and `hi`.
-fn on_top(form: u32, arena: &[u32], lo: usize, hi: usize, x: usize, n: u32) -> Top
+// Which stays on top where the block goes between the trees at the links `lo` and `hi`.
+fn on_top(form: u32, arena: &[u32], lo: usize, hi: usize, block: Block) -> Top
     requires { ((ta : Tree) × At (form_of form) arena.now lo ta) × ((tb : Tree) × At (form_of form) arena.now hi tb) }
-    ensures { OnTop (form_of form) arena.now lo hi (run x n) (top_number result) }
+    ensures { OnTop (form_of form) arena.now lo hi (run_of block) (top_number result) }
 {
-    if over_roots(form, arena, lo, hi, x, n) {
+    if over_roots(form, arena, lo, hi, block) {
         return Top::Block;
     }
     if is_heavier(form, arena, lo, hi) {
@@ -364,22 +371,22 @@ fn on_top(form: u32, arena: &[u32], lo: usize, hi: usize, x: usize, n: u32) -> T
     Top::High
 }
 
-// Puts the block of `n` cells at cell `x` between the trees at the links `lo` and `hi`, where the root at `lo` stays on
-// top: the block goes down its right side. As long as the right son stays on top too, its link stays, and the loop goes
-// on to it. Neither of the two functions calls itself: compiled, it would keep the slice in memory.
+// Puts the block between the trees at the links `lo` and `hi`, where the root at `lo` stays on top: the block goes down
+// its right side. As long as the right son stays on top too, its link stays, and the loop goes on to it. Neither of the
+// two functions calls itself: compiled, it would keep the slice in memory.
 #[cycle(sink_left_sink_right)]
-fn sink_right(form: u32, arena: &mut [u32], lo: usize, hi: usize, x: usize, n: u32)
-    requires between { (ta : Tree) × (tb : Tree) × Between (form_of form) arena.old lo hi (run x n) ta tb }
-    requires on_top { OnTop (form_of form) arena.old lo hi (run x n) 1 }
-    ensures { Heapified (form_of form) arena.old arena.new lo hi (run x n) lo }
+fn sink_right(form: u32, arena: &mut [u32], lo: usize, hi: usize, block: Block)
+    requires between { (ta : Tree) × (tb : Tree) × Between (form_of form) arena.old lo hi (run_of block) ta tb }
+    requires on_top { OnTop (form_of form) arena.old lo hi (run_of block) 1 }
+    ensures { Heapified (form_of form) arena.old arena.new lo hi (run_of block) lo }
 {
     let mut c = lo - 1;
     let mut s = right_of(form, arena, c);
     loop {
-        match on_top(form, arena, s, hi, x, n) {
+        match on_top(form, arena, s, hi, block) {
             Top::Block => {
-                put_first(form, arena, x, n, s, hi);
-                set_right(form, arena, c, x + 1);
+                put_first(form, arena, block.start, block.size, s, hi);
+                set_right(form, arena, c, block.start + 1);
                 return;
             }
             Top::Low => {
@@ -387,7 +394,7 @@ fn sink_right(form: u32, arena: &mut [u32], lo: usize, hi: usize, x: usize, n: u
                 s = right_of(form, arena, c);
             }
             Top::High => {
-                sink_left(form, arena, s, hi, x, n);
+                sink_left(form, arena, s, hi, block);
                 set_right(form, arena, c, hi);
                 return;
             }
@@ -397,22 +404,22 @@ fn sink_right(form: u32, arena: &mut [u32], lo: usize, hi: usize, x: usize, n: u
 
 // The same where the root at `hi` stays on top: the block goes down its left side.
 #[cycle(sink_left_sink_right)]
-fn sink_left(form: u32, arena: &mut [u32], lo: usize, hi: usize, x: usize, n: u32)
-    requires between { (ta : Tree) × (tb : Tree) × Between (form_of form) arena.old lo hi (run x n) ta tb }
-    requires on_top { OnTop (form_of form) arena.old lo hi (run x n) 2 }
-    ensures { Heapified (form_of form) arena.old arena.new lo hi (run x n) hi }
+fn sink_left(form: u32, arena: &mut [u32], lo: usize, hi: usize, block: Block)
+    requires between { (ta : Tree) × (tb : Tree) × Between (form_of form) arena.old lo hi (run_of block) ta tb }
+    requires on_top { OnTop (form_of form) arena.old lo hi (run_of block) 2 }
+    ensures { Heapified (form_of form) arena.old arena.new lo hi (run_of block) hi }
 {
     let mut c = hi - 1;
     let mut s = left_of(form, arena, c);
     loop {
-        match on_top(form, arena, lo, s, x, n) {
+        match on_top(form, arena, lo, s, block) {
             Top::Block => {
-                put_first(form, arena, x, n, lo, s);
-                set_left(form, arena, c, x + 1);
+                put_first(form, arena, block.start, block.size, lo, s);
+                set_left(form, arena, c, block.start + 1);
                 return;
             }
             Top::Low => {
-                sink_right(form, arena, lo, s, x, n);
+                sink_right(form, arena, lo, s, block);
                 set_left(form, arena, c, lo);
                 return;
             }
@@ -424,24 +431,24 @@ fn sink_left(form: u32, arena: &mut [u32], lo: usize, hi: usize, x: usize, n: u3
     }
 }
 
-// Puts the block of `n` cells at cell `x` between the trees at the links `lo` and `hi`, and returns the link to the
-// whole. Most often it stands above both roots, and the trees are its sons as they are. Else the heavier root stays on
-// top, and the block goes down its inner side; a link that stays is not written.
-fn heapify(form: u32, arena: &mut [u32], lo: usize, hi: usize, x: usize, n: u32) -> usize
-    requires { (ta : Tree) × (tb : Tree) × Between (form_of form) arena.old lo hi (run x n) ta tb }
-    ensures { Heapified (form_of form) arena.old arena.new lo hi (run x n) result }
+// Puts the block between the trees at the links `lo` and `hi`, and returns the link to the whole. Most often it stands
+// above both roots, and the trees are its sons as they are. Else the heavier root stays on top, and the block goes down
+// its inner side; a link that stays is not written.
+fn heapify(form: u32, arena: &mut [u32], lo: usize, hi: usize, block: Block) -> usize
+    requires { (ta : Tree) × (tb : Tree) × Between (form_of form) arena.old lo hi (run_of block) ta tb }
+    ensures { Heapified (form_of form) arena.old arena.new lo hi (run_of block) result }
 {
-    match on_top(form, arena, lo, hi, x, n) {
+    match on_top(form, arena, lo, hi, block) {
         Top::Block => {
-            put_first(form, arena, x, n, lo, hi);
-            x + 1
+            put_first(form, arena, block.start, block.size, lo, hi);
+            block.start + 1
         }
         Top::Low => {
-            sink_right(form, arena, lo, hi, x, n);
+            sink_right(form, arena, lo, hi, block);
             lo
         }
         Top::High => {
-            sink_left(form, arena, lo, hi, x, n);
+            sink_left(form, arena, lo, hi, block);
             hi
         }
     }
@@ -459,7 +466,11 @@ pub fn shrink(form: u32, arena: &mut [u32], l: usize, at: usize, over: usize, k:
     let a = left_of(form, arena, c);
     let b = right_of(form, arena, c);
     let n = length_of(form, arena, c) as usize;
-    let q = heapify(form, arena, a, b, c + k, (n - k) as u32);
+    let rest = Block {
+        start: c + k,
+        size: (n - k) as u32,
+    };
+    let q = heapify(form, arena, a, b, rest);
     link_of(attach(form, arena, l, over, c, q, 0))
 }
 

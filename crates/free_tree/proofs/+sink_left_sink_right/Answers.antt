@@ -4,7 +4,7 @@
 use Rattle.std.proofs.Common.{ap, arith, refl}
 use Rattle.stored_forms.proofs.NodeLaws.{readable}
 use Rattle.tree_nodes.proofs.FormLaws.{few_links}
-use Rattle.free_tree.specs.Tops.{top_number}
+use Rattle.free_tree.specs.Readings.{top_number}
 use Rattle.free_tree.proofs.StepLaws.{at_in}
 use Rattle.free_tree.proofs.ChangeSteps.{between_ready}
 use Rattle.free_tree.proofs.ShrinkSteps.{sink_left_start, sink_left_on, sink_right_start}
@@ -35,8 +35,8 @@ sink_left-put_first-requires t c =
     let (inside, (links, zeros)) = between_ready (readable _) p in
     record { c_bound = inside; l_bound = links; zeros = zeros }
 
-pub sink_left-overflow_add-x : goal.sink_left-overflow_add-x
-sink_left-overflow_add-x t c =
+pub sink_left-overflow_add-block : goal.sink_left-overflow_add-block
+sink_left-overflow_add-block t c =
     omega (arith, few_links c.args.form, (between_in (readable _) c.loop-arena.invariant.sinks.inner).1)
 
 pub sink_left-set_left-requires-clause-l_bound : goal.sink_left-set_left-requires-clause-l_bound
@@ -103,8 +103,8 @@ sink_right-put_first-requires t c =
     let (inside, (links, zeros)) = between_ready (readable _) p in
     record { c_bound = inside; l_bound = links; zeros = zeros }
 
-pub sink_right-overflow_add-x : goal.sink_right-overflow_add-x
-sink_right-overflow_add-x t c =
+pub sink_right-overflow_add-block : goal.sink_right-overflow_add-block
+sink_right-overflow_add-block t c =
     omega (arith, few_links c.args.form, (between_in (readable _) c.loop-arena.invariant.sinks.inner).1)
 
 pub sink_right-set_right-requires-clause-r_bound : goal.sink_right-set_right-requires-clause-r_bound

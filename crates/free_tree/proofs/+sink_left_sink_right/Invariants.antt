@@ -20,14 +20,14 @@ decreases-sink_right l =
 
 abbrev pub invariant-sink_left-loop-arena : goal.invariant-sink_left-loop-arena
 invariant-sink_left-loop-arena l =
-    record { same : l.arena ≡ l.initial.arena; sinks : SinkLeft (form_of l.form) l.arena l.lo l.hi (run l.x l.n) l.c l.s }
+    record { same : l.arena ≡ l.initial.arena; sinks : SinkLeft (form_of l.form) l.arena l.lo l.hi (run l.block.start l.block.size) l.c l.s }
 
 abbrev pub decreases-sink_left-loop-arena : goal.decreases-sink_left-loop-arena
 decreases-sink_left-loop-arena l = count (form_of l.form) l.arena l.s
 
 abbrev pub invariant-sink_right-loop-arena : goal.invariant-sink_right-loop-arena
 invariant-sink_right-loop-arena l =
-    record { same : l.arena ≡ l.initial.arena; sinks : SinkRight (form_of l.form) l.arena l.lo l.hi (run l.x l.n) l.c l.s }
+    record { same : l.arena ≡ l.initial.arena; sinks : SinkRight (form_of l.form) l.arena l.lo l.hi (run l.block.start l.block.size) l.c l.s }
 
 abbrev pub decreases-sink_right-loop-arena : goal.decreases-sink_right-loop-arena
 decreases-sink_right-loop-arena l = count (form_of l.form) l.arena l.s

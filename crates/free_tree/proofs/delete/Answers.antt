@@ -11,16 +11,16 @@ use Rattle.free_tree.proofs.delete.Goals as goal
 pub returns-then-at-eq0 : goal.returns-then-at-eq0
 returns-then-at-eq0 c =
     let x = c.args.x in
-    place_kept (readable _) (deletes (readable _) x) c.place_of-p.ensures
+    place_kept (readable _) (deletes (readable _) x) c.place_of-at.ensures
     (delete_none (readable _) x c.if-at-eq0.true)
 
 pub left_of-a-requires : goal.left_of-a-requires
 left_of-a-requires c =
-    at_in (readable _) c.if-at-eq0.false (place_at (readable _) c.place_of-p.ensures c.requires)
+    at_in (readable _) c.if-at-eq0.false (place_at (readable _) c.place_of-at.ensures c.requires)
 
 pub right_of-b-requires : goal.right_of-b-requires
 right_of-b-requires c =
-    at_in (readable _) c.if-at-eq0.false (place_at (readable _) c.place_of-p.ensures c.requires)
+    at_in (readable _) c.if-at-eq0.false (place_at (readable _) c.place_of-at.ensures c.requires)
 
 pub attach-requires : goal.attach-requires
 attach-requires c =
@@ -28,7 +28,7 @@ attach-requires c =
     let made =
     delete_here (readable _) c.if-at-eq0.false c.left_of-a.ensures c.right_of-b.ensures x
     (both_none (readable _) c.if-a-b.true) in
-    let (inside, link, root) = place_ready (readable _) (deletes (readable _) x) c.place_of-p.ensures made c.requires in
+    let (inside, link, root) = place_ready (readable _) (deletes (readable _) x) c.place_of-at.ensures made c.requires in
     record {
       over_bound = inside;
       q_bound = (link, root, omega arith);
@@ -38,13 +38,13 @@ pub returns-then-a-b : goal.returns-then-a-b
 returns-then-a-b c =
     let x = c.args.x in
     rw c.link_of.ensures
-    (place_attached (readable _) (deletes (readable _) x) c.place_of-p.ensures
+    (place_attached (readable _) (deletes (readable _) x) c.place_of-at.ensures
     (delete_here (readable _) c.if-at-eq0.false c.left_of-a.ensures c.right_of-b.ensures x
     (both_none (readable _) c.if-a-b.true)) c.attach.ensures.attached)
 
 pub delete_at-requires-clause-node_of : goal.delete_at-requires-clause-node_of
-delete_at-requires-clause-node_of c = placed_node (readable _) c.place_of-p.ensures c.if-at-eq0.false c.requires
+delete_at-requires-clause-node_of c = placed_node (readable _) c.place_of-at.ensures c.if-at-eq0.false c.requires
 
 pub returns : goal.returns
 returns c =
-    node_deleted (readable _) c.place_of-p.ensures c.if-at-eq0.false c.delete_at.ensures
+    node_deleted (readable _) c.place_of-at.ensures c.if-at-eq0.false c.delete_at.ensures

@@ -3,7 +3,7 @@
 use Rattle.std.proofs.Common.{ap, arith}
 use Rattle.stored_forms.proofs.NodeLaws.{readable}
 use Rattle.tree_nodes.proofs.FormLaws.{few_links}
-use Rattle.free_tree.specs.Tops.{top_number}
+use Rattle.free_tree.specs.Readings.{top_number}
 use Rattle.free_tree.proofs.ChangeSteps.{between_ready}
 use Rattle.free_tree.proofs.ShrinkSteps.{between_in, heapify_top}
 use Rattle.free_tree.proofs.heapify.Goals as goal

@@ -10,12 +10,12 @@ use Rattle.free_tree.proofs.insert.Goals as goal
 
 pub put_over-stored-requires : goal.put_over-stored-requires
 put_over-stored-requires c =
-    place_there (readable _) (inserts (readable _) (run c.args.x c.args.n)) c.place_for-p.ensures c.requires
+    place_there (readable _) (inserts (readable _) (run c.args.x c.args.n)) c.place_for-at.ensures c.requires
 
 pub attach-requires : goal.attach-requires
 attach-requires c =
     let local = inserts (readable _) (run c.args.x c.args.n) in
-    let placed = c.place_for-p.ensures in
+    let placed = c.place_for-at.ensures in
     let put = c.put_over-stored.ensures in
     let (inside, link, root) = place_ready (readable _) local placed (insert_here (readable _) put) c.requires in
     let few = put_few (readable _) put (place_there (readable _) local placed c.requires) in
@@ -27,7 +27,7 @@ attach-requires c =
 pub returns : goal.returns
 returns c t p =
     let local = inserts (readable _) (run c.args.x c.args.n) in
-    let placed = c.place_for-p.ensures in
+    let placed = c.place_for-at.ensures in
     let put = c.put_over-stored.ensures in (
       place_attached (readable _) local placed (insert_here (readable _) put) c.attach.ensures.attached t p,
       place_changed (readable _) local placed (insert_count (readable _) put c.attach.ensures.result_value) t p,

@@ -21,15 +21,15 @@ pub length_of-n-requires : goal.length_of-n-requires
 length_of-n-requires c =
     let (z, t) = root_tree (readable _) (longer_place (readable _) c.requires.node_of.1 c.requires.by_index) in at_in (readable _) z t
 
-pub overflow_add-c : goal.overflow_add-c
-overflow_add-c c =
+pub overflow_add-rest : goal.overflow_add-rest
+overflow_add-rest c =
     let (more, small, between) =
     shrink_between (readable _) c.left_of-a.ensures c.right_of-b.ensures c.length_of-n.ensures
     (longer_place (readable _) c.requires.node_of.1 c.requires.by_index) in
     omega (arith, few_links c.args.form)
 
-pub overflow_sub-n : goal.overflow_sub-n
-overflow_sub-n c =
+pub overflow_sub-rest : goal.overflow_sub-rest
+overflow_sub-rest c =
     let (more, small, between) =
     shrink_between (readable _) c.left_of-a.ensures c.right_of-b.ensures c.length_of-n.ensures
     (longer_place (readable _) c.requires.node_of.1 c.requires.by_index) in

@@ -62,11 +62,8 @@ fn merge_below(form: u32, arena: &mut [u32], root: usize, block: usize, lo: usiz
         return Merge { root, cell: lo };
     }
     let c = block - 1;
-    let rest = take_out(form, arena, root, c);
-    Merge {
-        root: rest,
-        cell: c,
-    }
+    let root = take_out(form, arena, root, c);
+    Merge { root, cell: c }
 }
 
 // Takes out the free block at the link `block`, which begins at cell `hi`. The merged block ends where that block does,
@@ -80,12 +77,8 @@ fn merge_above(form: u32, arena: &mut [u32], root: usize, block: usize, hi: usiz
     }
     let c = block - 1;
     let n = tree_nodes::length_of(form, arena, c) as usize;
-    let rest = take_out(form, arena, root, c);
-    let end = c + n;
-    Merge {
-        root: rest,
-        cell: end,
-    }
+    let root = take_out(form, arena, root, c);
+    Merge { root, cell: c + n }
 }
 
 // Gives back the cells from `lo` up to `hi`, which are not free, and returns the link to the tree. The cells are
@@ -96,13 +89,8 @@ pub fn give_cells(form: u32, arena: &mut [u32], root: usize, lo: usize, hi: usiz
 {
     tree_nodes::wipe_cells(form, arena, lo, hi);
     let touched = free_tree::touching(form, arena, root, lo, hi);
-    let lower = touched.lo;
-    let upper = touched.hi;
-    let below = merge_below(form, arena, root, lower, lo);
-    let first = below.cell;
-    let others = below.root;
-    let above = merge_above(form, arena, others, upper, hi);
-    let end = above.cell;
-    let rest = above.root;
-    free_tree::link_of(free_tree::insert(form, arena, rest, first, (end - first) as u32))
+    let below = merge_below(form, arena, root, touched.lo, lo);
+    let above = merge_above(form, arena, below.root, touched.hi, hi);
+    let size = (above.cell - below.cell) as u32;
+    free_tree::link_of(free_tree::insert(form, arena, above.root, below.cell, size))
 }

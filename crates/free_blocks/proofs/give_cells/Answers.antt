@@ -22,16 +22,16 @@ merge_above-above-requires c =
     let (rs, g) = c.requires in
     (_, touch_above (readable _) c.wipe_cells.ensures g c.touching-touched.ensures c.merge_below-below.ensures)
 
-pub overflow_sub-end : goal.overflow_sub-end
-overflow_sub-end c =
+pub overflow_sub-size : goal.overflow_sub-size
+overflow_sub-size c =
     let (rs, g) = c.requires in
     let fits =
     sum_fits (readable _) c.wipe_cells.ensures g c.touching-touched.ensures c.merge_below-below.ensures
     c.merge_above-above.ensures in
     omega arith
 
-pub overflow_cast-end : goal.overflow_cast-end
-overflow_cast-end c =
+pub overflow_cast-size : goal.overflow_cast-size
+overflow_cast-size c =
     let (rs, g) = c.requires in
     let fits =
     sum_fits (readable _) c.wipe_cells.ensures g c.touching-touched.ensures c.merge_below-below.ensures

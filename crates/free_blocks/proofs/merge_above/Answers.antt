@@ -12,16 +12,16 @@ pub length_of-n-requires : goal.length_of-n-requires
 length_of-n-requires c =
     (block_end (readable _) (block_lies (readable _) c.if-block-eq0.false c.requires)).0
 
-pub take_out-rest-requires : goal.take_out-rest-requires
-take_out-rest-requires c =
+pub take_out-root-requires : goal.take_out-root-requires
+take_out-root-requires c =
     block_lies (readable _) c.if-block-eq0.false c.requires
 
-pub overflow_add-end : goal.overflow_add-end
-overflow_add-end c =
+pub overflow_add-result : goal.overflow_add-result
+overflow_add-result c =
     let end = (block_end (readable _) (block_lies (readable _) c.if-block-eq0.false c.requires)).1 in
     let len = c.length_of-n.ensures in
     omega (arith, few_links c.args.form)
 
 pub returns : goal.returns
 returns c =
-    above_found (readable _) c.if-block-eq0.false c.length_of-n.ensures c.take_out-rest.ensures
+    above_found (readable _) c.if-block-eq0.false c.length_of-n.ensures c.take_out-root.ensures

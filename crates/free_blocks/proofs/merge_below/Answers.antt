@@ -6,9 +6,9 @@ use Rattle.free_blocks.proofs.merge_below.Goals as goal
 pub returns-then-block-eq0 : goal.returns-then-block-eq0
 returns-then-block-eq0 c = below_none (readable _) c.if-block-eq0.true
 
-pub take_out-rest-requires : goal.take_out-rest-requires
-take_out-rest-requires c = block_lies (readable _) c.if-block-eq0.false c.requires
+pub take_out-root-requires : goal.take_out-root-requires
+take_out-root-requires c = block_lies (readable _) c.if-block-eq0.false c.requires
 
 pub returns : goal.returns
 returns c =
-    below_found (readable _) c.if-block-eq0.false c.take_out-rest.ensures
+    below_found (readable _) c.if-block-eq0.false c.take_out-root.ensures

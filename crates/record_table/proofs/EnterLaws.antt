@@ -6,7 +6,7 @@ use native.Mathlib.Omega.{arith}
 use native.Mathlib.Decide.{ℕ_discrete}
 use native.Mathlib.Numerals.{add-one}
 use mathlib.Core.Path.{◌≡◌, refl, sym, ap, ap₂, ◌∙◌}
-use mathlib.Core.Bool.{Bool, true, false, not, ◌&&◌, ◌||◌, or-true, true≢false}
+use mathlib.Core.Bool.{Bool, true, false, not, ◌&&◌, ◌||◌, or-true, or-not_self, true≢false}
 use lib.Dec.{eqb}
 use lib.ListN.{length, get_or, set}
 use lib.Seq.{get_or-set_same, get_or-set_other}
@@ -49,13 +49,9 @@ empty_joins ρ W next t i e =
     let is : (record_at t i).ticket ≡ 0 = eqb_eq (record_at t i).ticket 0 (zero_ticket (record_at t i) e) in (
       rw e,
       every_of (λ j. differ (record_at t j) (record_at t i)) 0 i
-          (λ j a b. rw is (either (is_zero (record_at t j).ticket))),
+          (λ j a b. rw is (or-not_self (is_zero (record_at t j).ticket))),
       sym (rw e),
     )
-  where
-    either : (x : Bool) → (x || not x) ≡ true
-    either true = refl
-    either false = refl
 
 -- ---- a slot with a record
 

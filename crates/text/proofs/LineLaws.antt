@@ -1,46 +1,84 @@
 -- An unfinished line that is kept in a buffer. Assumes nothing.
-use Prim.Native.Nat.{ℕ, suc, ◌+◌, ◌≤◌, ◌<◌}
+use Prim.Native.Nat.{ℕ, suc, ◌+◌, ◌-◌, ◌≤◌, ◌<◌}
 use mathlib.Core.Path.{◌≡◌, refl, sym, ap, ◌∙◌}
 use mathlib.Core.Bool.{Bool, true, false, cond}
-use mathlib.Core.List.{[], ◌∷◌}
+use mathlib.Core.List.{[], ◌∷◌, ◌++◌, append_assoc, append-nil}
+use mathlib.Core.Logic.{⊎_elim}
+use Rattle.std.proofs.lemmas.Bool.{cases_lt}
+use Rattle.std.proofs.lemmas.List.{take_min}
+use Rattle.std.proofs.lemmas.List.Sums.{prefix_len-le-length}
+use Rattle.std.proofs.Math.Seq.{take-append-add}
+use Rattle.std.specs.Option.{unwrap_or}
+use Rattle.std.specs.Prelude.{Some, None, position, ltb, min}
+use borrow.Author.Tests.{ltb-false}
+use Rattle.std.specs.List.{position_or_len}
+use Rattle.std.proofs.Common.{one-add, not}
 use lib.Dec.{eqb}
-use native.Mathlib.Numerals.{add-one}
 use native.Mathlib.Omega.{arith}
-use lib.ListN.{length, get_or, take, drop, set, drop_of_length-le}
-use lib.Seq.{drop-cons, length-take-le, take-suc-set}
-use borrow.Author.Tests.{eq-eqb, ne_eqb, lt-ltb, le-ltb, eqb-true}
+use lib.ListN.{length, get_or, take, drop, length-append}
+use lib.Seq.{take_all, take_at}
+use borrow.Author.Tests.{lt-ltb, le-ltb, eqb-true}
 use Rattle.text.specs.Numbers.{Bytes}
 use Rattle.text.specs.Lines.{keep, Run, run}
 
-module _ (line : Bytes) (n b : ℕ) (l : length line ≡ 65) (h : n ≤ 65) where
-  long : length (take n line) ≡ n
-  long = length-take-le n line (omega arith)
-
-  pub keep_full : 64 < n → take n line ≡ keep (take n line) b
+module _ (k : Bytes) (b : ℕ) (h : length k ≤ 65) where
+  keep_few : length (keep k b) ≤ 65
   unfolding keep
-  keep_full g = simp (lt-ltb 64 (length (take n line)) (omega (arith, long)))
+  keep_few =
+      ⊎_elim
+      (λ (g : 64 < length k). simp (lt-ltb 64 (length k) g) h)
+      (λ (l : length k ≤ 64). simp (le-ltb 64 (length k) l) (omega (arith, length-append k (b ∷ []))))
+      (cases_lt 64 (length k))
 
-  pub keep_more : n ≤ 64 → take (n + 1) (set line n b) ≡ keep (take n line) b
+  keep_is : (t : Bytes) → take 65 (keep k b ++ t) ≡ take 65 (k ++ b ∷ t)
   unfolding keep
-  keep_more g =
-      simp (le-ltb 64 (length (take n line)) (omega (arith, long)))
-      (rw add-one (take-suc-set line n b (omega arith)))
+  keep_is t =
+      ⊎_elim
+      (λ (g : 64 < length k).
+      let e : length k ≡ 65 = omega arith in
+      simp (lt-ltb 64 (length k) g) (take_at k t 65 e ∙ sym (take_at k (b ∷ t) 65 e)))
+      (λ (l : length k ≤ 64). simp (le-ltb 64 (length k) l, append_assoc))
+      (cases_lt 64 (length k))
 
--- a step of the loop that keeps the bytes of a chunk
-module _ (k chunk : Bytes) (i : ℕ) where
-  pub run_feed : i < length chunk → get_or chunk i 0 ≡ 10
-      → record { kept = k; rest = drop i chunk } ≡ run k (drop i chunk)
-  unfolding run
-  run_feed h e = rw (drop-cons chunk i 0 h) (simp (eq-eqb _ _ e))
+-- what there is room for
+pub kept_is : (k bs : Bytes) → length k ≤ 65 → k ++ take (min (65 - length k) (length bs)) bs ≡ take 65 (k ++ bs)
+kept_is k bs h =
+    let e : length k + (65 - length k) ≡ 65 = omega arith in
+    ap (λ (x : Bytes). k ++ x) (take_min (65 - length k) bs)
+    ∙ sym (take-append-add k bs (65 - length k)) ∙ ap (λ (n : ℕ). take n (k ++ bs)) e
 
-  pub run_on : i < length chunk → (get_or chunk i 0 ≡ 10 → ⊥)
-      → run k (drop i chunk) ≡ run (keep k (get_or chunk i 0)) (drop (i + 1) chunk)
-  unfolding run
-  run_on h e = rw (drop-cons chunk i 0 h, add-one) (simp (ne_eqb _ _ e))
+-- the first line feed, or the end
+module _ (s : Bytes) where
+  abbrev pub feed : ℕ
+  feed = position_or_len (λ b. eqb b 10) s
 
-  pub run_end : length chunk ≤ i → record { kept = k; rest = drop i chunk } ≡ run k (drop i chunk)
-  unfolding run
-  run_end h = rw (drop_of_length-le chunk h)
+  pub feed_within : feed ≤ length s
+  feed_within = prefix_len-le-length (λ b. not (eqb b 10)) s
+
+  pub feed_is : unwrap_or (position (λ b. eqb b 10) s) (length s) ≡ feed
+  feed_is = go (ltb feed (length s)) refl
+    where
+      go : (t : Bool) → ltb feed (length s) ≡ t → unwrap_or (cond t (Some feed) None) (length s) ≡ feed
+      go true e = refl
+      go false e = omega (arith, ltb-false feed (length s) e, feed_within)
+
+-- a run is what comes before the line feed, as far as there is room
+abbrev pub run_as : Bytes → Bytes → ℕ → Run
+run_as k bs n = record { kept = take 65 (k ++ take n bs); rest = drop n bs }
+
+no_more : (k : Bytes) → length k ≤ 65 → k ≡ take 65 (k ++ [])
+no_more k h = rw (append-nil k) (sym (take_all 65 k h))
+
+run_step : (t : Bool) (k : Bytes) (b : ℕ) (bs : Bytes) (n : ℕ) → length k ≤ 65 → run (keep k b) bs ≡ run_as (keep k b) bs n
+    → cond t (record { kept = k; rest = b ∷ bs }) (run (keep k b) bs) ≡ run_as k (b ∷ bs) (cond (not t) (1 + n) 0)
+run_step true k b bs n h e = ap (λ (x : Bytes). record { kept = x; rest = b ∷ bs }) (no_more k h)
+run_step false k b bs n h e =
+    rw (one-add n) (e ∙ ap (λ (x : Bytes). record { kept = x; rest = drop n bs }) (keep_is k b h (take n bs)))
+
+pub run_is : (k bs : Bytes) → length k ≤ 65 → run k bs ≡ run_as k bs (position_or_len (λ b. eqb b 10) bs)
+unfolding run
+run_is k [] h = ap (λ (x : Bytes). record { kept = x; rest = [] }) (no_more k h)
+run_is k (b ∷ bs) h = run_step (eqb b 10) k b bs _ h (run_is (keep k b) bs (keep_few k b h))
 
 -- ---- where the line ends
 

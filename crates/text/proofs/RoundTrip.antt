@@ -4,21 +4,15 @@ use mathlib.Core.Path.{◌≡◌, refl, sym, ap, ◌∙◌}
 use Rattle.std.specs.Prelude.{Option, Some, None}
 use mathlib.Core.List.{[], ◌∷◌, ◌++◌, append_assoc, append-nil}
 use mathlib.Core.Bool.{Bool, true, false, cond}
-use mathlib.Core.Logic.{◌⊎◌, inl, inr, ⊎_elim}
+use mathlib.Core.Logic.{⊎_elim}
+use Rattle.std.proofs.lemmas.Bool.{cases_Bool, cases_lt}
 use native.Mathlib.Nat.{pow-suc}
 use native.Mathlib.Omega.{arith}
 use lib.ListN.{length, get_or}
 use lib.Dec.{ltb, eqb}
-use borrow.Author.Tests.{lt-ltb, le-ltb, ne_eqb, ltb-true, ltb-false, eqb-true, eqb-false}
+use borrow.Author.Tests.{lt-ltb, le-ltb, ne_eqb, ltb-false, eqb-true, eqb-false}
 use Rattle.text.specs.Numbers.{Bytes, largest, value_from, value_of, decimal, decimal_of}
 use Rattle.text.proofs.NumberLaws.{decimal_small, decimal_large}
-
-true_or_false : (b : Bool) → (b ≡ true) ⊎ (b ≡ false)
-true_or_false true = inl refl
-true_or_false false = inr refl
-
-less_or_not : (n m : ℕ) → (n < m) ⊎ (m ≤ n)
-less_or_not n m = ⊎_elim (λ t. inl (ltb-true n m t)) (λ f. inr (ltb-false n m f)) (true_or_false (ltb n m))
 
 -- ---- what is written is read back
 
@@ -46,7 +40,7 @@ value_digits (suc k) n rest h m =
     (value_digits k (n / 10) ((48 + n % 10) ∷ rest) (omega arith) (omega arith)
     ∙ value_digit rest (n / 10) (n % 10) (omega arith) (omega arith)
     ∙ ap (λ (v : ℕ). value_from v rest) (omega arith)))
-    (less_or_not n 10)
+    (cases_lt n 10)
 
 no_leading_zero : (k n : ℕ) (rest : Bytes) → 0 < n → n < 10 ^ suc k → 48 < get_or (decimal (suc k) n ++ rest) 0 0
 unfolding decimal
@@ -57,7 +51,7 @@ no_leading_zero (suc k) n rest z h =
     (λ l. simp (lt-ltb n 10 l) (omega arith))
     (λ g. simp (le-ltb n 10 g, append_assoc)
     (no_leading_zero k (n / 10) ((48 + n % 10) ∷ rest) (omega arith) (omega arith)))
-    (less_or_not n 10)
+    (cases_lt n 10)
 
 not_empty : (s : Bytes) → 48 < get_or s 0 0 → length s ≡ 0 → ⊥
 not_empty [] h e = omega arith
@@ -133,4 +127,4 @@ only_written (b ∷ s) n e =
     ⊎_elim
     (λ t. ap (λ (x : ℕ). x ∷ s) (eqb-true b 48 t) ∙ only_zero n s (rw t at p))
     (λ f. only_digits b n s (eqb-false b 48 f) (rw f at p))
-    (true_or_false (eqb b 48))
+    (cases_Bool (eqb b 48))

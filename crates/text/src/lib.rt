@@ -1,10 +1,10 @@
 // Numbers, fields and lines as bytes, read and written, with nothing of pools in it.
 #![tactic(auto)]
 
-ghost use Rattle.std.specs.Prelude.{◌≡◌, ℕ, List, [], ◌∷◌, ◌+◌, ◌<◌, ◌≤◌, ◌==◌, length, take, drop, position, option_map};
+ghost use Rattle.std.specs.Prelude.{◌≡◌, ℕ, List, [], ◌∷◌, ◌++◌, ◌+◌, ◌<◌, ◌≤◌, ◌==◌, length, take, drop, position, option_map};
 ghost use Rattle.text.specs.Numbers.{last_two, value_of, value_from, decimal_of};
 ghost use Rattle.text.specs.Fields.{field_at, numbers_of, fields_of, line_of, Wrote};
-ghost use Rattle.text.specs.Lines.{keep, run};
+ghost use Rattle.text.specs.Lines.{run};
 
 use std::marker::Model;
 
@@ -66,11 +66,11 @@ fn put_number(out: &mut [u8], at: usize, n: u32) -> usize
 
 // ---- fields
 
-// The place of the first tab.
-fn find_tab(s: &[u8]) -> Option<usize>
-    ensures { result ≡ position (λ b. b == 9) s.now }
+// The first place of a byte.
+fn place_of(s: &[u8], b: u8) -> Option<usize>
+    ensures { result ≡ position (λ x. x == b) s.now }
 {
-    s.iter().position(|b| *b == b'\t')
+    s.iter().position(|x| *x == b)
 }
 
 // The next field, and what follows its tab; the last field is all that is left.
@@ -80,7 +80,7 @@ fn next_field(s: &[u8], last: bool) -> Option<(&[u8], &[u8])>
     if last {
         return Some((s, &[]));
     }
-    let tab = find_tab(s)?;
+    let tab = place_of(s, b'\t')?;
     Some((&s[..tab], &s[tab + 1..]))
 }
 
@@ -192,16 +192,14 @@ impl Line {
         self.kept = n;
     }
 
-    // One byte more.
-    #[tactic(auto, unfolding(crate::specs::Lines::keep))]
-    fn keep(&mut self, b: u8)
-        ensures { (self.new ≡ keep self.old b) × (take (length self.old) self.new ≡ self.old) × (length self.old ≤ length self.new) }
+    // Keeps bytes as far as there is room.
+    fn keep(&mut self, bs: &[u8])
+        ensures { (self.new ≡ take 65 (self.old ++ bs.now)) × (length self.old ≤ 65) }
     {
-        if 64 < self.kept {
-            return;
-        }
-        self.bytes[self.kept] = b;
-        self.kept += 1;
+        let n = (65 - self.kept).min(bs.len());
+        let end = self.kept + n;
+        self.bytes[self.kept..end].copy_from_slice(&bs[..n]);
+        self.kept = end;
     }
 
     // Keeps the bytes as far as the first line feed: how many there are before it. The bytes kept before stay.
@@ -209,12 +207,8 @@ impl Line {
         ensures kept { (take (length self.old) self.new ≡ self.old) × (result ≤ length chunk.now) }
         ensures chunk_after { record { kept = self.new; rest = drop result chunk.now } ≡ run self.old chunk.now }
     {
-        for (i, b) in chunk.iter().enumerate() {
-            if *b == b'\n' {
-                return i;
-            }
-            self.keep(*b);
-        }
-        chunk.len()
+        let n = place_of(chunk, b'\n').unwrap_or(chunk.len());
+        self.keep(&chunk[..n]);
+        n
     }
 }

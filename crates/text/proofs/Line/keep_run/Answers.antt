@@ -1,31 +1,32 @@
--- `text::Line::keep_run` meets its contract: the kept line, run on from here, is the whole run. Assumes nothing.
-use Rattle.std.proofs.Common.{◌∙◌, ◌≡◌, sym, ap, arith, ◌+◌, take, drop, length}
+-- `text::Line::keep_run` meets its contract: what comes before the line feed is the run. Assumes nothing.
+use Rattle.std.proofs.Common.{ℕ, ◌≡◌, ◌++◌, sym, ap, ◌∙◌, take, drop, length, arith}
+use Rattle.std.specs.Prelude.{Option}
+use Rattle.std.specs.Option.{unwrap_or}
 use Rattle.std.proofs.lemmas.List.{take-take}
+use Rattle.std.proofs.Math.Seq.{take-append_seam}
 use Rattle.text.specs.Numbers.{Bytes}
-use Rattle.text.specs.Lines.{run}
-use Rattle.text.proofs.LineLaws.{run_feed, run_on, run_end}
+use Rattle.text.proofs.LineLaws.{feed, feed_within, feed_is, run_as, run_is}
 use Rattle.text.proofs.Line.keep_run.Goals as goal
 
-pub returns-then-b-eq10-clause-chunk_after : goal.returns-then-b-eq10-clause-chunk_after
-returns-then-b-eq10-clause-chunk_after c =
-    run_feed _ _ _ c.loop-i-test.true c.if-b-eq10.true ∙ c.loop-i.invariant.2
-
-pub loop-i-preserved : goal.loop-i-preserved
-loop-i-preserved c =
-    let inv = c.loop-i.invariant in
-    let rest = drop (c.loop-i.i + 1) c.args.chunk.now in
-    let n = length c.args.self.now in (
-      omega (arith, inv.0, c.keep.ensures.2),
-      sym (take-take n (length c.loop-i.self) c.keep.new.self inv.0)
-          ∙ ap (λ (x : Bytes). take n x) c.keep.ensures.1
-          ∙ inv.1,
-      ap (λ (x : Bytes). run x rest) c.keep.ensures.0
-          ∙ sym (run_on _ _ _ c.loop-i-test.true c.if-b-eq10.false)
-          ∙ inv.2,
+pub returns-clause-kept : goal.returns-clause-kept
+returns-clause-kept c =
+    let k = c.args.self.now in
+    let s = c.args.chunk.now in
+    let n : c.unwrap_or-n.result ≡ feed s =
+    c.unwrap_or-n.ensures ∙ ap (λ (o : Option ℕ). unwrap_or o (length s)) c.place_of.ensures ∙ feed_is s in
+    let more = take c.unwrap_or-n.result s in (
+      ap (λ (x : Bytes). take (length k) x) c.keep.ensures.0
+          ∙ take-take (length k) 65 (k ++ more) c.keep.ensures.1
+          ∙ take-append_seam k more,
+      omega (arith, n, feed_within s),
     )
 
 pub returns-clause-chunk_after : goal.returns-clause-chunk_after
 returns-clause-chunk_after c =
-    let e : c.loop-i.i ≡ length c.args.chunk.now = omega arith in
-    let n = length c.args.chunk.now in
-    run_end c.loop-i.self c.args.chunk.now n (omega arith) ∙ (rw e at c.loop-i.invariant.2)
+    let k = c.args.self.now in
+    let s = c.args.chunk.now in
+    let n : c.unwrap_or-n.result ≡ feed s =
+    c.unwrap_or-n.ensures ∙ ap (λ (o : Option ℕ). unwrap_or o (length s)) c.place_of.ensures ∙ feed_is s in
+    ap (λ (x : Bytes). record { kept = x; rest = drop c.unwrap_or-n.result s }) c.keep.ensures.0
+    ∙ ap (run_as k s) n
+    ∙ sym (run_is k s c.keep.ensures.1)

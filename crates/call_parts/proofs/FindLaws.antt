@@ -21,7 +21,7 @@ use Rattle.calls.proofs.GateLaws.{Way, stops, runs, way, sound_gate, step_sound}
 use Rattle.calls.proofs.Demand1.{looks_at}
 use Rattle.calls.specs.Step as Step
 use Rattle.calls.specs.declared.Refusal.{Refusal}
-use Rattle.calls.specs.Refusals.{number_of, number_in}
+use Rattle.calls.specs.Refusals.{refusal_number, number_in}
 use Rattle.calls.proofs.RefusalLaws.{number_no_zero, number_nonzero}
 use Rattle.std.specs.Prelude.{Ok, Err}
 use Rattle.call_parts.specs.Parts.{named_in}
@@ -34,7 +34,7 @@ module _ (p : Pool) (r : Row) where
   pub slot_number : (i : ℕ) → named_in p.table r ≡ Ok i → named (ledger p) r ≡ 0
   slot_number i e = sym (named_number p.table r) ∙ ap number_in e
 
-  pub refused_number : (x : Refusal) → named_in p.table r ≡ Err x → named (ledger p) r ≡ number_of x
+  pub refused_number : (x : Refusal) → named_in p.table r ≡ Err x → named (ledger p) r ≡ refusal_number x
   refused_number x e = sym (named_number p.table r) ∙ ap number_in e
 
 module _ (E : Engine) (p : Pool) (r : Row) (ok : sound E p ≡ true) (party : is_party r.party ≡ true) where
@@ -43,31 +43,31 @@ module _ (E : Engine) (p : Pool) (r : Row) (ok : sound E p ≡ true) (party : is
   find_answer = ap (λ (o : Outcome). o.answer) (step_sound E (find r) p refl refl ok party)
 
   pub find_slot : (i : ℕ) → named_in p.table r ≡ Ok i → (step E (find r) p).answer ≡ success r
-  unfolding Step.number_of answer_done
+  unfolding Step.refusal_number answer_done
   find_slot i e = find_answer ∙ (act_done E p (query r) (slot_number p r i e)).0
 
-  pub find_refused : (x : Refusal) → named_in p.table r ≡ Err x → (step E (find r) p).answer ≡ refusal (number_of x)
-  unfolding Step.number_of
+  pub find_refused : (x : Refusal) → named_in p.table r ≡ Err x → (step E (find r) p).answer ≡ refusal (refusal_number x)
+  unfolding Step.refusal_number
   find_refused x e =
-      let k : named (ledger p) r ≡ number_of x = refused_number p r x e in
+      let k : named (ledger p) r ≡ refusal_number x = refused_number p r x e in
       find_answer ∙ (act_refused E p (query r) (λ z. number_nonzero x (sym k ∙ z))).0 ∙ ap refusal k
 
 -- a release that names no record, or names it wrongly
 pub give_refused : (E : Engine) (p : Pool) (r : Row) (x : Refusal) → named_in p.table r ≡ Err x
-    → RefusedBy E p (give r) (number_of x)
-unfolding Step.number_of
-give_refused E p r x e = refused_by_lem E p (give r) (number_of x) (refused_number p r x e) (number_no_zero x)
+    → RefusedBy E p (give r) (refusal_number x)
+unfolding Step.refusal_number
+give_refused E p r x e = refused_by_lem E p (give r) (refusal_number x) (refused_number p r x e) (number_no_zero x)
 
 -- a trim likewise; and one that names its record, but not words to keep
 pub cut_refused : (E : Engine) (p : Pool) (r : Row) (k : ℕ) (x : Refusal) → named_in p.table r ≡ Err x
-    → RefusedBy E p (cut r k) (number_of x)
-unfolding Step.number_of
+    → RefusedBy E p (cut r k) (refusal_number x)
+unfolding Step.refusal_number
 cut_refused E p r k x e =
-    refused_by_lem E p (cut r k) (number_of x) (rw (refused_number p r x e, number_no_zero x)) (number_no_zero x)
+    refused_by_lem E p (cut r k) (refusal_number x) (rw (refused_number p r x e, number_no_zero x)) (number_no_zero x)
 
 pub cut_two : (E : Engine) (p : Pool) (r : Row) (k i : ℕ) → named_in p.table r ≡ Ok i → keepable k r ≡ false
     → RefusedBy E p (cut r k) 2
-unfolding Step.number_of
+unfolding Step.refusal_number
 cut_two E p r k i e h = refused_by_lem E p (cut r k) 2 (rw (slot_number p r i e, h)) refl
 
 -- ---- look
@@ -92,7 +92,7 @@ look_shows E p r hold = go (accepted (step E (find r) p).answer) refl
 
 module _ (E : Engine) (laws : Laws E) (p : Pool) (r : Row) where
   found_record : (step E (find r) p).answer.number ≡ 0 → (sound E p ≡ true) × (record_of r.ticket (ledger p) ≡ some r)
-  unfolding perform acts_done Step.number_of
+  unfolding perform acts_done Step.refusal_number
   found_record z = go (step E (find r) p) (way E (find r) p) z
     where
       go : (o : Outcome) → Way E (find r) p o → o.answer.number ≡ 0

@@ -4,9 +4,9 @@ use Rattle.std.specs.Prelude.{◌≡◌, ◌≢◌, refl, false, eqb, Result, Ok
 use Rattle.calls.specs.declared.Refusal.{Refusal}
 use Rattle.calls.specs.declared.Refusal.TheVariants.{Damaged, BadSize, NoRecord, NoTicket, NoRoom, UnknownTicket}
 use Rattle.calls.specs.declared.Refusal.TheVariants.{Mismatch, BadLengths, BadRequest, UnknownForm, NoParty}
-use Rattle.calls.specs.Refusals.{number_of, number_in}
+use Rattle.calls.specs.Refusals.{refusal_number, number_in}
 
-pub number_no_zero : (r : Refusal) → eqb (number_of r) 0 ≡ false
+pub number_no_zero : (r : Refusal) → eqb (refusal_number r) 0 ≡ false
 number_no_zero Damaged = refl
 number_no_zero BadSize = refl
 number_no_zero NoRecord = refl
@@ -19,7 +19,7 @@ number_no_zero BadRequest = refl
 number_no_zero UnknownForm = refl
 number_no_zero NoParty = refl
 
-pub number_nonzero : (r : Refusal) → number_of r ≢ 0
+pub number_nonzero : (r : Refusal) → refusal_number r ≢ 0
 number_nonzero r e = absurd (cc (number_no_zero r, ap (λ n. eqb n 0) e))
 
 -- the test by which the machine goes on is whether the code's answer is Ok

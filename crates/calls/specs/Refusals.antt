@@ -5,20 +5,20 @@ use Rattle.calls.specs.declared.Refusal.{Refusal}
 use Rattle.calls.specs.declared.Refusal.TheVariants.{Damaged, BadSize, NoRecord, NoTicket, NoRoom, UnknownTicket}
 use Rattle.calls.specs.declared.Refusal.TheVariants.{Mismatch, BadLengths, BadRequest, UnknownForm, NoParty}
 
-abbrev pub number_of : Refusal → ℕ
-number_of Damaged = 1
-number_of BadSize = 2
-number_of NoRecord = 3
-number_of NoTicket = 4
-number_of NoRoom = 5
-number_of UnknownTicket = 6
-number_of Mismatch = 7
-number_of BadLengths = 8
-number_of BadRequest = 9
-number_of UnknownForm = 11
-number_of NoParty = 12
+abbrev pub refusal_number : Refusal → ℕ
+refusal_number Damaged = 1
+refusal_number BadSize = 2
+refusal_number NoRecord = 3
+refusal_number NoTicket = 4
+refusal_number NoRoom = 5
+refusal_number UnknownTicket = 6
+refusal_number Mismatch = 7
+refusal_number BadLengths = 8
+refusal_number BadRequest = 9
+refusal_number UnknownForm = 11
+refusal_number NoParty = 12
 
 -- the number of what may be refused: 0 where it is not
 abbrev pub number_in : {A : Type 0} → Result A Refusal → ℕ
 number_in (Ok x) = 0
-number_in (Err r) = number_of r
+number_in (Err r) = refusal_number r

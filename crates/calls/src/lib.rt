@@ -3,7 +3,7 @@
 
 ghost use Rattle.std.specs.Prelude.{◌≡◌};
 ghost use Rattle.calls.specs.Step.{refusal};
-ghost use Rattle.calls.specs.Refusals.{number_of};
+ghost use Rattle.calls.specs.Refusals.{refusal_number};
 
 // A number of document 01's table, with ticket, address and words; the last three are 0 in a refusal.
 #[derive(Clone, Copy, PartialEq, Eq)]
@@ -32,14 +32,14 @@ pub enum Refusal {
 
 impl Refusal {
     pub fn number(self) -> u32
-        ensures { result ≡ number_of self }
+        ensures { result ≡ refusal_number self }
     {
         self as u32
     }
 }
 
 impl From<Refusal> for Answer {
-    ghost from_gives = { λ r x. x ≡ refusal (number_of r) };
+    ghost from_gives = { λ r x. x ≡ refusal (refusal_number r) };
 
     fn from(why: Refusal) -> Answer {
         Answer {

@@ -19,7 +19,7 @@ module _ (t : Words) (r : Row) where
   found : (i : ℕ) → Ok i ≡ named_in t r → named (records_of t) r ≡ 0
   found i e = sym (named_number t r) ∙ ap number_in (sym e)
 
-  missing : (x : Refusal) → Err x ≡ named_in t r → named (records_of t) r ≡ refusals.number_of x
+  missing : (x : Refusal) → Err x ≡ named_in t r → named (records_of t) r ≡ refusals.refusal_number x
   missing x e = sym (named_number t r) ∙ ap number_in (sym e)
 
   module _ (h : Head) (a : Words) where
@@ -28,7 +28,7 @@ module _ (t : Words) (r : Row) where
     give_done i e = rw (found i e)
 
     pub give_refused : (x : Refusal) → Err x ≡ named_in t r
-        → refusal (refusals.number_of x) ≡ answer_to tree_engine (tree_pool h a t) (give r)
+        → refusal (refusals.refusal_number x) ≡ answer_to tree_engine (tree_pool h a t) (give r)
     unfolding answer_to number_of answer_done
     give_refused x e = rw (missing x e, number_no_zero x)
 
@@ -44,6 +44,6 @@ module _ (t : Words) (r : Row) where
       cut_small i e k = rw (found i e, k)
 
       pub cut_refused : (x : Refusal) → Err x ≡ named_in t r
-          → refusal (refusals.number_of x) ≡ answer_to tree_engine (tree_pool h a t) (cut r keep)
+          → refusal (refusals.refusal_number x) ≡ answer_to tree_engine (tree_pool h a t) (cut r keep)
       unfolding answer_to number_of answer_done
       cut_refused x e = rw (missing x e, number_no_zero x, number_no_zero x)

@@ -10,7 +10,7 @@ use Rattle.std.specs.Prelude.{Result, Ok, Err}
 use Rattle.words.specs.Lists.{Words}
 use Rattle.ledger.specs.Records.{is_party}
 use Rattle.calls.specs.declared.Refusal.{Refusal}
-use Rattle.calls.specs.Refusals.{number_of, number_in}
+use Rattle.calls.specs.Refusals.{refusal_number, number_in}
 use Rattle.calls.proofs.RefusalLaws.{number_nonzero}
 use Rattle.calls.specs.Pool.{Pool, sound}
 use Rattle.calls.specs.Engines.{segment_engine}
@@ -29,21 +29,21 @@ module _ (S : ℕ) (h : Head) (v : List ℤ) (t x : Words) (c : ℕ) {A : Type 0
   p = segment_pool S h v t x
 
   module _ (y : Refusal) (e : r ≡ Err y) where
-    pub number_is : number_of y ≡ with_party (pool_number segment_engine p) c
+    pub number_is : refusal_number y ≡ with_party (pool_number segment_engine p) c
     number_is = sym (ap number_in e) ∙ is
 
     pub stopped : (call : Call Words) → fills call ≡ false → suits call p ≡ true → party_given call ≡ some c
-        → step segment_engine call p ≡ refused_by segment_engine call p (number_of y)
+        → step segment_engine call p ≡ refused_by segment_engine call p (refusal_number y)
     stopped call f s g =
-        stopped_step segment_engine p (pool_number segment_engine p) c (number_of y) refl number_is (number_nonzero y) call f s g
+        stopped_step segment_engine p (pool_number segment_engine p) c (refusal_number y) refl number_is (number_nonzero y) call f s g
 
     -- what the code hands back then
-    pub stopped_result : (o : Outcome) (n : ℕ) → o ≡ refused_with h n → n ≡ number_of y
+    pub stopped_result : (o : Outcome) (n : ℕ) → o ≡ refused_with h n → n ≡ refusal_number y
         → (call : Call Words) → fills call ≡ false → suits call p ≡ true → party_given call ≡ some c
         → handed S o v t x (buffers_of call) ≡ result_of (step segment_engine call p)
     stopped_result o n told number call f s g =
         ap (λ (q : Outcome). handed S q v t x (buffers_of call)) (told ∙ ap (refused_with h) number)
-        ∙ gate_result segment_engine p (pool_number segment_engine p) c (number_of y) refl number_is (number_nonzero y) call
+        ∙ gate_result segment_engine p (pool_number segment_engine p) c (refusal_number y) refl number_is (number_nonzero y) call
         f s g
 
   pub passed : (u : A) → r ≡ Ok u → (sound segment_engine p ≡ true) × (is_party c ≡ true)

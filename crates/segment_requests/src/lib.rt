@@ -7,7 +7,7 @@ ghost use Rattle.ledger.specs.Records.{is_party, keepable, shortened};
 ghost use Rattle.calls.specs.Pool.{sound};
 ghost use Rattle.calls.specs.Step.{ask, give, cut, answer_to, pool_after, partied};
 ghost use Rattle.calls.specs.Engines.{segment_engine};
-ghost use Rattle.calls.specs.Refusals.{number_of, number_in};
+ghost use Rattle.calls.specs.Refusals.{refusal_number, number_in};
 ghost use Rattle.call_parts.specs.Parts.{named_in, act_of, request_at, with_answer};
 ghost use Rattle.call_parts.specs.Results.{acted, ran};
 ghost use Rattle.segment_check.specs.Gate.{segment_pool};
@@ -49,7 +49,7 @@ pub fn refused_with(head: Head, number: u32) -> Outcome
 
 // The effect of an allocation that is refused: no address, and its number in the upper half.
 fn no_effect(refusal: Refusal) -> u32
-    ensures { result / 65536 ≡ number_of refusal }
+    ensures { result / 65536 ≡ refusal_number refusal }
 {
     65536 * refusal.number()
 }

@@ -3,7 +3,7 @@ use Rattle.std.specs.Prelude.{ℕ}
 use Rattle.testing.specs.declared.Form.{Form}
 use Rattle.testing.specs.declared.Form.TheVariants.{One, Two, Three}
 
-abbrev pub number_of : Form → ℕ
-number_of One = 1
-number_of Two = 2
-number_of Three = 3
+abbrev pub form_number : Form → ℕ
+form_number One = 1
+form_number Two = 2
+form_number Three = 3

@@ -2,7 +2,7 @@
 #![tactic(auto)]
 
 ghost use Rattle.std.specs.Prelude.{◌≡◌, ◌<◌, ◌^◌};
-ghost use Rattle.testing.specs.Forms.{number_of};
+ghost use Rattle.testing.specs.Forms.{form_number};
 
 pub mod printing;
 pub mod script;
@@ -37,14 +37,14 @@ pub enum Form {
 impl Form {
     // The number that a pool is told.
     pub fn number(self) -> u32
-        ensures { result ≡ number_of self }
+        ensures { result ≡ form_number self }
     {
         self as u32
     }
 
     // The words of its unit.
     pub fn unit(self) -> u32
-        ensures { result ≡ 2 ^ number_of self }
+        ensures { result ≡ 2 ^ form_number self }
     {
         match self {
             Form::One => 2,

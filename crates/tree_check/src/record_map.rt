@@ -148,7 +148,9 @@ fn note_row(map: &mut [u8], rule: Rule, r: Row, n: usize, per: usize)
 }
 
 // Enters all slots, and the records in a map that is all zero. Their units together; none if a slot may not be entered,
-// or they have more units together than the arena has words: so no more is noted than the arena has room for.
+// or they have more units together than the arena has words: so no more is noted than the arena has room for. It stays
+// a call, which leaves the loop all the registers.
+#[inline(never)]
 pub fn map_rows(
     form: u32,
     next: u32,

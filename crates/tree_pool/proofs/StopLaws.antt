@@ -6,7 +6,7 @@ use mathlib.Core.Option.{some}
 use Rattle.words.specs.Lists.{Words}
 use Rattle.ledger.specs.Records.{is_party}
 use Rattle.calls.specs.declared.Refusal.{Refusal}
-use Rattle.calls.specs.Refusals.{number_of}
+use Rattle.calls.specs.Refusals.{refusal_number}
 use Rattle.calls.specs.Pool.{Pool, sound}
 use Rattle.calls.specs.Step.{Call, fills, suits, buffers_of, party_given, pool_number, step}
 use Rattle.calls.specs.Engines.{tree_engine}
@@ -28,10 +28,10 @@ module _ (h : Head) (a t : Words) (c : ℕ) where
   passes e = gate_passed tree_engine p (pool_number tree_engine p) c 0 refl e refl
 
   -- a refusal, and nothing changes
-  pub stops : {o : Outcome} {n : ℕ} (why : Refusal) → o ≡ refused_with h n → n ≡ number_of why
-      → number_of why ≡ with_party (pool_number tree_engine p) c → (call : Call Words) → fills call ≡ false
+  pub stops : {o : Outcome} {n : ℕ} (why : Refusal) → o ≡ refused_with h n → n ≡ refusal_number why
+      → refusal_number why ≡ with_party (pool_number tree_engine p) c → (call : Call Words) → fills call ≡ false
       → suits call p ≡ true → party_given call ≡ some c
       → handed o a t (buffers_of call) ≡ result_of (step tree_engine call p)
   stops why is number e call f s g =
       ap (λ (x : Outcome). handed x a t (buffers_of call)) (is ∙ ap (refused_with h) number)
-      ∙ gate_result tree_engine p (pool_number tree_engine p) c (number_of why) refl e (number_nonzero why) call f s g
+      ∙ gate_result tree_engine p (pool_number tree_engine p) c (refusal_number why) refl e (number_nonzero why) call f s g

@@ -8,7 +8,7 @@ ghost use Rattle.std.specs.Prelude.{◌≡◌, List, [], ◌+◌, ◌*◌, ◌/�
 ghost use Rattle.calls.specs.Pool.{sound};
 ghost use Rattle.ledger.specs.Runs.{Run};
 ghost use Rattle.ledger.specs.Records.{is_party, keepable, shortened};
-ghost use Rattle.calls.specs.Refusals.{number_of};
+ghost use Rattle.calls.specs.Refusals.{refusal_number};
 ghost use Rattle.calls.specs.Step.{ask, give, cut, answer_to, pool_after, partied};
 ghost use Rattle.calls.specs.Engines.{tree_engine};
 ghost use Rattle.stored_forms.specs.Tree.{form_of};
@@ -53,7 +53,7 @@ pub fn refused_with(head: Head, number: u32) -> Outcome
 
 // The effect of a request that is refused: none.
 fn no_effect(why: Refusal) -> u64
-    ensures { effect_number result ≡ number_of why }
+    ensures { effect_number result ≡ refusal_number why }
 {
     why.number() as u64
 }

@@ -2,7 +2,7 @@
 use mathlib.Core.Path.{refl, ap, ◌∙◌}
 use mathlib.Core.List.{[]}
 use Rattle.calls.proofs.RefusalLaws.{number_nonzero}
-use Rattle.calls.specs.Refusals.{number_of}
+use Rattle.calls.specs.Refusals.{refusal_number}
 use Rattle.calls.specs.Engines.{segment_engine}
 use Rattle.calls.specs.Step.{allocate, ask, pool_number}
 use Rattle.call_parts.proofs.ResultLaws.{single_result}
@@ -23,7 +23,7 @@ returns-in-Err c =
     let number = number_is a.s a.head a.arena.now a.table.now a.index.now a.party c.gate_for.result c.gate_for.ensures
     c.in-Err.refusal c.in-Err.is in
     let places = c.with_places.ensures.1
-    ∙ gate_places p a.party a.words (pool_number segment_engine p) (number_of c.in-Err.refusal) refl number
+    ∙ gate_places p a.party a.words (pool_number segment_engine p) (refusal_number c.in-Err.refusal) refl number
     (number_nonzero c.in-Err.refusal) in
     λ i. (result i, places i)
 

@@ -4,7 +4,7 @@ use mathlib.Core.Path.{◌∙◌, ap, sym, refl, subst}
 use mathlib.Core.Bool.{true}
 use Rattle.segment_cores.specs.Stores.{Becomes}
 use Rattle.calls.specs.Engines.{segment_engine}
-use Rattle.calls.specs.Refusals.{number_of, number_in}
+use Rattle.calls.specs.Refusals.{refusal_number, number_in}
 use Rattle.calls.proofs.RefusalLaws.{number_nonzero}
 use Rattle.segment_check.specs.Gate.{segment_pool, no_head}
 use Rattle.segment_check.proofs.GateLaws.{InRange, measured}
@@ -24,7 +24,7 @@ pub returns-in-Err : goal.returns-in-Err
 returns-in-Err c =
     head_refused c.args.s c.args.arena.now c.args.table.now c.args.index.now c.args.first
     c.right_lengths-right.result (c.right_lengths-right.ensures no_head)
-    (number_of c.in-Err.refusal) (sym (ap number_in c.in-Err.is) ∙ c.format_test.ensures)
+    (refusal_number c.in-Err.refusal) (sym (ap number_in c.in-Err.is) ∙ c.format_test.ensures)
     c.from.result (number_nonzero c.in-Err.refusal) c.from.ensures
 
 pub segments_of-segments-requires : goal.segments_of-segments-requires

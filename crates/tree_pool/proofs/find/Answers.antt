@@ -2,7 +2,7 @@
 use mathlib.Core.Path.{◌∙◌, sym, ap, refl}
 use Rattle.calls.specs.Step.{find, pool_number}
 use Rattle.calls.specs.Engines.{tree_engine}
-use Rattle.calls.specs.Refusals.{number_of}
+use Rattle.calls.specs.Refusals.{refusal_number}
 use Rattle.calls.proofs.RefusalLaws.{number_nonzero}
 use Rattle.call_parts.specs.Results.{Result}
 use Rattle.call_parts.proofs.FindLaws.{find_slot, find_refused}
@@ -16,7 +16,7 @@ returns-in-Err c =
     let p = tree_pool c.args.head c.args.arena.now c.args.table.now in
     c.into.ensures
     ∙ ap (λ (l : Result). l.answer)
-    (gate_result tree_engine p (pool_number tree_engine p) c.args.named.party (number_of c.in-Err.why) refl
+    (gate_result tree_engine p (pool_number tree_engine p) c.args.named.party (refusal_number c.in-Err.why) refl
     c.in-Err.ensures (number_nonzero c.in-Err.why) (find c.args.named) refl refl refl)
 
 pub returns-in-Ok : goal.returns-in-Ok

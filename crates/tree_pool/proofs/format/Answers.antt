@@ -11,7 +11,7 @@ use Rattle.stored_forms.specs.Tree.{form_of, is_form}
 use Rattle.tree_nodes.specs.Nodes.{NodePut}
 use Rattle.tree_nodes.proofs.FormLaws.{link_zero}
 use Rattle.calls.specs.Engines.{tree_engine}
-use Rattle.calls.specs.Refusals.{number_of}
+use Rattle.calls.specs.Refusals.{refusal_number}
 use Rattle.calls.proofs.RefusalLaws.{number_nonzero}
 use Rattle.tree_check.specs.Gate.{tree_pool, no_head}
 use Rattle.tree_requests.specs.Outcomes.{refused_with}
@@ -39,7 +39,7 @@ returns-in-Err c =
     let right = c.right_lengths-right in
     let why = c.in-Err.why in
     head_refused c.args.form c.args.arena.now c.args.table.now c.args.first c.is_form.result
-    (known c.args.form c.is_form.ensures) right.result (right.ensures (no_head c.args.form) refl) (number_of why)
+    (known c.args.form c.is_form.ensures) right.result (right.ensures (no_head c.args.form) refl) (refusal_number why)
     c.in-Err.ensures c.refused_with.result (number_nonzero why)
     (c.refused_with.ensures ∙ ap (refused_with (no_head 0)) c.number.ensures)
 

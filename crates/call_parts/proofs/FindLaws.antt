@@ -10,7 +10,7 @@ use Rattle.ledger.specs.declared.Rule.{Rule}
 use Rattle.ledger.specs.Records.{is_party, record_of, keepable}
 use Rattle.calls.specs.Pool.{Pool, ledger, word_count, Engine, Laws, rule_of, sound}
 use Rattle.calls.specs.Step.{find, look, success, refusal, accepted, give, query, cut, Outcome}
-use Rattle.calls.specs.Step.{arena_part, placeholder, named, answer_done, answer_to}
+use Rattle.calls.specs.Step.{arena_part, placeholder, named, number_of, answer_done, answer_to}
 use Rattle.calls.specs.Step.{acts_done, perform, step}
 use Rattle.calls.proofs.StoreLaws.{sound_valid}
 use Rattle.ledger.specs.Units.{span, first, past, address_at}
@@ -19,7 +19,6 @@ use mathlib.Core.Option.{some}
 use Rattle.calls.proofs.ActLaws.{named_zero, act_done, act_refused, answer_number}
 use Rattle.calls.proofs.GateLaws.{Way, stops, runs, way, sound_gate, step_sound}
 use Rattle.calls.proofs.Demand1.{looks_at}
-use Rattle.calls.specs.Step as Step
 use Rattle.calls.specs.declared.Refusal.{Refusal}
 use Rattle.calls.specs.Refusals.{refusal_number, number_in}
 use Rattle.calls.proofs.RefusalLaws.{number_no_zero, number_nonzero}
@@ -43,11 +42,11 @@ module _ (E : Engine) (p : Pool) (r : Row) (ok : sound E p ≡ true) (party : is
   find_answer = ap (λ (o : Outcome). o.answer) (step_sound E (find r) p refl refl ok party)
 
   pub find_slot : (i : ℕ) → named_in p.table r ≡ Ok i → (step E (find r) p).answer ≡ success r
-  unfolding Step.refusal_number answer_done
+  unfolding number_of answer_done
   find_slot i e = find_answer ∙ (act_done E p (query r) (slot_number p r i e)).0
 
   pub find_refused : (x : Refusal) → named_in p.table r ≡ Err x → (step E (find r) p).answer ≡ refusal (refusal_number x)
-  unfolding Step.refusal_number
+  unfolding number_of
   find_refused x e =
       let k : named (ledger p) r ≡ refusal_number x = refused_number p r x e in
       find_answer ∙ (act_refused E p (query r) (λ z. number_nonzero x (sym k ∙ z))).0 ∙ ap refusal k
@@ -55,19 +54,19 @@ module _ (E : Engine) (p : Pool) (r : Row) (ok : sound E p ≡ true) (party : is
 -- a release that names no record, or names it wrongly
 pub give_refused : (E : Engine) (p : Pool) (r : Row) (x : Refusal) → named_in p.table r ≡ Err x
     → RefusedBy E p (give r) (refusal_number x)
-unfolding Step.refusal_number
+unfolding number_of
 give_refused E p r x e = refused_by_lem E p (give r) (refusal_number x) (refused_number p r x e) (number_no_zero x)
 
 -- a trim likewise; and one that names its record, but not words to keep
 pub cut_refused : (E : Engine) (p : Pool) (r : Row) (k : ℕ) (x : Refusal) → named_in p.table r ≡ Err x
     → RefusedBy E p (cut r k) (refusal_number x)
-unfolding Step.refusal_number
+unfolding number_of
 cut_refused E p r k x e =
     refused_by_lem E p (cut r k) (refusal_number x) (rw (refused_number p r x e, number_no_zero x)) (number_no_zero x)
 
 pub cut_two : (E : Engine) (p : Pool) (r : Row) (k i : ℕ) → named_in p.table r ≡ Ok i → keepable k r ≡ false
     → RefusedBy E p (cut r k) 2
-unfolding Step.refusal_number
+unfolding number_of
 cut_two E p r k i e h = refused_by_lem E p (cut r k) 2 (rw (slot_number p r i e, h)) refl
 
 -- ---- look
@@ -92,7 +91,7 @@ look_shows E p r hold = go (accepted (step E (find r) p).answer) refl
 
 module _ (E : Engine) (laws : Laws E) (p : Pool) (r : Row) where
   found_record : (step E (find r) p).answer.number ≡ 0 → (sound E p ≡ true) × (record_of r.ticket (ledger p) ≡ some r)
-  unfolding perform acts_done Step.refusal_number
+  unfolding perform acts_done number_of
   found_record z = go (step E (find r) p) (way E (find r) p) z
     where
       go : (o : Outcome) → Way E (find r) p o → o.answer.number ≡ 0

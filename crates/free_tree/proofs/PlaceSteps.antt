@@ -13,7 +13,8 @@ use Rattle.stored_forms.proofs.NodeLaws.{Readable, link_within}
 use Rattle.tree_nodes.specs.Nodes.{cells, LeftSet, RightSet}
 use Rattle.free_tree.specs.Shapes.{Under, whole, go_left, go_right, Stops}
 use Rattle.free_tree.specs.Links.{links_changed}
-use Rattle.free_tree.specs.Held.{At, Became, Place, Placed, Tells, Attached}
+use Rattle.free_tree.specs.Held.{At, Became, Place, Placed, Attached}
+use Rattle.free_tree.specs.Readings.{Tells}
 use Rattle.free_tree.proofs.LinkLaws.{left_changed, right_changed}
 use Rattle.free_tree.proofs.StepLaws.{rooted_length, at_none, at_small, at_left, at_right}
 use Rattle.free_tree.proofs.StepLaws.{left_kept, right_kept, left_replaced, right_replaced}

@@ -102,14 +102,6 @@ pub record Place (F : Form) (m : Words) (stop : Run → Bool) (x : ℕ) (T : Tre
 abbrev pub Placed : Form → Words → ℕ → (Run → Bool) → ℕ → ℕ → ℕ → Type 0
 Placed F m l stop x at over = (T : Tree) → At F m l T → Place F m stop x T at over
 
--- a test of cells says of each cell's node what `stop` says of its run
-abbrev pub Tells : Form → Words → (ℕ → Bool → Type 0) → (Run → Bool) → Type 0
-Tells F m says stop = (c : ℕ) (v : Bool) → c < cells F m → says c v → v ≡ stop (run c (length_at F m c))
-
--- what the search ensures where a test of cells stops it
-abbrev pub PlacedBy : Form → Words → ℕ → (ℕ → Bool → Type 0) → ℕ → ℕ → ℕ → Type 0
-PlacedBy F m l says x at over = (stop : Run → Bool) → Tells F m says stop → Placed F m l stop x at over
-
 -- the node at the link `at` is one of the tree at the link l, and its father has the link `over`, 0 for none
 abbrev pub NodeOf : Form → Words → ℕ → ℕ → ℕ → Type 0
 NodeOf F m l at over = (at ≢ 0) × Placed F m l (begins_at (at - 1)) (at - 1) at over

@@ -11,8 +11,8 @@ ghost use Rattle.free_tree.specs.Links.{link_of, count_of};
 ghost use Rattle.free_tree.specs.Held.{At, Beside, LeftWins, RightWins, LeftJoined, RightJoined, BothJoined};
 ghost use Rattle.free_tree.specs.Held.{Parts, Room, PutOver, Inserted, Deleted, OverRoot, Heavier, OverRoots};
 ghost use Rattle.free_tree.specs.Held.{OnTop, Between};
-ghost use Rattle.free_tree.specs.Readings.{run_of, top_number};
-ghost use Rattle.free_tree.specs.Held.{Heapified, Longer, Shrunk, LeftmostFound, Placed, PlacedBy, NodeOf, Attached, Clear, TouchFound};
+ghost use Rattle.free_tree.specs.Readings.{run_of, top_number, PlacedBy};
+ghost use Rattle.free_tree.specs.Held.{Heapified, Longer, Shrunk, LeftmostFound, Placed, NodeOf, Attached, Clear, TouchFound};
 ghost use Rattle.free_tree.specs.Held.{if_ends, if_begins};
 
 use tree_nodes::{

@@ -5,7 +5,7 @@ use Rattle.words.specs.Lists.{Words}
 use Rattle.ledger.specs.declared.Row.{Row}
 use Rattle.ledger.specs.Records.{records_of, keepable, shortened}
 use Rattle.calls.specs.declared.Refusal.{Refusal}
-use Rattle.calls.specs.Refusals as refusals
+use Rattle.calls.specs.Refusals.{refusal_number}
 use Rattle.calls.specs.Refusals.{number_in}
 use Rattle.calls.specs.Step.{success, refusal, named, number_of, answer_done, answer_to, give, cut}
 use Rattle.calls.specs.Engines.{tree_engine}
@@ -19,7 +19,7 @@ module _ (t : Words) (r : Row) where
   found : (i : ℕ) → Ok i ≡ named_in t r → named (records_of t) r ≡ 0
   found i e = sym (named_number t r) ∙ ap number_in (sym e)
 
-  missing : (x : Refusal) → Err x ≡ named_in t r → named (records_of t) r ≡ refusals.refusal_number x
+  missing : (x : Refusal) → Err x ≡ named_in t r → named (records_of t) r ≡ refusal_number x
   missing x e = sym (named_number t r) ∙ ap number_in (sym e)
 
   module _ (h : Head) (a : Words) where
@@ -28,7 +28,7 @@ module _ (t : Words) (r : Row) where
     give_done i e = rw (found i e)
 
     pub give_refused : (x : Refusal) → Err x ≡ named_in t r
-        → refusal (refusals.refusal_number x) ≡ answer_to tree_engine (tree_pool h a t) (give r)
+        → refusal (refusal_number x) ≡ answer_to tree_engine (tree_pool h a t) (give r)
     unfolding answer_to number_of answer_done
     give_refused x e = rw (missing x e, number_no_zero x)
 
@@ -44,6 +44,6 @@ module _ (t : Words) (r : Row) where
       cut_small i e k = rw (found i e, k)
 
       pub cut_refused : (x : Refusal) → Err x ≡ named_in t r
-          → refusal (refusals.refusal_number x) ≡ answer_to tree_engine (tree_pool h a t) (cut r keep)
+          → refusal (refusal_number x) ≡ answer_to tree_engine (tree_pool h a t) (cut r keep)
       unfolding answer_to number_of answer_done
       cut_refused x e = rw (missing x e, number_no_zero x, number_no_zero x)

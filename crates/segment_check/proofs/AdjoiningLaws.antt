@@ -72,16 +72,6 @@ held_weight (negsuc n) e h = refl
 -- ---- block after block
 
 module _ (v : List ℤ) (map : Words) where
-  pub adjoining_start : Adjoining v map 0 0 false
-  adjoining_start = record {
-    runs = [];
-    gapped = tt;
-    ends = λ e. refl;
-    sum = refl;
-    words = refl;
-    rest = λ u l e. absurd (omega arith);
-  }
-
   module _ (at free n : ℕ) (some : 0 < n) where
     -- a held block more
     pub adjoining_held : (after : Bool) → Adjoining v map at free after → bit_at map at ≡ true
@@ -131,9 +121,3 @@ free_block v at n some size zeros =
     rw (of_gt (at + n) at (omega arith))
     (and_i (eqb (free_size (get_or v at (pos 0))) (at + n - at)) (every (zero_at_z v) (at + 1) (at + n - (at + 1)))
     (rw (e, size) (eqb_same n)) zeros)
-
-pub block_zeros : (v : List ℤ) (at n : ℕ) → 0 < n → run_right v at (at + n) ≡ true
-    → every (zero_at_z v) (at + 1) (at + n - (at + 1)) ≡ true
-block_zeros v at n some right =
-    and_r (eqb (free_size (get_or v at (pos 0))) (at + n - at)) (every (zero_at_z v) (at + 1) (at + n - (at + 1)))
-    (rw (of_gt (at + n) at (omega arith)) at right)

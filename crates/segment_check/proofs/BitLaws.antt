@@ -1,17 +1,16 @@
 -- Laws of bits: a power of two has one, and a map with one more set. Assumes nothing.
 use Prim.Native.Nat.{ℕ, suc, ◌+◌, ◌-◌, ◌*◌, ◌/◌, ◌%◌, ◌^◌, ◌<◌}
 use native.Mathlib.Decide.{ℕ_discrete, dec_lt}
-use native.Mathlib.Nat.{pow-suc, div-eq_of_lt, div_self, zero-div}
+use native.Mathlib.Nat.{pow-suc, div-eq_of_lt, div_self}
 use native.Mathlib.Omega.{arith}
-use mathlib.Core.Bool.{true, ◌||◌, false≢true}
+use mathlib.Core.Bool.{true, ◌||◌}
 use mathlib.Core.Path.{◌≡◌, sym, ap, ◌∙◌}
 use lib.Bits.{bit_or, or_step, or_shr}
 use lib.Dec.{eqb}
 use lib.ListN.{length, get_or, set}
 use lib.Pow.{pow-add, pow-lt, pow_pos, shl-shr}
 use lib.Seq.{get_or-set_same, get_or-set_other}
-use Rattle.words.specs.Lists.{Words, all, is_zero}
-use Rattle.words.proofs.ListLaws.{zeros_at}
+use Rattle.words.specs.Lists.{Words}
 use Rattle.words.proofs.Tests.{eqb_same, eqb_ne}
 use Rattle.segment_index.proofs.SizeLaws.{one_moved}
 use Rattle.segment_check.specs.BitMaps.{bit_of, bit_at}
@@ -85,9 +84,3 @@ bit_set map k j h = go (ℕ_discrete j k)
         → bit_at (set map (k / 64) (bit_or (get_or map (k / 64) 0) (1 * 2 ^ (k % 64) % 2 ^ 64))) j ≡ (eqb j k || bit_at map j)
     go (yes e) = rw (e, eqb_same k) own
     go (no e) = rw (eqb_ne j k e) (bit_other map k j h e)
-
--- a map that is all zero has no bit set
-pub no_bit : (map : Words) → all is_zero map ≡ true → (k : ℕ) → bit_at map k ≡ true → ⊥
-no_bit map z k e =
-    false≢true
-    (sym (ap (λ n. bit_of n (k % 64)) (zeros_at map z (k / 64)) ∙ ap (λ n. eqb (n % 2) 1) (zero-div (2 ^ (k % 64)))) ∙ e)

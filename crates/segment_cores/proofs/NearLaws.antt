@@ -22,7 +22,7 @@ use Rattle.segment_index.proofs.IndexLaws.{length_index_of, index_heap, index_ag
 use Rattle.segment_index.proofs.RangeLaws.{weight_size, begins_not, FirstIn, first_found}
 use Rattle.segment_index.proofs.SizeLaws.{segment_low, segment_high, segment_in}
 use Rattle.segment_blocks.specs.Blocks.{Blocks, Chain, EndsAt}
-use Rattle.segment_blocks.proofs.UpkeepLaws.{sizes_some, sizes_few, sizes_each, sizes_narrow}
+use Rattle.segment_blocks.proofs.UpkeepLaws.{sizes_some, sizes_each, sizes_narrow}
 use Rattle.segment_cores.specs.Stores.{Sound, Releasing, Trimming}
 use Rattle.segment_cores.specs.Views.{Whole, RunOf, Rest}
 use Rattle.segment_cores.proofs.ChangeLaws.{controls, sound_whole, sound_blocks, sound_index}
@@ -35,9 +35,6 @@ use Rattle.segment_cores.specs.Cores.{LaterBlock, Begun, HeldAt, Beneath, rest_a
 module _ {c : ℕ → ℤ} {W : ℕ} {t : Words} {s d g p : ℕ} (S : LaterBlock c W t s d g p) where
   some_segments : 0 < s
   some_segments = sizes_some W s g S.sizes
-
-  pub later_few : s ≤ 256
-  later_few = sizes_few W s g S.sizes
 
   later_each : 0 < g
   later_each = sizes_each W s g S.sizes
@@ -163,16 +160,6 @@ module _ (L : Ledger) (v : List ℤ) (t : Words) (s d g p : ℕ) (K : HeldAt L v
     order = B.below;
     inside = held_inside;
     last = omega (arith, size_here, K.here);
-  }
-
-  pub beneath_none : p ≡ 0 → Beneath (free segment_rule L) p 0
-  beneath_none e = record {
-    fits = omega arith;
-    rest = record {
-      upto = omega arith;
-      passes = λ u a b. absurd (omega arith);
-      opened = let z : p - 0 ≡ 0 = omega arith in ap (opens f) z;
-    };
   }
 
   pub before_inside : (q : ℕ) → EndsAt c p q → q < length v

@@ -26,7 +26,7 @@ use Rattle.segment_index.proofs.SizeLaws.{segment_low, segment_high, segment_in,
 use Rattle.segment_index.proofs.WayLaws.{under, way_start, down_lowest, down_places}
 use Rattle.segment_blocks.specs.Blocks.{Blocks, Seeking, FirstFit}
 use Rattle.segment_blocks.proofs.ScanLaws.{seek_start, scan_finds}
-use Rattle.segment_blocks.proofs.UpkeepLaws.{sizes_some, sizes_few, sizes_each}
+use Rattle.segment_blocks.proofs.UpkeepLaws.{sizes_some, sizes_each}
 use Rattle.segment_cores.proofs.ChangeLaws.{controls, sound_whole, sound_blocks, sound_index}
 use Rattle.segment_cores.proofs.FitWords.{word_fit, word_none}
 use Rattle.segment_cores.specs.Views.{word}
@@ -56,9 +56,6 @@ module _ (L : Ledger) (v : List ℤ) (t : Words) (s d n : ℕ) (K : Searching L 
 
   some_segments : 0 < s
   some_segments = sizes_some W s g K.sound.sizes
-
-  pub few_segments : s ≤ 256
-  few_segments = sizes_few W s g K.sound.sizes
 
   pub index_long : length t ≡ 3 * s
   index_long = ap length was ∙ length_index_of c W s

@@ -27,12 +27,12 @@ loop-preserved c =
     elim c.if-t-j-eq0.branch [
       | then-t-j-eq0 w ↦
           rw e at
-              (go_left_lem s _ _ _ (h - c.loop.counter) c.loop.j _ (omega arith) (c.loop.invariant s u) w.if-t-j-eq0.true
-              w.j-is)
+          (go_left_lem s _ _ _ (h - c.loop.counter) c.loop.j _ (omega arith) (c.loop.invariant s u) w.if-t-j-eq0.true
+          w.j-is)
       | else-t-j-eq0 w ↦
           rw e at
-              (go_right_lem s _ _ _ (h - c.loop.counter) c.loop.j _ (omega arith) (c.loop.invariant s u) w.if-t-j-eq0.false
-              w.j-is)
+          (go_right_lem s _ _ _ (h - c.loop.counter) c.loop.j _ (omega arith) (c.loop.invariant s u) w.if-t-j-eq0.false
+          w.j-is)
     ]
 
 pub returns : goal.returns

@@ -6,6 +6,7 @@ ghost use Rattle.std.proofs.lemmas.List.Edits.{sets};
 ghost use Rattle.words.specs.Lists.{all, list_from};
 ghost use Rattle.ledger.specs.Records.{record_words, records_of};
 ghost use Rattle.calls.specs.Pool.{most_records};
+ghost use Rattle.calls.specs.Refusals.{refusal_number};
 ghost use Rattle.word_bytes.specs.Little.{word_at, bytes_of_words, Small};
 ghost use Rattle.session.specs.Meaning.{serving, serve, most_text_words, text_form};
 ghost use Rattle.session.specs.State.{session, table_from, arena_from, state_bytes, stage_of, head_of, table_in, arena_in, bytes_of};
@@ -18,6 +19,7 @@ ghost use Rattle.pool_bursts.specs.Layout.{fields_in, is_sized, is_small, is_cle
 ghost use Rattle.pool_bursts.specs.Calls.{replied, number_alone, started};
 ghost use Rattle.pool_bursts.specs.Inside.{Suits, stage_in, Fronts, is_placed, Read, with_pool};
 
+use calls::Refusal;
 use ledger::Row;
 use pool_text::{Own, Stage};
 use text::Line;
@@ -358,6 +360,16 @@ fn unchanged(number: u32) -> Counts
     }
 }
 
+// The same of a call that is refused.
+fn refused(why: Refusal) -> Counts
+    ensures { result ≡ number_alone (refusal_number why) }
+{
+    unchanged(why.number())
+}
+
+// Where the answers have no more room: no refusal, since what is left can be offered again.
+const ANSWERS_FULL: u32 = 10;
+
 // The number of a burst that was taken as far as a place: 0, or 10 where bytes are left.
 fn number_at(from: usize, n: usize) -> u32
     requires { from ≤ n }
@@ -366,7 +378,7 @@ fn number_at(from: usize, n: usize) -> u32
     if from == n {
         return 0;
     }
-    10
+    ANSWERS_FULL
 }
 
 // A burst that was served, and where the session stands: the words of its pool are still to be put into the state.
@@ -424,7 +436,7 @@ fn burst_in(
 {
     let Some(read) = load_state(&*state, &*arena, &*table) else {
         return ServedBurst {
-            counts: unchanged(1),
+            counts: refused(Refusal::Damaged),
             stage: Stage::Stopped,
         };
     };
@@ -456,7 +468,7 @@ pub fn burst(state: &mut [u8], bytes: &[u8], answers: &mut [u8]) -> Counts
         ≡ burst_call state.old bytes.now answers.old }
 {
     if state.len() != STATE {
-        return unchanged(8);
+        return refused(Refusal::BadLengths);
     }
     if is_small(read_fields(&*state)) {
         return burst_within::<1024, 64>(state, bytes, answers);
@@ -484,7 +496,7 @@ fn end_loaded(
         return unchanged(0);
     }
     let Some(done) = pool_text::try_line(stage, line, arena, table, answers, 0) else {
-        return unchanged(10);
+        return unchanged(ANSWERS_FULL);
     };
     store(done.stage, &[], &*arena, &*table, state);
     Counts {
@@ -500,13 +512,13 @@ pub fn end(state: &mut [u8], answers: &mut [u8]) -> Counts
         ≡ end_call state.old answers.old }
 {
     if state.len() != STATE {
-        return unchanged(8);
+        return refused(Refusal::BadLengths);
     }
     let mut arena = [0u32; 8192];
     let mut table = [0u32; 1024];
     load_words(&*state, &mut arena, &mut table);
     let Some(read) = load_state(&*state, &arena, &table) else {
-        return unchanged(1);
+        return refused(Refusal::Damaged);
     };
     let line = read.line;
     end_loaded(
@@ -524,7 +536,7 @@ pub fn start(state: &mut [u8]) -> u32
     ensures { started result state.new ≡ start_call state.old }
 {
     if state.len() != STATE {
-        return 8;
+        return Refusal::BadLengths as u32;
     }
     let f = Fields {
         stage: 1,

@@ -7,6 +7,7 @@ ghost use Rattle.ledger.specs.Records.{row, record_words};
 ghost use Rattle.calls.specs.Pool.{sound};
 ghost use Rattle.calls.specs.Step.{format, step, ask, give, cut, answer_to};
 ghost use Rattle.calls.specs.Engines.{tree_engine};
+ghost use Rattle.calls.specs.Refusals.{refusal_number};
 ghost use Rattle.call_parts.specs.Results.{result_of, acted};
 ghost use Rattle.tree_check.specs.declared.Head.{Head};
 ghost use Rattle.tree_check.specs.Gate.{tree_pool, no_head};
@@ -163,6 +164,13 @@ fn stop(number: u32) -> First
     }
 }
 
+// The same for a refusal of the first line itself.
+fn refuse(why: Refusal) -> First
+    ensures { (result.stage ≡ Stage.Stopped) × (result.said ≡ refusal_line (refusal_number why)) }
+{
+    stop(why.number())
+}
+
 // The form of the program's pool.
 const FORM: u32 = 1;
 
@@ -190,7 +198,7 @@ fn open_pool(
     ensures { Came result.stage arena.new table.new (opened words slots first numbers.now) result.said }
 {
     if (8192 < words) | (256 < slots) {
-        return stop(8);
+        return refuse(Refusal::BadLengths);
     }
     let done = format_front(arena, words as usize, table, 4 * slots as usize, first);
     if done.answer.number != 0 {
@@ -212,7 +220,7 @@ fn serve_first(line: &[u8], arena: &mut [u32], table: &mut [u32]) -> First
     ensures { Came result.stage arena.new table.new (first_line line.now) result.said }
 {
     let Some(fields) = fields_after(line, b'P') else {
-        return stop(9);
+        return refuse(Refusal::BadRequest);
     };
     if let Some(numbers) = text::read_numbers::<2>(fields) {
         let [words, slots] = numbers;
@@ -222,7 +230,7 @@ fn serve_first(line: &[u8], arena: &mut [u32], table: &mut [u32]) -> First
         let [words, slots, first] = numbers;
         return open_pool(arena, table, words, slots, first, &numbers);
     }
-    stop(9)
+    refuse(Refusal::BadRequest)
 }
 
 // A request on a sound pool, or a line that is none.
@@ -245,7 +253,7 @@ fn act(head: Head, arena: &mut [u32], table: &mut [u32], request: Option<LineReq
             let kept = call_parts::shortened(named, keep);
             tree_requests::outcome_of_release(head, kept, done)
         }
-        None => tree_requests::refused_with(head, 9),
+        None => tree_requests::refused_with(head, Refusal::BadRequest as u32),
     }
 }
 

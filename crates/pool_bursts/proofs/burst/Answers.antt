@@ -11,4 +11,4 @@ unfolding burst_call
 returns-then-state-ne-STATE c =
     let st = c.args.state.now in
     let out = c.args.answers.now in
-    ap (λ (x : Counts). replied x st out) c.unchanged.ensures ∙ sym (gated_eight st out _ c.if-state-ne-STATE.true)
+    ap (λ (x : Counts). replied x st out) c.refused.ensures ∙ sym (gated_eight st out _ c.if-state-ne-STATE.true)

@@ -15,7 +15,7 @@ unfolding burst_call
 returns-in_default-clause-answers_after c =
     let st = c.args.state.now in
     let out = c.args.answers.now in
-    ap (λ (x : Counts). replied x st out) c.unchanged.ensures
+    ap (λ (x : Counts). replied x st out) c.refused.ensures
     ∙ sym (gated_one st out _ c.requires.state_len.0 c.in_default.ensures)
 
 pub returns-clause-answers_after : goal.returns-clause-answers_after

@@ -16,14 +16,14 @@ unfolding end_call
 returns-then-state-ne-STATE c =
     let st = c.args.state.now in
     let out = c.args.answers.now in
-    ap (λ (x : Counts). replied x st out) c.unchanged.ensures ∙ sym (gated_eight st out _ c.if-state-ne-STATE.true)
+    ap (λ (x : Counts). replied x st out) c.refused.ensures ∙ sym (gated_eight st out _ c.if-state-ne-STATE.true)
 
 pub returns-in_default : goal.returns-in_default
 unfolding end_call
 returns-in_default c =
     let st = c.args.state.now in
     let out = c.args.answers.now in
-    ap (λ (x : Counts). replied x st out) c.unchanged-in_default.ensures
+    ap (λ (x : Counts). replied x st out) c.refused-in_default.ensures
     ∙ sym (gated_one st out _ c.if-state-ne-STATE.false c.in_default.ensures)
 
 pub returns : goal.returns

@@ -21,7 +21,7 @@ returns-then-words-slots c =
     let a = c.args.arena.now in
     let t = c.args.table.now in
     let e = too_large c.args.words c.args.slots c.args.first c.args.numbers.now c.if-words-slots.true in
-    let r = c.stop in
+    let r = c.refuse in
     came_as (sym e) r.result.stage a t r.result.said
     (came_stopped r.result.stage a t r.result.said 8 r.ensures.0 c.requires.0.0 c.requires.0.1 r.ensures.1)
 
@@ -38,7 +38,7 @@ returns-then-done-ne0 c =
     (length-take-le w a (omega (arith, few.0, whole.0)))
     (length-take-le (4 * k) t (omega (arith, few.1, whole.1))) d.result _ _ d.ensures few.0
     c.if-done-ne0.true in
-    let r = c.stop-then-done-ne0 in
+    let r = c.stop in
     let b = d.new.arena in
     let u = d.new.table in
     came_as (sym e) r.result.stage b u r.result.said

@@ -9,7 +9,7 @@ pub returns-in_default : goal.returns-in_default
 returns-in_default c =
     let a = c.args.arena.now in
     let t = c.args.table.now in
-    let r = c.stop in
+    let r = c.refuse in
     came_as (sym (first_bad c.args.line.now c.in_default.ensures)) r.result.stage a t r.result.said
     (came_stopped r.result.stage a t r.result.said 9 r.ensures.0 c.requires.0 c.requires.1 r.ensures.1)
 
@@ -34,7 +34,7 @@ returns c =
     let a = c.args.arena.now in
     let t = c.args.table.now in
     let f = c.in-Some.ensures in
-    let r = c.stop-2 in
+    let r = c.refuse-2 in
     let none = first_none c.args.line.now c.in-Some.fields.now f.1 f.0 c.in_default-read_numbers.ensures
     c.in_default-read_numbers-2.ensures in
     came_as (sym none) r.result.stage a t r.result.said

@@ -181,47 +181,54 @@ fn run_cut(rt: &HostRuntime, line: &[u8]) -> io::Result<()> {
     let mut answers = [UNTOUCHED; 4096];
     let mut tally = NOTHING;
     let text = read_text(rt.alloc(), line, 1)?;
-    let all = tally.run(rt, &text, &mut answers, 0)?;
+    let all = tally.run(rt, &text, &mut answers, 0);
     print!(rt; "  answers ")?;
     show_text(rt, answers.get(..all).unwrap_or(&answers))?;
     println!(rt)?;
     println!(rt; " {tally}")
 }
 
-// Runs a line; answers how many bytes of the buffer are lent from here on.
+// Runs a line; answers how many bytes of the buffer are lent from here on. A line whose outcome can't be printed has run
+// all the same.
 fn run_line(
     rt: &HostRuntime,
     line: &[u8],
     lent: usize,
     state: &mut Buffer,
     saved: &mut Buffer,
-) -> io::Result<usize> {
-    let given = read_line(rt, line)?;
+) -> usize {
+    let given = read_line(rt, line);
     let Some(command) = command_of(line) else {
-        return Ok(lent);
+        return lent;
     };
     match command {
-        Command::Lend => return Ok(given.word(0) as usize),
-        Command::OnSession(kind) => call_lent(rt, kind, line, &given, lent, state)?,
-        Command::Cut => run_cut(rt, line)?,
+        Command::Lend => return given.word(0) as usize,
+        Command::OnSession(kind) => {
+            let _ = call_lent(rt, kind, line, &given, lent, state);
+        }
+        Command::Cut => {
+            let _ = run_cut(rt, line);
+        }
         Command::Fill => state.fill((given.word(0) % 256) as u8),
         Command::Put => given.write(state),
-        Command::Show => show_bytes(rt, state)?,
+        Command::Show => {
+            let _ = show_bytes(rt, state);
+        }
         Command::Save => *saved = *state,
         Command::Back => *state = *saved,
     }
-    Ok(lent)
+    lent
 }
 
-fn main(rt: HostRuntime) -> io::Result<()> {
+// What was read before a failed read is run.
+fn main(rt: HostRuntime) {
     let mut script = Vec::new(rt.alloc());
-    rt.stdin().take(65536).read_to_end(&mut script)?;
+    let _ = rt.stdin().take(65536).read_to_end(&mut script);
     let mut state = [0; 36960];
     let mut saved = [0; 36960];
     let mut lent = 0;
     for line in script.split_inclusive(|b| *b == b'\n') {
         let line = line.strip_suffix(b"\n").unwrap_or(line);
-        lent = run_line(&rt, line, lent, &mut state, &mut saved)?;
+        lent = run_line(&rt, line, lent, &mut state, &mut saved);
     }
-    Ok(())
 }

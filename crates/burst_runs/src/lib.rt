@@ -4,10 +4,10 @@
 // state that a text leaves is then tried with one byte spoiled.
 #![tactic(auto)]
 
-ghost use Rattle.std.specs.Prelude.{◌≡◌, ◌+◌, ◌^◌, ◌%◌, ◌<◌, ◌≤◌, ◌↔◌, All, IsTrue, length, IfOk};
+ghost use Rattle.std.specs.Prelude.{◌≡◌, ◌+◌, ◌^◌, ◌%◌, ◌<◌, ◌≤◌, ◌↔◌, All, IsTrue, length};
 
 use pool_bursts::Counts;
-use std::{fmt, io};
+use std::fmt;
 use testing::{pick, stirred};
 
 // The bytes of a session.
@@ -48,20 +48,19 @@ impl Tally {
         self.tens = self.tens.wrapping_add(u64::from(number == 10));
     }
 
-    // A comparison more; the first ones that failed are told in words.
-    pub fn compare(&mut self, rt: &impl Print, fine: bool, what: &str) -> io::Result<()>
+    // A comparison more; the first ones that failed are told in words, where they can be printed.
+    pub fn compare(&mut self, rt: &impl Print, fine: bool, what: &str)
         ensures { self.new.compared ≡ (self.old.compared + 1) % 2 ^ 64 }
     {
         self.compared = self.compared.wrapping_add(1);
         if fine {
-            return Ok(());
+            return;
         }
         let before = self.differences;
         self.differences = before.wrapping_add(1);
         if before < 20 {
-            println!(rt; "{} calls, and then differs: {what}", self.calls)?;
+            let _ = println!(rt; "{} calls, and then differs: {what}", self.calls);
         }
-        Ok(())
     }
 }
 
@@ -79,17 +78,25 @@ pub fn is_untouched(s: &[u8]) -> bool
 
 // ---- what is due: one burst with room enough, and the end call
 
-// A text; the answers that it is due, the burst's `said` and the end call's; the states after the two.
+// A text; the memory that the answers due to it begin, how many of them there are, and how many the burst's are, the end
+// call's being behind these; the states after the two.
 #[derive(Clone, Copy)]
 struct Due<'a> {
     text: &'a [u8],
-    answers: &'a [u8],
+    memory: &'a [u8],
+    all: usize,
     said: usize,
     after: &'a State,
     ended: &'a State,
 }
 
-fn start(tally: &mut Tally, rt: &impl Print, state: &mut State) -> io::Result<()> {
+impl Due<'_> {
+    fn answers(&self) -> &[u8] {
+        self.memory.get(..self.all).unwrap_or(self.memory)
+    }
+}
+
+fn start(tally: &mut Tally, rt: &impl Print, state: &mut State) {
     tally.compare(rt, pool_bursts::start(state) == 0, "start")
 }
 
@@ -100,28 +107,23 @@ fn in_one(
     text: &[u8],
     state: &mut State,
     due: &mut [u8],
-) -> io::Result<usize>
-    ensures { IfOk result (λ n. n ≤ length due.old) }
+) -> usize
+    ensures { result ≤ length due.old }
 {
     let c = pool_bursts::burst(state, text, due);
     tally.call(c.number);
-    tally.compare(rt, c.number == 0 && c.taken == text.len(), "one burst")?;
-    Ok(c.written.min(due.len()))
+    tally.compare(rt, c.number == 0 && c.taken == text.len(), "one burst");
+    c.written.min(due.len())
 }
 
 // The end call behind it: how many answer bytes.
-fn and_end(
-    tally: &mut Tally,
-    rt: &impl Print,
-    state: &mut State,
-    due: &mut [u8],
-) -> io::Result<usize>
-    ensures { IfOk result (λ n. n ≤ length due.old) }
+fn and_end(tally: &mut Tally, rt: &impl Print, state: &mut State, due: &mut [u8]) -> usize
+    ensures { result ≤ length due.old }
 {
     let c = pool_bursts::end(state, due);
     tally.call(c.number);
-    tally.compare(rt, c.number == 0 && c.taken == 0, "its end")?;
-    Ok(c.written.min(due.len()))
+    tally.compare(rt, c.number == 0 && c.taken == 0, "its end");
+    c.written.min(due.len())
 }
 
 // ---- a cutting
@@ -169,7 +171,7 @@ fn is_before_line(bytes: &[u8], taken: usize) -> bool {
     front.last().is_none_or(|b| *b == b'\n') && rest.contains(&b'\n')
 }
 
-// Whether a call's numbers are right, where `due` are the answers still to come: all is taken, or the call stops before
+// Whether a call's numbers are right, where `due` begins with the answers still to come: all is taken, or the call stops before
 // a line whose answer does not fit.
 fn is_right(c: Counts, bytes: &[u8], room: usize, due: &[u8]) -> bool {
     if c.written > room {
@@ -195,26 +197,26 @@ impl Tally {
         due: &Due,
         state: &mut State,
         answers: &mut [u8],
-    ) -> io::Result<Talk> {
+    ) -> Talk {
         let a = stirred(talk.seed);
         let b = stirred(a);
         let from = talk.from.min(due.text.len());
         let to = from + piece_of(cutting, a).min(due.text.len() - from);
-        let at = talk.at.min(answers.len());
+        let at = talk.at.min(answers.len()).min(due.memory.len());
         let end = at + room_of(cutting, b).min(answers.len() - at);
         let bytes = &due.text[from..to];
         let room = &mut answers[at..end];
         let c = pool_bursts::burst(state, bytes, room);
         self.call(c.number);
-        let rest = due.answers.get(at..).unwrap_or(&[]);
-        self.compare(rt, is_right(c, bytes, end - at, rest), "a call's numbers")?;
-        let behind = room.get(c.written..).is_some_and(|part| is_untouched(part));
-        self.compare(rt, behind, "bytes behind the answers")?;
-        Ok(Talk {
+        let right = is_right(c, bytes, end - at, &due.memory[at..]);
+        self.compare(rt, right, "a call's numbers");
+        let behind = room.get(c.written..).is_none_or(|part| is_untouched(part));
+        self.compare(rt, behind, "bytes behind the answers");
+        Talk {
             from: from.wrapping_add(c.taken),
             at: at.wrapping_add(c.written),
             seed: b,
-        })
+        }
     }
 
     // All bursts of a cutting; bytes not taken are handed over again. More than four calls for each byte, and a thousand,
@@ -226,7 +228,7 @@ impl Tally {
         due: &Due,
         state: &mut State,
         answers: &mut [u8],
-    ) -> io::Result<Talk> {
+    ) -> Talk {
         let mut talk = Talk {
             from: 0,
             at: 0,
@@ -236,9 +238,9 @@ impl Tally {
             if talk.from >= due.text.len() {
                 break;
             }
-            talk = self.hand_over(rt, talk, cutting, due, state, answers)?;
+            talk = self.hand_over(rt, talk, cutting, due, state, answers);
         }
-        Ok(talk)
+        talk
     }
 
     // ---- the end of a cutting
@@ -252,7 +254,7 @@ impl Tally {
         number: u32,
         written: usize,
         what: &str,
-    ) -> io::Result<()> {
+    ) {
         let c = pool_bursts::end(state, room);
         self.call(c.number);
         let fine = c.number == number && c.taken == 0 && c.written == written;
@@ -261,36 +263,24 @@ impl Tally {
 
     // The end call with a byte less than the room that its answer needs: nothing changes. An end call without an answer
     // needs no room.
-    fn end_short(
-        &mut self,
-        rt: &impl Print,
-        state: &mut State,
-        after: &State,
-        room: &mut [u8],
-    ) -> io::Result<()> {
+    fn end_short(&mut self, rt: &impl Print, state: &mut State, after: &State, room: &mut [u8]) {
         let Some((_, short)) = room.split_last_mut() else {
-            return Ok(());
+            return;
         };
-        self.end(rt, state, short, 10, 0, "an end call without room")?;
-        self.compare(rt, is_untouched(room), "its answer bytes")?;
+        self.end(rt, state, short, 10, 0, "an end call without room");
+        self.compare(rt, is_untouched(room), "its answer bytes");
         self.compare(rt, *state == *after, "its state")
     }
 
     // The end calls: without room, with just the room that the answer needs, and once more, when no line is left.
-    fn finish(
-        &mut self,
-        rt: &impl Print,
-        due: &Due,
-        state: &mut State,
-        answers: &mut [u8],
-    ) -> io::Result<()> {
-        let all = due.answers.len().min(answers.len());
+    fn finish(&mut self, rt: &impl Print, due: &Due, state: &mut State, answers: &mut [u8]) {
+        let all = due.answers().len().min(answers.len());
         let said = due.said.min(all);
         let room = &mut answers[said..all];
         let n = room.len();
-        self.end_short(rt, state, due.after, room)?;
-        self.end(rt, state, room, 0, n, "an end call")?;
-        self.end(rt, state, &mut [UNTOUCHED], 0, 0, "a second end call")?;
+        self.end_short(rt, state, due.after, room);
+        self.end(rt, state, room, 0, n, "an end call");
+        self.end(rt, state, &mut [UNTOUCHED], 0, 0, "a second end call");
         self.compare(rt, *state == *due.ended, "the state after the end")
     }
 
@@ -303,66 +293,60 @@ impl Tally {
         due: &Due,
         state: &mut State,
         answers: &mut [u8],
-    ) -> io::Result<()> {
+    ) {
         answers.fill(UNTOUCHED);
-        start(self, rt, state)?;
-        let talk = self.hand_all(rt, cutting, due, state, answers)?;
+        start(self, rt, state);
+        let talk = self.hand_all(rt, cutting, due, state, answers);
         let whole = talk.from == due.text.len() && talk.at == due.said;
-        self.compare(rt, whole, "the bytes taken or written in all")?;
-        self.compare(rt, *state == *due.after, "the state")?;
-        self.finish(rt, due, state, answers)?;
-        self.compare(rt, answers.starts_with(due.answers), "the answers")
+        self.compare(rt, whole, "the bytes taken or written in all");
+        self.compare(rt, *state == *due.after, "the state");
+        self.finish(rt, due, state, answers);
+        self.compare(rt, answers.starts_with(due.answers()), "the answers")
     }
 
     // ---- a state with a byte spoiled that it does not use
 
     // Both calls on what is no state: 1, and nothing more.
-    fn refused(&mut self, rt: &impl Print, state: &mut State) -> io::Result<()> {
+    fn refused(&mut self, rt: &impl Print, state: &mut State) {
         let mut room = [UNTOUCHED; 40];
         let c = pool_bursts::burst(state, b"A\t1\n", &mut room);
         self.call(c.number);
         let fine = c.number == 1 && c.taken == 0 && c.written == 0;
-        self.compare(rt, fine, "a burst on a spoiled state")?;
-        self.end(rt, state, &mut room, 1, 0, "an end call on a spoiled state")?;
+        self.compare(rt, fine, "a burst on a spoiled state");
+        self.end(rt, state, &mut room, 1, 0, "an end call on a spoiled state");
         self.compare(rt, is_untouched(&room), "the answers of a spoiled state")
     }
 
     // Spoils the byte at place i if it is not used, which is then 0.
-    fn spoil(&mut self, rt: &impl Print, i: usize, state: &mut State) -> io::Result<()>
+    fn spoil(&mut self, rt: &impl Print, i: usize, state: &mut State)
         requires { i < 36956 }
     {
         if !is_unused(state, i) {
-            return Ok(());
+            return;
         }
         state[i] = 1;
         let spoiled = *state;
-        self.refused(rt, state)?;
-        self.compare(rt, *state == spoiled, "a spoiled state")?;
+        self.refused(rt, state);
+        self.compare(rt, *state == spoiled, "a spoiled state");
         state[i] = 0;
-        Ok(())
     }
 
     // ---- all of it
 
     // The text in one burst and in every cutting, and so many bytes of its state spoiled, one at a time, all over it.
     // `answers` becomes what is due, and how many bytes that are is answered.
-    pub fn run(
-        &mut self,
-        rt: &impl Print,
-        text: &[u8],
-        answers: &mut [u8],
-        spoiled: usize,
-    ) -> io::Result<usize>
-        ensures { IfOk result (λ n. n ≤ length answers.old) }
+    pub fn run(&mut self, rt: &impl Print, text: &[u8], answers: &mut [u8], spoiled: usize) -> usize
+        ensures { result ≤ length answers.old }
     {
         let mut after = [0; 36956];
-        start(self, rt, &mut after)?;
-        let said = in_one(self, rt, text, &mut after, answers)?;
+        start(self, rt, &mut after);
+        let said = in_one(self, rt, text, &mut after, answers);
         let mut ended = after;
-        let all = said + and_end(self, rt, &mut ended, &mut answers[said..])?;
+        let all = said + and_end(self, rt, &mut ended, &mut answers[said..]);
         let due = Due {
             text,
-            answers: &answers[..all],
+            memory: answers,
+            all,
             said,
             after: &after,
             ended: &ended,
@@ -370,13 +354,14 @@ impl Tally {
         let mut state = [0; 36956];
         let mut again = [0; 262144];
         for cutting in 0..count_of(text.len()) {
-            self.cut(rt, cutting, &due, &mut state, &mut again)?;
+            self.cut(rt, cutting, &due, &mut state, &mut again);
         }
+        state = after;
         for i in 0..spoiled {
             let place = (text.len() % 36956 + i % 36956 * 289) % 36956;
-            self.spoil(rt, place, &mut after)?;
+            self.spoil(rt, place, &mut state);
         }
-        Ok(all)
+        due.all
     }
 }
 
@@ -390,7 +375,7 @@ fn size_at(state: &State, i: usize) -> usize
     ensures { result ≤ 65535 }
 {
     let at = i % 6 * 4;
-    usize::from(state[at]) + 256 * usize::from(state[at + 1])
+    usize::from(u16::from_le_bytes([state[at], state[at + 1]]))
 }
 
 // Whether a state does not use the byte at place i: it is behind the unfinished line, the table or the arena.

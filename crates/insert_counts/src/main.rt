@@ -297,7 +297,7 @@ fn on_first<R, F: FnOnce(&mut [u32], &mut [u32]) -> R>(
     f(&mut arena[..w], &mut map[..m])
 }
 
-// T8 on so many words, which are eight cells, and then rounds of each size.
+// T8 on so many words, which are eight cells, and then rounds of each size. A line that can't be printed is passed over.
 fn run(
     rt: &impl Print,
     form: u32,
@@ -305,22 +305,21 @@ fn run(
     arena: &mut [u32],
     map: &mut [u32],
     before: &mut [u32],
-) -> io::Result<()> {
-    on_first(form, sheet, arena, map, |arena, map| {
+) {
+    let _ = on_first(form, sheet, arena, map, |arena, map| {
         bench_sheet(rt, form, arena, map, before)
-    })?;
+    });
     for (seed, size) in SIZES.iter().enumerate() {
-        on_first(form, size.words, arena, map, |arena, map| {
+        let _ = on_first(form, size.words, arena, map, |arena, map| {
             play(rt, form, arena, map, before, size.most, seed as u64)
-        })?;
+        });
     }
-    Ok(())
 }
 
-fn main(rt: HostRuntime) -> io::Result<()> {
+fn main(rt: HostRuntime) {
     let mut arena = [0u32; 16384];
     let mut map = [0u32; 8192];
     let mut before = [0u32; 16384];
-    run(&rt, 1, 16, &mut arena, &mut map, &mut before)?;
-    run(&rt, 2, 32, &mut arena, &mut map, &mut before)
+    run(&rt, 1, 16, &mut arena, &mut map, &mut before);
+    run(&rt, 2, 32, &mut arena, &mut map, &mut before);
 }

@@ -224,16 +224,16 @@ fn play(
     )
 }
 
-fn main(rt: HostRuntime) -> io::Result<()> {
+// A line that can't be printed is passed over.
+fn main(rt: HostRuntime) {
     let mut arena = [0; 16384];
     let mut table = [0; 1024];
     let mut index = [0; 768];
     let mut book = [EMPTY; 256];
     let mut map = [false; 16384];
     for size in ROUNDS {
-        play(
+        let _ = play(
             &rt, size, &mut arena, &mut table, &mut index, &mut book, &mut map,
-        )?;
+        );
     }
-    Ok(())
 }

@@ -103,10 +103,10 @@ impl Given {
     }
 }
 
-// Prints a line and reads its numbers, with their signs, up to its comment.
-pub fn read_line(rt: &impl Print, line: &[u8]) -> io::Result<Given> {
-    io::writer(rt).write_all(line)?;
-    println!(rt)?;
+// Prints a line and reads its numbers, with their signs, up to its comment. A line that can't be printed is read as well.
+pub fn read_line(rt: &impl Print, line: &[u8]) -> Given {
+    let _ = io::writer(rt).write_all(line);
+    let _ = println!(rt);
     let code = line.split(|b| *b == b'#').next().unwrap_or(line);
-    Ok(Given::of(code))
+    Given::of(code)
 }

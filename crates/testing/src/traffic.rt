@@ -1,5 +1,6 @@
 // Random traffic on a pool, held to a plain ledger: a book of records, and a map of units. The lowest fit is found by
-// scanning the map. It shares no code with the pools; which units a record holds is for the engine to say.
+// scanning the map. It shares no code with the pools but the types of records and answers and the numbers of refusals,
+// which calls proves; which units a record holds is for the engine to say.
 #![tactic(auto)]
 
 ghost use Rattle.std.specs.Prelude.{◌≡◌, ◌+◌, ◌<◌, ◌^◌, length};

@@ -37,7 +37,8 @@ fn run_case(rt: &HostRuntime, n: usize, after: &str, piece: usize) -> io::Result
 fn run_bursts(rt: &HostRuntime, n: usize) -> io::Result<()> {
     let name = name_of(rt.alloc(), n)?;
     show_heading(rt, n, " in bursts: ")?;
-    bursts::run_case(rt, name.as_str())
+    bursts::run_case(rt, name.as_str());
+    Ok(())
 }
 
 fn main(rt: HostRuntime) -> io::Result<()> {

@@ -194,13 +194,13 @@ fn play(
     println!(rt; "form {number}, {words} words, {records} records: {tally}, {fresh} at the end")
 }
 
-fn main(rt: HostRuntime) -> io::Result<()> {
+// A line that can't be printed is passed over.
+fn main(rt: HostRuntime) {
     let mut arena = [0; 300000];
     let mut table = [0; 1024];
     let mut book = [EMPTY; 256];
     let mut map = [false; 75000];
     for size in ROUNDS {
-        play(&rt, size, &mut arena, &mut table, &mut book, &mut map)?;
+        let _ = play(&rt, size, &mut arena, &mut table, &mut book, &mut map);
     }
-    Ok(())
 }

@@ -1,7 +1,7 @@
 -- What a call hands back and leaves, of the code and of the machine, in one form for every engine. Assumes nothing.
 --
 -- A pool says of its own outcome and lent slices what they are here, and nothing else:
---   handed : Outcome → .. → List Words → Result,   handed r arena .. buffers = result r.answer (POOL) buffers
+--   handed : Outcome Head → .. → List Words → Result,   handed r arena .. buffers = result r.answer (POOL) buffers
 -- where POOL is the pool of the head handed back and of the lent memory as it was left, every word a natural number.
 -- Each of its calls then promises `handed r .. ≡ result_of (step E call POOL)`, with POOL as the call was lent it.
 use Rattle.std.specs.Prelude.{ℕ, ◌+◌, ◌*◌, List, [], ◌++◌, length, take, drop}
@@ -10,7 +10,8 @@ use Rattle.words.specs.Lists.{Words}
 use Rattle.calls.specs.declared.Answer.{Answer}
 use Rattle.calls.specs.Pool.{Pool, Engine}
 use Rattle.calls.specs.Step.{Outcome, Act, answer_to, pool_after, requests, answer_words, answers_of, counted_of}
-use Rattle.calls.specs.Step.{pool_after_all, Slice, arena_part, placeholder, nothing}
+use Rattle.calls.specs.Step.{pool_after_all, Slice, arena_part, placeholder, nothing, refusal}
+use Rattle.call_parts.specs.declared.Outcome as code
 
 -- All that a call hands back and leaves: its answer; the pool, which is head, arena, table and index; and the answer
 -- buffer of a list call.
@@ -21,6 +22,10 @@ pub record Result : Type 0 where
 
 abbrev pub result : Answer → Pool → List Words → Result
 result x p buffers = record { answer = x; pool = p; buffers = buffers }
+
+-- what the code hands back of a refusal: the head as it came
+abbrev pub refused_with : {H : Type 0} → H → ℕ → code.Outcome H
+refused_with h n = record { head = h; answer = refusal n }
 
 -- of the machine's outcome
 abbrev pub result_of : Outcome → Result

@@ -7,6 +7,7 @@ ghost use Rattle.calls.specs.Pool.{next_after};
 ghost use Rattle.calls.specs.Refusals.{number_in};
 ghost use Rattle.calls.specs.Step.{success, refusal, list_suits};
 ghost use Rattle.call_parts.specs.Parts.{format_number, with_party, named_in, act_of, request_at, with_answer};
+ghost use Rattle.call_parts.specs.Results.{refused_with};
 
 use calls::{Answer, Refusal};
 use ledger::Row;
@@ -23,6 +24,23 @@ pub fn refused(number: u32) -> Answer
         ticket: 0,
         address: 0,
         words: 0,
+    }
+}
+
+// A head with the answer: what a call hands back.
+#[derive(Clone, Copy, PartialEq, Eq)]
+pub struct Outcome<H> {
+    pub head: H,
+    pub answer: Answer,
+}
+
+// A refusal with the head, which stays as it came.
+pub fn refused_with<H: Copy>(head: H, number: u32) -> Outcome<H>
+    ensures { result ≡ refused_with head number }
+{
+    Outcome {
+        head,
+        answer: refused(number),
     }
 }
 

@@ -1,10 +1,9 @@
 -- The structs that cross to C, as the pools' own. Assumes nothing.
 use Rattle.std.specs.Prelude.{ℕ}
 use Rattle.calls.specs.declared.Answer as calls
+use Rattle.call_parts.specs.declared.Outcome.{Outcome}
 use Rattle.tree_check.specs.declared.Head as tree-head
-use Rattle.tree_requests.specs.declared.Outcome as tree
 use Rattle.segment_check.specs.declared.Head as segment-head
-use Rattle.segment_requests.specs.declared.Outcome as segment
 use Rattle.segment_requests.specs.declared.Allocation as segment-allocation
 use Rattle.pool_bursts.specs.declared.Counts as bursts
 use Rattle.pool_c.specs.declared.TreeHead.{TreeHead}
@@ -29,10 +28,10 @@ answer_of r = record {
   words = r.block.words;
 }
 
-abbrev pub tree_outcome : TreeOutcome → tree.Outcome
+abbrev pub tree_outcome : TreeOutcome → Outcome tree-head.Head
 tree_outcome r = record { head = head_of r.head; answer = answer_of r.answer }
 
-abbrev pub segment_outcome : SegmentOutcome → segment.Outcome
+abbrev pub segment_outcome : SegmentOutcome → Outcome segment-head.Head
 segment_outcome r = record { head = segment_head r.next; answer = answer_of r.answer }
 
 abbrev pub segment_allocation : SegmentAllocation → segment-allocation.Allocation

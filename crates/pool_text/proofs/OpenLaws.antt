@@ -23,7 +23,8 @@ use Rattle.call_parts.specs.Parts.{format_number}
 use Rattle.call_parts.proofs.FormatLaws.{format_answers}
 use Rattle.tree_check.specs.Gate.{tree_pool, no_head}
 use Rattle.tree_check.proofs.GateLaws.{in_range}
-use Rattle.tree_requests.specs.declared.Outcome.{Outcome}
+use Rattle.call_parts.specs.declared.Outcome.{Outcome}
+use Rattle.tree_check.specs.declared.Head.{Head}
 use Rattle.call_parts.specs.Results.{Result, result_of}
 use Rattle.tree_requests.specs.Outcomes.{in_form, formatted}
 use Rattle.tree_pool.proofs.FormatLaws.{blank_owned}
@@ -113,7 +114,7 @@ module _ (w s first : ℕ) (ns : List ℕ) where
       by_words false e t = either (leb w most_text_words) (many_slots (lt_of 256 s t))
 
 -- the code's format of words that lay anywhere
-module _ (a t : Words) (w s first : ℕ) (ns : List ℕ) (ea : length a ≡ w) (et : length t ≡ record_words * s) (d : Outcome)
+module _ (a t : Words) (w s first : ℕ) (ns : List ℕ) (ea : length a ≡ w) (et : length t ≡ record_words * s) (d : Outcome Head)
     (b u : Words) (e : formatted text_form d b u ≡ result_of (step tree_engine (format first) (at a t))) (h : w ≤ 8192) where
   arena_length : length a ≡ length (zero_words w)
   arena_length = ea ∙ sym (length-replicate {A = ℕ} w 0)

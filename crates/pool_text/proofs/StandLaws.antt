@@ -16,7 +16,8 @@ use Rattle.calls.specs.Engines.{tree_engine}
 use Rattle.calls.proofs.Engines.{tree_laws}
 use Rattle.call_parts.specs.Results.{Result, acted}
 use Rattle.call_parts.proofs.ResultLaws.{acted_sound}
-use Rattle.tree_requests.specs.declared.Outcome.{Outcome}
+use Rattle.call_parts.specs.declared.Outcome.{Outcome}
+use Rattle.tree_check.specs.declared.Head.{Head}
 use Rattle.tree_requests.specs.Outcomes.{handed}
 use Rattle.text.specs.Numbers.{Bytes}
 use Rattle.text.specs.Fields.{Wrote}
@@ -75,7 +76,7 @@ came_stopped s a t said n e la lt w =
     ((la, lt, ap (λ (x : Stage). ready x a t) e), ap (λ (x : Stage). standing_of x a t) e, w)
 
 -- a request served: what was asked of the pool before, and the words before and after
-module _ (o : Own) (a t b u line : Bytes) (q : Option LineRequest) (d : Outcome) (asked : q ≡ request_of line)
+module _ (o : Own) (a t b u line : Bytes) (q : Option LineRequest) (d : Outcome Head) (asked : q ≡ request_of line)
     (e : handed d (take o.words b) (take (record_words * o.slots) u) [] ≡ acted tree_engine (act_of q) (own_pool o a t)) where
   abbrev own : Own
   own = record { head = d.head; words = o.words; slots = o.slots }

@@ -253,7 +253,7 @@ fn act(head: Head, arena: &mut [u32], table: &mut [u32], request: Option<LineReq
             let kept = call_parts::shortened(named, keep);
             tree_requests::outcome_of_release(head, kept, done)
         }
-        None => tree_requests::refused_with(head, Refusal::BadRequest as u32),
+        None => call_parts::refused_with(head, Refusal::BadRequest as u32),
     }
 }
 

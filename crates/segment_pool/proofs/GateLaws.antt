@@ -20,7 +20,7 @@ use Rattle.call_parts.specs.Results.{result_of}
 use Rattle.call_parts.proofs.ResultLaws.{gate_result, gate_passed, stopped_step}
 use Rattle.segment_check.specs.Gate.{segment_pool}
 use Rattle.segment_check.specs.declared.Head.{Head}
-use Rattle.segment_requests.specs.declared.Outcome.{Outcome}
+use Rattle.call_parts.specs.declared.Outcome.{Outcome}
 use Rattle.segment_requests.specs.Outcomes.{handed, refused_with}
 
 module _ (S : ℕ) (h : Head) (v : List ℤ) (t x : Words) (c : ℕ) {A : Type 0} (r : Result A Refusal)
@@ -38,11 +38,11 @@ module _ (S : ℕ) (h : Head) (v : List ℤ) (t x : Words) (c : ℕ) {A : Type 0
         stopped_step segment_engine p (pool_number segment_engine p) c (refusal_number y) refl number_is (number_nonzero y) call f s g
 
     -- what the code hands back then
-    pub stopped_result : (o : Outcome) (n : ℕ) → o ≡ refused_with h n → n ≡ refusal_number y
+    pub stopped_result : (o : Outcome Head) (n : ℕ) → o ≡ refused_with h n → n ≡ refusal_number y
         → (call : Call Words) → fills call ≡ false → suits call p ≡ true → party_given call ≡ some c
         → handed S o v t x (buffers_of call) ≡ result_of (step segment_engine call p)
     stopped_result o n told number call f s g =
-        ap (λ (q : Outcome). handed S q v t x (buffers_of call)) (told ∙ ap (refused_with h) number)
+        ap (λ (q : Outcome Head). handed S q v t x (buffers_of call)) (told ∙ ap (refused_with h) number)
         ∙ gate_result segment_engine p (pool_number segment_engine p) c (refusal_number y) refl number_is (number_nonzero y) call
         f s g
 

@@ -139,7 +139,7 @@ pub fn allocate(
         party words }
 {
     if let Err(refusal) = gate_for(s, head, &*arena, &*table, &*index, party) {
-        let refused = segment_requests::refused_with(head, refusal.number());
+        let refused = call_parts::refused_with(head, refusal.number());
         return with_places(refused, 0);
     }
     let done = segment_requests::grant(head, s, arena, table, index, party, words);
@@ -162,7 +162,7 @@ pub fn release(
         (segment_pool s head arena.old table.old index.old)) }
 {
     if let Err(refusal) = gate_for(s, head, &*arena, &*table, &*index, named.party) {
-        return segment_requests::refused_with(head, refusal.number());
+        return call_parts::refused_with(head, refusal.number());
     }
     let done = segment_requests::vacate(head, s, arena, table, index, named);
     segment_requests::outcome_of_release(head, named, segment_requests::number_in(done))
@@ -184,7 +184,7 @@ pub fn trim(
         (segment_pool s head arena.old table.old index.old)) }
 {
     if let Err(refusal) = gate_for(s, head, &*arena, &*table, &*index, named.party) {
-        return segment_requests::refused_with(head, refusal.number());
+        return call_parts::refused_with(head, refusal.number());
     }
     let done = segment_requests::trim(head, s, arena, table, index, named, keep);
     let kept = call_parts::shortened(named, keep);
@@ -210,10 +210,10 @@ pub fn list(
         (segment_pool s head arena.old table.old index.old)) }
 {
     if !call_parts::list_suits(asked, answers) {
-        return segment_requests::refused_with(head, Refusal::BadLengths.number());
+        return call_parts::refused_with(head, Refusal::BadLengths.number());
     }
     if let Err(refusal) = gate_for(s, head, &*arena, &*table, &*index, party) {
-        return segment_requests::refused_with(head, refusal.number());
+        return call_parts::refused_with(head, refusal.number());
     }
     let after = segment_requests::serve_all(head, s, arena, table, index, party, asked, answers);
     Outcome {

@@ -16,7 +16,7 @@ use Rattle.call_parts.proofs.AskLaws.{RefusedBy}
 use Rattle.call_parts.proofs.ResultLaws.{acted_refused}
 use Rattle.segment_check.specs.Gate.{segment_pool}
 use Rattle.segment_check.specs.declared.Head.{Head}
-use Rattle.segment_requests.specs.declared.Outcome.{Outcome}
+use Rattle.call_parts.specs.declared.Outcome.{Outcome}
 use Rattle.segment_requests.specs.Outcomes.{handed, refused_with, grant_outcome, release_outcome, effect_in, places_in}
 use Rattle.segment_requests.specs.Outcomes.{places_asked}
 
@@ -24,10 +24,10 @@ module _ (h : Head) (S : ℕ) (v : List ℤ) (t x : Words) where
   abbrev p : Pool
   p = segment_pool S h v t x
 
-  pub refused_acted : (act : Act) (o : Outcome) (n : ℕ) → o ≡ refused_with h n → RefusedBy segment_engine p act n
+  pub refused_acted : (act : Act) (o : Outcome Head) (n : ℕ) → o ≡ refused_with h n → RefusedBy segment_engine p act n
       → handed S o v t x [] ≡ acted segment_engine act p
   refused_acted act o n e r =
-      ap (λ (y : Outcome). handed S y v t x []) e ∙ acted_refused segment_engine act p n r
+      ap (λ (y : Outcome Head). handed S y v t x []) e ∙ acted_refused segment_engine act p n r
 
   granted_refused : (e n : ℕ) → e / 65536 ≡ n → eqb n 0 ≡ false → (c k : ℕ) → RefusedBy segment_engine p (ask c k) n
       → handed S (grant_outcome h k e) v t x [] ≡ acted segment_engine (ask c k) p

@@ -12,20 +12,16 @@ ghost use Rattle.call_parts.specs.Parts.{named_in, act_of, request_at, with_answ
 ghost use Rattle.call_parts.specs.Results.{acted, ran};
 ghost use Rattle.segment_check.specs.Gate.{segment_pool};
 ghost use Rattle.segment_requests.specs.Granting.{Grantable};
-ghost use Rattle.segment_requests.specs.Outcomes.{handed, refused_with, grant_outcome, release_outcome, effect_in, places_in};
+ghost use Rattle.segment_requests.specs.Outcomes.{handed, grant_outcome, release_outcome, effect_in, places_in};
 ghost use Rattle.segment_requests.specs.Outcomes.{places_asked};
 
-use call_parts::Request;
+use call_parts::{Request, refused_with};
 use calls::{Answer, Refusal};
 use ledger::Row;
 use segment_check::Head;
 
-// A head with the answer.
-#[derive(Clone, Copy)]
-pub struct Outcome {
-    pub head: Head,
-    pub answer: Answer,
-}
+// What a call hands back.
+pub type Outcome = call_parts::Outcome<Head>;
 
 // An outcome with the places that the search looked at: what an allocation hands back.
 #[derive(Clone, Copy)]
@@ -33,16 +29,6 @@ pub struct Allocation {
     pub head: Head,
     pub answer: Answer,
     pub places: u32,
-}
-
-// A refusal: the head as it came.
-pub fn refused_with(head: Head, number: u32) -> Outcome
-    ensures { result ≡ refused_with head number }
-{
-    Outcome {
-        head,
-        answer: call_parts::refused(number),
-    }
 }
 
 // ---- allocate

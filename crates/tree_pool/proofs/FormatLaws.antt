@@ -28,7 +28,8 @@ use Rattle.call_parts.specs.Results.{result_of}
 use Rattle.call_parts.proofs.FormatLaws.{zero_table, format_refused, format_right}
 use Rattle.tree_check.specs.Gate.{tree_pool, no_head}
 use Rattle.tree_check.proofs.GateLaws.{InRange, in_range}
-use Rattle.tree_requests.specs.declared.Outcome.{Outcome}
+use Rattle.call_parts.specs.declared.Outcome.{Outcome}
+use Rattle.tree_check.specs.declared.Head.{Head}
 use Rattle.tree_requests.specs.Outcomes.{formatted, refused_with}
 use Rattle.tree_requests.proofs.StoredLaws.{Shows, stored_pool}
 
@@ -105,11 +106,11 @@ blank_pool form a t = tree_pool (no_head form) a t
 
 module _ (form : ℕ) (a t : Words) (first : ℕ) (k : Bool) (known : k ≡ tree_engine.known form) (r : Bool)
     (right : r ≡ lengths tree_engine (blank_pool form a t)) (n : ℕ) (is : n ≡ format_number k r first) where
-  pub head_refused : (x : Outcome) → n ≢ 0 → x ≡ refused_with (no_head 0) n
+  pub head_refused : (x : Outcome Head) → n ≢ 0 → x ≡ refused_with (no_head 0) n
       → formatted form x a t ≡ result_of (step tree_engine (format first) (blank_pool form a t))
   unfolding tree_engine
   head_refused x z h =
-      ap (λ (o : Outcome). formatted form o a t) h
+      ap (λ (o : Outcome Head). formatted form o a t) h
       ∙ format_refused tree_engine (blank_pool form a t) first k known r right n is z
 
   module _ (z : n ≡ 0) where

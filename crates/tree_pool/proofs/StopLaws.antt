@@ -16,7 +16,7 @@ use Rattle.call_parts.specs.Results.{result_of}
 use Rattle.call_parts.proofs.ResultLaws.{gate_result, gate_passed}
 use Rattle.tree_check.specs.declared.Head.{Head}
 use Rattle.tree_check.specs.Gate.{tree_pool}
-use Rattle.tree_requests.specs.declared.Outcome.{Outcome}
+use Rattle.call_parts.specs.declared.Outcome.{Outcome}
 use Rattle.tree_requests.specs.Outcomes.{handed, refused_with}
 
 module _ (h : Head) (a t : Words) (c : ℕ) where
@@ -28,10 +28,10 @@ module _ (h : Head) (a t : Words) (c : ℕ) where
   passes e = gate_passed tree_engine p (pool_number tree_engine p) c 0 refl e refl
 
   -- a refusal, and nothing changes
-  pub stops : {o : Outcome} {n : ℕ} (why : Refusal) → o ≡ refused_with h n → n ≡ refusal_number why
+  pub stops : {o : Outcome Head} {n : ℕ} (why : Refusal) → o ≡ refused_with h n → n ≡ refusal_number why
       → refusal_number why ≡ with_party (pool_number tree_engine p) c → (call : Call Words) → fills call ≡ false
       → suits call p ≡ true → party_given call ≡ some c
       → handed o a t (buffers_of call) ≡ result_of (step tree_engine call p)
   stops why is number e call f s g =
-      ap (λ (x : Outcome). handed x a t (buffers_of call)) (is ∙ ap (refused_with h) number)
+      ap (λ (x : Outcome Head). handed x a t (buffers_of call)) (is ∙ ap (refused_with h) number)
       ∙ gate_result tree_engine p (pool_number tree_engine p) c (refusal_number why) refl e (number_nonzero why) call f s g

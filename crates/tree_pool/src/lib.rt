@@ -82,7 +82,7 @@ pub fn format(form: u32, arena: &mut [u32], table: &mut [u32], first: u32) -> Ou
 {
     let right = tree_check::right_lengths(form, arena, table);
     if let Err(why) = call_parts::format_test(is_form(form), right, first) {
-        return tree_requests::refused_with(NO_HEAD, why.number());
+        return call_parts::refused_with(NO_HEAD, why.number());
     }
     let cells = cell_count(form, arena.len()) as u32;
     words::fill(arena, 0);
@@ -106,7 +106,7 @@ pub fn allocate(head: Head, arena: &mut [u32], table: &mut [u32], party: u32, wo
         ≡ result_of (step tree_engine (allocate party words) (tree_pool head arena.old table.old)) }
 {
     if let Err(why) = gate_for(head, &*arena, &*table, party) {
-        return tree_requests::refused_with(head, why.number());
+        return call_parts::refused_with(head, why.number());
     }
     let done = tree_requests::grant(head, arena, table, party, words);
     tree_requests::outcome_of_grant(head, words, done)
@@ -119,7 +119,7 @@ pub fn release(head: Head, arena: &mut [u32], table: &mut [u32], named: Row) -> 
         ≡ result_of (step tree_engine (release named) (tree_pool head arena.old table.old)) }
 {
     if let Err(why) = gate_for(head, &*arena, &*table, named.party) {
-        return tree_requests::refused_with(head, why.number());
+        return call_parts::refused_with(head, why.number());
     }
     let done = tree_requests::vacate(head, arena, table, named);
     tree_requests::outcome_of_release(head, named, done)
@@ -132,7 +132,7 @@ pub fn trim(head: Head, arena: &mut [u32], table: &mut [u32], named: Row, keep: 
         ≡ result_of (step tree_engine (trim named keep) (tree_pool head arena.old table.old)) }
 {
     if let Err(why) = gate_for(head, &*arena, &*table, named.party) {
-        return tree_requests::refused_with(head, why.number());
+        return call_parts::refused_with(head, why.number());
     }
     let done = tree_requests::trim(head, arena, table, named, keep);
     let kept = call_parts::shortened(named, keep);
@@ -156,13 +156,13 @@ pub fn list(
         arena.old table.old)) }
 {
     if !is_form(head.form) {
-        return tree_requests::refused_with(head, Refusal::UnknownForm.number());
+        return call_parts::refused_with(head, Refusal::UnknownForm.number());
     }
     if !call_parts::list_suits(asked, answers) {
-        return tree_requests::refused_with(head, Refusal::BadLengths.number());
+        return call_parts::refused_with(head, Refusal::BadLengths.number());
     }
     if let Err(why) = gate_for(head, &*arena, &*table, party) {
-        return tree_requests::refused_with(head, why.number());
+        return call_parts::refused_with(head, why.number());
     }
     let after = tree_requests::serve_all(head, arena, table, party, asked, answers);
     Outcome {

@@ -13,7 +13,7 @@ use Rattle.call_parts.specs.Results.{acted}
 use Rattle.call_parts.proofs.AskLaws.{RefusedBy}
 use Rattle.call_parts.proofs.ResultLaws.{acted_refused}
 use Rattle.tree_check.specs.declared.Head.{Head}
-use Rattle.tree_requests.specs.declared.Outcome.{Outcome}
+use Rattle.call_parts.specs.declared.Outcome.{Outcome}
 use Rattle.tree_check.specs.Gate.{tree_pool}
 use Rattle.tree_requests.specs.Outcomes.{handed, refused_with, grant_outcome, release_outcome}
 use Rattle.tree_requests.specs.Outcomes.{effect_number, effect_root, effect_address}
@@ -34,10 +34,10 @@ module _ (h : Head) (e root : ℕ) (number : effect_number e ≡ 0) (rooted : ef
   released r = rw (number, rooted)
 
 module _ (h : Head) (a t : Words) where
-  pub refused_acted : (act : Act) (o : Outcome) (x : ℕ) → o ≡ refused_with h x → RefusedBy tree_engine (tree_pool h a t) act x
+  pub refused_acted : (act : Act) (o : Outcome Head) (x : ℕ) → o ≡ refused_with h x → RefusedBy tree_engine (tree_pool h a t) act x
       → handed o a t [] ≡ acted tree_engine act (tree_pool h a t)
   refused_acted act o x e r =
-      ap (λ (y : Outcome). handed y a t []) e ∙ acted_refused tree_engine act (tree_pool h a t) x r
+      ap (λ (y : Outcome Head). handed y a t []) e ∙ acted_refused tree_engine act (tree_pool h a t) x r
 
   module _ (e x : ℕ) (is : effect_number e ≡ x) (some : eqb x 0 ≡ false) where
     refuses : eqb (effect_number e) 0 ≡ false

@@ -18,32 +18,18 @@ ghost use Rattle.call_parts.specs.Results.{acted, ran};
 ghost use Rattle.tree_check.specs.Gate.{tree_pool};
 ghost use Rattle.tree_requests.specs.Sizes.{cell_span};
 ghost use Rattle.tree_requests.specs.Granting.{Grantable};
-ghost use Rattle.tree_requests.specs.Outcomes.{handed, refused_with, grant_outcome, release_outcome};
+ghost use Rattle.tree_requests.specs.Outcomes.{handed, grant_outcome, release_outcome};
 ghost use Rattle.tree_requests.specs.Outcomes.{effect_number, effect_root, effect_address};
 
-use call_parts::Request;
+use call_parts::{Request, refused_with};
 use calls::{Answer, Refusal};
 use ledger::Row;
 use sizes::cells_of;
 use tree_check::Head;
 use tree_nodes::forms::cell_count;
 
-// A head with the answer: what a call hands back.
-#[derive(Clone, Copy, PartialEq, Eq)]
-pub struct Outcome {
-    pub head: Head,
-    pub answer: Answer,
-}
-
-// A refusal: the head as it came.
-pub fn refused_with(head: Head, number: u32) -> Outcome
-    ensures { result ≡ refused_with head number }
-{
-    Outcome {
-        head,
-        answer: call_parts::refused(number),
-    }
-}
+// What a call hands back.
+pub type Outcome = call_parts::Outcome<Head>;
 
 // ---- effects
 

@@ -7,7 +7,8 @@ use Rattle.calls.specs.Engines.{segment_engine}
 use Rattle.calls.specs.Step.{allocate, ask, pool_number}
 use Rattle.call_parts.proofs.ResultLaws.{single_result}
 use Rattle.segment_check.specs.Gate.{segment_pool}
-use Rattle.segment_requests.specs.declared.Outcome.{Outcome}
+use Rattle.call_parts.specs.declared.Outcome.{Outcome}
+use Rattle.segment_check.specs.declared.Head.{Head}
 use Rattle.segment_requests.specs.Outcomes.{handed}
 use Rattle.segment_requests.proofs.PlacesCounted.{act_places, gate_places}
 use Rattle.segment_pool.proofs.GateLaws.{number_is, stopped_result, passed}
@@ -39,7 +40,7 @@ returns c =
     let p = segment_pool a.s a.head a.arena.now a.table.now a.index.now in
     let (ok, party) = passed a.s a.head a.arena.now a.table.now a.index.now a.party c.gate_for.result c.gate_for.ensures
     _ c.in_default.is in
-    let result = ap (λ (y : Outcome). handed a.s y new.arena new.table new.index [])
+    let result = ap (λ (y : Outcome Head). handed a.s y new.arena new.table new.index [])
     (c.with_places-2.ensures.0 ∙ c.outcome_of_grant-outcome.ensures) ∙ c.grant-done.ensures.index_after
     ∙ single_result segment_engine (ask a.party a.words) p ok party in
     let places = c.with_places-2.ensures.1 ∙ c.grant-done.ensures.result_value ∙ act_places p a.party a.words ok in

@@ -5,7 +5,8 @@ use Rattle.calls.specs.Engines.{segment_engine}
 use Rattle.calls.specs.Step.{list}
 use Rattle.call_parts.proofs.ResultLaws.{unsuited_result, list_result}
 use Rattle.segment_check.specs.Gate.{segment_pool}
-use Rattle.segment_requests.specs.declared.Outcome.{Outcome}
+use Rattle.call_parts.specs.declared.Outcome.{Outcome}
+use Rattle.segment_check.specs.declared.Head.{Head}
 use Rattle.segment_requests.specs.Outcomes.{handed, refused_with}
 use Rattle.segment_pool.proofs.GateLaws.{stopped_result, passed}
 use Rattle.segment_pool.proofs.list.Goals as goal
@@ -15,7 +16,7 @@ unfolding segment_engine
 returns-then-not-list_suits c =
     let a = c.args in
     let p = segment_pool a.s a.head a.arena.now a.table.now a.index.now in
-    ap (λ (o : Outcome). handed a.s o a.arena.now a.table.now a.index.now (a.answers.now ∷ []))
+    ap (λ (o : Outcome Head). handed a.s o a.arena.now a.table.now a.index.now (a.answers.now ∷ []))
     (c.refused_with.ensures ∙ ap (refused_with a.head) c.number.ensures)
     ∙ unsuited_result segment_engine p a.party a.asked.now a.answers.now refl
     (sym c.list_suits.ensures ∙ c.if-not-list_suits.true)

@@ -5,7 +5,8 @@ use Rattle.calls.specs.Engines.{segment_engine}
 use Rattle.calls.specs.Step.{trim, cut}
 use Rattle.call_parts.proofs.ResultLaws.{single_result}
 use Rattle.segment_check.specs.Gate.{segment_pool}
-use Rattle.segment_requests.specs.declared.Outcome.{Outcome}
+use Rattle.call_parts.specs.declared.Outcome.{Outcome}
+use Rattle.segment_check.specs.declared.Head.{Head}
 use Rattle.segment_requests.specs.Outcomes.{handed, release_outcome}
 use Rattle.segment_pool.proofs.GateLaws.{stopped_result, passed}
 use Rattle.segment_pool.proofs.trim.Goals as goal
@@ -29,7 +30,7 @@ returns c =
     let p = segment_pool a.s a.head a.arena.now a.table.now a.index.now in
     let (ok, party) = passed a.s a.head a.arena.now a.table.now a.index.now a.named.party c.gate_for.result
     c.gate_for.ensures _ c.in_default.is in
-    ap (λ (y : Outcome). handed a.s y new.arena new.table new.index [])
+    ap (λ (y : Outcome Head). handed a.s y new.arena new.table new.index [])
     (c.outcome_of_release.ensures ∙ ap₂ (release_outcome a.head) c.shortened-kept.ensures c.number_in.ensures)
     ∙ c.trim-done.ensures
     ∙ single_result segment_engine (cut a.named a.keep) p ok party

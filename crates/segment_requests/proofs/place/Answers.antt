@@ -19,7 +19,8 @@ use Rattle.segment_requests.specs.Outcomes.{handed, grant_outcome}
 use Rattle.segment_check.proofs.GateLaws.{InRange}
 use Rattle.calls.specs.Engines.{segment_engine}
 use Rattle.call_parts.proofs.ResultLaws.{acted_by}
-use Rattle.segment_requests.specs.declared.Outcome.{Outcome}
+use Rattle.call_parts.specs.declared.Outcome.{Outcome}
+use Rattle.segment_check.specs.declared.Head.{Head}
 use Rattle.segment_requests.proofs.GrantLaws.{place_range, place_slot, place_inside}
 use Rattle.segment_requests.proofs.GrantLaws.{place_granting, place_answer, place_pool}
 use Rattle.segment_requests.proofs.place.Goals as goal
@@ -103,7 +104,7 @@ returns c =
       answer = machine.success (row c.args.head.next (c.args.at + 1) c.args.words c.args.party);
     }
     = rw (div-eq_of_lt small, mod-eq_of_lt small) in
-    ap (λ (o : Outcome). handed c.args.s o c.allot.new.v c.write_row.new.table c.allot.new.t [])
+    ap (λ (o : Outcome Head). handed c.args.s o c.allot.new.v c.write_row.new.table c.allot.new.t [])
     named
     ∙ acted_by segment_engine (ask c.args.party c.args.words) (pool (goal.at.returns c).Start) _ _
     (place_answer c.args.head c.args.s c.args.arena.now c.args.table.now

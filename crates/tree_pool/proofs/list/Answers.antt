@@ -9,7 +9,8 @@ use Rattle.call_parts.proofs.ResultLaws.{unknown_result, unsuited_result}
 use Rattle.call_parts.proofs.ResultLaws.{list_result}
 use Rattle.call_parts.specs.Results.{Result}
 use Rattle.call_parts.proofs.WholeLists.{suited_lengths}
-use Rattle.tree_requests.specs.declared.Outcome.{Outcome}
+use Rattle.call_parts.specs.declared.Outcome.{Outcome}
+use Rattle.tree_check.specs.declared.Head.{Head}
 use Rattle.tree_check.specs.Gate.{tree_pool}
 use Rattle.tree_requests.specs.Outcomes.{handed, refused_with}
 use Rattle.tree_pool.proofs.StopLaws.{stops, passes}
@@ -21,7 +22,7 @@ abbrev lent : Start → Pool
 lent s = tree_pool s.args.head s.args.arena.now s.args.table.now
 
 -- a call that changes nothing
-abbrev same : Start → Outcome → Result
+abbrev same : Start → Outcome Head → Result
 same s o = handed o s.args.arena.now s.args.table.now (s.args.answers.now ∷ [])
 
 -- past the second test the list suits

@@ -6,7 +6,8 @@ use Rattle.calls.specs.Engines.{tree_engine}
 use Rattle.tree_check.specs.Gate.{tree_pool}
 use Rattle.tree_requests.specs.Outcomes.{handed}
 use Rattle.call_parts.proofs.ResultLaws.{single_result}
-use Rattle.tree_requests.specs.declared.Outcome.{Outcome}
+use Rattle.call_parts.specs.declared.Outcome.{Outcome}
+use Rattle.tree_check.specs.declared.Head.{Head}
 use Rattle.tree_pool.proofs.StopLaws.{stops, passes}
 use Rattle.tree_pool.proofs.release.Goals as goal
 
@@ -23,6 +24,6 @@ pub returns : goal.returns
 returns c =
     let p = tree_pool c.args.head c.args.arena.now c.args.table.now in
     let (ok, partied) = passes c.args.head c.args.arena.now c.args.table.now c.args.named.party c.in_default.ensures in
-    ap (λ (o : Outcome). handed o c.vacate-done.new.arena c.vacate-done.new.table [])
+    ap (λ (o : Outcome Head). handed o c.vacate-done.new.arena c.vacate-done.new.table [])
     c.outcome_of_release.ensures
     ∙ c.vacate-done.ensures ∙ single_result tree_engine (give c.args.named) p ok partied

@@ -22,7 +22,7 @@ use Rattle.call_parts.specs.Results.{acted}
 use Rattle.call_parts.proofs.ResultLaws.{acted_by}
 use Rattle.tree_check.specs.declared.Head.{Head}
 use Rattle.tree_check.specs.Gate.{tree_pool}
-use Rattle.tree_requests.specs.declared.Outcome.{Outcome}
+use Rattle.call_parts.specs.declared.Outcome.{Outcome}
 use Rattle.tree_requests.specs.Outcomes.{handed, release_outcome, effect_number, effect_root, effect_address}
 use Rattle.tree_requests.specs.Sizes.{cell_span}
 use Rattle.tree_requests.proofs.SizeLaws.{free_cells}
@@ -90,7 +90,7 @@ module _ (h : Head) (a t : Words) (r : Row) (slot n : ℕ) (ok : sound tree_engi
       → (effect_number e ≡ 0) × (effect_root e ≡ root) × (effect_address e ≡ 0)
       → handed (release_outcome h (shortened n r) e) b u [] ≡ acted tree_engine (cut r n) (tree_pool h a t)
   acts b u root e change table (number, rooted, _) =
-      ap (λ (o : Outcome). handed o b u []) (released h e root number rooted (shortened n r))
+      ap (λ (o : Outcome Head). handed o b u []) (released h e root number rooted (shortened n r))
       ∙ acted_by tree_engine (cut r n) (tree_pool h a t) _ _ (plan_answer h a t r slot ok found (keep n) can)
       (plan_pool h a t r slot ok found (keep n) can b root change u table)
 

@@ -19,7 +19,7 @@ use Rattle.call_parts.proofs.ResultLaws.{acted_by}
 use Rattle.tree_check.specs.declared.Head.{Head}
 use Rattle.tree_check.specs.Gate.{tree_pool}
 use Rattle.tree_requests.specs.Sizes.{cell_span}
-use Rattle.tree_requests.specs.declared.Outcome.{Outcome}
+use Rattle.call_parts.specs.declared.Outcome.{Outcome}
 use Rattle.tree_requests.specs.Outcomes.{handed}
 use Rattle.tree_requests.proofs.SizeLaws.{free_cells}
 use Rattle.tree_requests.proofs.RefusedLaws.{released}
@@ -100,6 +100,6 @@ returns c =
     let change = given h a t r slot ok found b c.give_tail-root.result c.give_tail-root.ensures in
     let q = plan_pool h a t r slot ok found vacate refl b c.give_tail-root.result change c.write_row.new.table
     c.write_row.ensures in
-    ap (λ (o : Outcome). handed o b c.write_row.new.table [])
+    ap (λ (o : Outcome Head). handed o b c.write_row.new.table [])
     (released h c.effect.result c.give_tail-root.result number root r)
     ∙ acted_by tree_engine (give r) (tree_pool h a t) _ _ (plan_answer h a t r slot ok found vacate refl) q

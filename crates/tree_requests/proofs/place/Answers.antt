@@ -18,7 +18,7 @@ use Rattle.call_parts.proofs.ResultLaws.{acted_by}
 use Rattle.tree_check.specs.declared.Head.{Head}
 use Rattle.tree_check.specs.Gate.{tree_pool}
 use Rattle.tree_check.proofs.GateLaws.{InRange, all_linked}
-use Rattle.tree_requests.specs.declared.Outcome.{Outcome}
+use Rattle.call_parts.specs.declared.Outcome.{Outcome}
 use Rattle.tree_requests.specs.Outcomes.{handed}
 use Rattle.tree_requests.specs.Granting.{Grantable}
 use Rattle.tree_requests.proofs.RefusedLaws.{granted}
@@ -137,7 +137,7 @@ returns c =
     let q = place_pool h a t c.args.party n c.args.slot block father c.requires.grantable b u link taken
     (c.write_row.ensures
     ∙ ap (λ (y : ℕ). table_of (set (records_of t) c.args.slot (row h.next y n x))) e) in
-    ap (λ (o : Outcome). handed o b u [])
+    ap (λ (o : Outcome Head). handed o b u [])
     (granted h c.effect.result link number root n c.first_word-address.result address)
     ∙ acted_by tree_engine (ask x n) (tree_pool h a t) _ _
     (ap (λ (y : ℕ). success (row h.next y n x)) e

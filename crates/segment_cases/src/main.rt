@@ -59,11 +59,11 @@ impl Pool<'_> {
             self.index,
             first,
         );
-        self.show_outcome(rt, outcome)?;
+        let shown = self.show_outcome(rt, outcome);
         if outcome.answer.number != 0 {
             self.head = head;
         }
-        Ok(())
+        shown
     }
 
     fn allocate(&mut self, rt: &impl Print, words: u32) -> io::Result<()> {

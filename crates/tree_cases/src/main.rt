@@ -51,11 +51,11 @@ impl Pool<'_> {
         let head = self.head;
         let (form, first) = (given.word_or_one(0), given.word_or_one(1));
         let outcome = tree_pool::format(form, self.arena, self.table, first);
-        self.show_outcome(rt, outcome)?;
+        let shown = self.show_outcome(rt, outcome);
         if outcome.answer.number != 0 {
             self.head = head;
         }
-        Ok(())
+        shown
     }
 
     fn allocate(&mut self, rt: &impl Print, words: u32) -> io::Result<()> {

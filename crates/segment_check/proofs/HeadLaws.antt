@@ -219,6 +219,9 @@ module _ (v : List ℤ) (next : ℕ) (t x : Words) (s g : ℕ) (Z : Measured v t
         rw (div-one (length v)) at
         (valid_count segment_rule (omega arith) (length v) next t P.0 held H.entered)
 
+    pub stored_held : held ≤ length v
+    stored_held = omega (arith, count)
+
     -- the words that were walked over, and those of the records, are all
     pub stored_exact : (free' : Option ℕ) → WalksAll v map x s g free' → IsSomeAnd free' (λ n. n + held ≡ length v)
     stored_exact free' walks =

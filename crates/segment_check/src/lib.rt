@@ -276,6 +276,9 @@ fn is_shown_over(
     let Some(held) = map_rows(&*arena, next, &*table, &mut *map, &mut *seen) else {
         return false;
     };
+    if arena.len() < held {
+        return false;
+    }
     let Some(free) = walk_segments(&*arena, &*map, &*index, segments) else {
         return false;
     };

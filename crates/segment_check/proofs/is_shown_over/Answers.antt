@@ -1,8 +1,9 @@
 -- `segment_check::is_shown_over` meets its contract. Assumes nothing.
+use native.Mathlib.Omega.{arith}
 use mathlib.Core.Path.{◌∙◌}
 use mathlib.Core.Bool.{false≢true}
 use lib.ListN.{length}
-use Rattle.segment_check.proofs.HeadLaws.{blocks_stored, stored_good, stored_exact, stored_tree}
+use Rattle.segment_check.proofs.HeadLaws.{blocks_stored, stored_good, stored_held, stored_exact, stored_tree}
 use Rattle.segment_check.proofs.is_shown_over.Goals as goal
 
 pub returns-in_default : goal.returns-in_default
@@ -11,6 +12,17 @@ returns-in_default c =
       λ e. absurd (false≢true e),
       λ P. absurd (false≢true (c.in_default.ensures.good
           (stored_good a.arena.now a.next a.table.now a.index.now _ _ c.requires.measured P))),
+    )
+
+pub returns-then-arena-held : goal.returns-then-arena-held
+returns-then-arena-held c =
+    let a = c.args in (
+      λ e. absurd (false≢true e),
+      λ P. absurd (omega (
+        arith,
+        stored_held a.arena.now a.next a.table.now a.index.now _ _ c.requires.measured P
+            c.map_rows.new.map c.map_rows.new.seen (length a.seen.now) c.in-Some.held c.in-Some.ensures.headed.1,
+      )),
     )
 
 -- what the records say of a pool that is stored, and the blocks that were walked over

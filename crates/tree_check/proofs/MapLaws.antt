@@ -47,11 +47,11 @@ abbrev Known : Rule → ℕ → Words → Words → ℕ → Type 0
 Known ρ p t map i = (c : ℕ) → Covers map c → (j : ℕ) × (j < i) × (covers ρ (c / p) (record_at t j) ≡ true)
 
 -- the first i slots are entered and in the map
-pub record Mapping (ρ : Rule) (p W next : ℕ) (t map seen : Words) (held i : ℕ) : Type 0 where
+pub record Mapping (ρ : Rule) (p W next : ℕ) (t : Words) (m : ℕ) (map seen : Words) (held i : ℕ) : Type 0 where
   pub upto : i ≤ slots t
   pub entered : Entered ρ W next t i held
   pub few : held ≤ W
-  pub residues : Noted (length seen) seen t i
+  pub residues : Noted m seen t i
   pub known : Known ρ p t map i
   pub enough : slots t ≤ most map
   pub bare : Bare map (homes (length map) + i)
@@ -206,14 +206,14 @@ units_cells f W lo n q e inside =
       (le-div_iff_mul-le {x = W / F.unit * q} {y = W} (readable f).cells).1 (rw (mul_comm (W / F.unit * q) F.cell) words),
     )
 
-module _ {ρ : Rule} {p W next : ℕ} {t : Words} where
+module _ {ρ : Rule} {p W next : ℕ} {t : Words} {m : ℕ} where
   pub map_start : (map seen : Words) → all is_zero map ≡ true → slots t ≤ most map
-      → Mapping ρ p W next t map seen 0 0
+      → Mapping ρ p W next t m map seen 0 0
   map_start map seen e enough = record {
     upto = omega arith;
     entered = enter_start ρ W next t;
     few = omega arith;
-    residues = noted_start (length seen) seen t;
+    residues = noted_start m seen t;
     known = λ u (q, a, b). absurd (omega (arith, no_units map e q));
     enough = enough;
     bare = λ entries q h. no_units map e q;
@@ -221,16 +221,16 @@ module _ {ρ : Rule} {p W next : ℕ} {t : Words} where
   }
 
   pub map_next : (unit : 0 < ρ.unit) (per : 0 < p) {map seen : Words} {held i : ℕ} (n : ℕ) (map' seen' : Words)
-      → Mapping ρ p W next t map seen held i
-      → i < slots t → held + n ≤ W → Joins ρ W next t i n → Noted (length seen) seen' t (i + 1)
-      → length seen' ≡ length seen → length map' ≡ length map → Grows map map' (first ρ (record_at t i) * p) (n * p)
-      → Mapping ρ p W next t map' seen' (held + n) (i + 1)
-  map_next unit per {map} {held = held} {i} n map' seen' c l few joins residues same long grows =
+      → Mapping ρ p W next t m map seen held i
+      → i < slots t → held + n ≤ W → Joins ρ W next t i n → Noted m seen' t (i + 1)
+      → length map' ≡ length map → Grows map map' (first ρ (record_at t i) * p) (n * p)
+      → Mapping ρ p W next t m map' seen' (held + n) (i + 1)
+  map_next unit per {map} {held = held} {i} n map' seen' c l few joins residues long grows =
       record {
         upto = omega arith;
         entered = enter_next ρ W next t i held n c.entered joins;
         few = few;
-        residues = rw same residues;
+        residues = residues;
         known = known_next ρ unit p per W next t i n joins map map' grows.adds c.known;
         enough = rw long c.enough;
         bare = bare_next ρ unit p per W next t i n joins map map' l c.enough c.bare c.known grows long;
@@ -240,24 +240,24 @@ module _ {ρ : Rule} {p W next : ℕ} {t : Words} where
 
   -- an empty slot adds nothing
   pub map_skip : (unit : 0 < ρ.unit) (per : 0 < p) {map seen : Words} {held i : ℕ}
-      → Mapping ρ p W next t map seen held i → i < slots t → is_empty (record_at t i) ≡ true
-      → Mapping ρ p W next t map seen held (i + 1)
+      → Mapping ρ p W next t m map seen held i → i < slots t → is_empty (record_at t i) ≡ true
+      → Mapping ρ p W next t m map seen held (i + 1)
   map_skip unit per {map} {seen} {held} {i} c l none =
-      subst (λ h. Mapping ρ p W next t map seen h (i + 1)) (add-zero held)
+      subst (λ h. Mapping ρ p W next t m map seen h (i + 1)) (add-zero held)
       (map_next unit per 0 map seen c l (omega (arith, c.few)) (empty_joins ρ W next t i none)
-      (note_none (length seen) seen t i c.residues none) refl refl (grows_none map (first ρ (record_at t i) * p) (0 * p) (zero-mul p)))
+      (note_none m seen t i c.residues none) refl (grows_none map (first ρ (record_at t i) * p) (0 * p) (zero-mul p)))
 
   -- so do all before the first live one
   pub map_pass : (unit : 0 < ρ.unit) (per : 0 < p) {map seen : Words} {held : ℕ}
-      → Mapping ρ p W next t map seen held 0 → (k : ℕ) → k ≤ slots t
-      → ((j : ℕ) → 0 ≤ j → j < k → is_live (record_at t j) ≡ false) → Mapping ρ p W next t map seen held k
+      → Mapping ρ p W next t m map seen held 0 → (k : ℕ) → k ≤ slots t
+      → ((j : ℕ) → 0 ≤ j → j < k → is_live (record_at t j) ≡ false) → Mapping ρ p W next t m map seen held k
   map_pass unit per c zero h off = c
   map_pass unit per {map} {seen} {held} c (suc k) h off =
-      subst (Mapping ρ p W next t map seen held) (add-one k)
+      subst (Mapping ρ p W next t m map seen held) (add-one k)
       (map_skip unit per (map_pass unit per c k (omega arith) (λ j a b. off j a (omega arith))) (omega arith)
       (not_false (is_empty (record_at t k)) (off k (omega arith) (omega arith))))
 
-  pub map_end : {map seen : Words} {held i : ℕ} → Mapping ρ p W next t map seen held i → slots t ≤ i
+  pub map_end : {map seen : Words} {held i : ℕ} → Mapping ρ p W next t m map seen held i → slots t ≤ i
       → Mapped ρ p W next t held map
   map_end {map} {seen} {held} {i} c l =
       let upto = c.upto in

@@ -1,6 +1,6 @@
 -- The spans of a map: noted in a byte or in an entry, and read again. Assumes nothing.
 use Prim.Native.Nat.{ℕ, zero, suc, ◌+◌, ◌-◌, ◌*◌, ◌/◌, ◌%◌, ◌≤◌, ◌<◌}
-use native.Mathlib.Decide.{ℕ_discrete}
+use native.Mathlib.Decide.{dec_lt, ℕ_discrete}
 use native.Mathlib.Numerals.{unary_clauses}
 use native.Mathlib.Omega.{arith}
 use mathlib.Core.Path.{◌≡◌, refl, sym, ap, ◌∙◌, subst}
@@ -15,8 +15,8 @@ use Rattle.words.specs.Lists.{Words, all, is_zero}
 use Rattle.words.proofs.ListLaws.{zeros_at}
 use Rattle.tree_check.specs.Maps.{four_at, is_entries, first_at, cells_at, Covers, Adds}
 use Rattle.record_table.specs.Leads.{here, more}
-use Rattle.tree_check.specs.Maps.{home, Next, Leads, Bare, Spare, Grows, FourPut}
-use Rattle.tree_check.proofs.LeadLaws.{byte_next, byte_found}
+use Rattle.tree_check.specs.Maps.{home, Reaches, Next, Leads, Bare, Spare, Grows, FourPut}
+use Rattle.tree_check.proofs.LeadLaws.{byte_next, byte_found, next_one}
 
 -- ---- no span
 
@@ -337,3 +337,34 @@ grows_none map lo n e = record {
   bare = λ p spare e q g. (spare e).2 q (omega arith);
   leads = λ p spare out. here {k = lo} (omega arith);
 }
+
+-- ---- a span that is read
+
+-- where a search has come to an entry that begins with cell k, that says how many cells it has, and none if it is empty
+pub search_told : {map : Words} {k p : ℕ} → is_entries map ≡ true → Reaches map k p → (n : ℕ)
+    → four_at map (8 * p) ≡ k → n ≡ four_at map (8 * p + 4) → (x : ℕ) → Next map k x → n ≡ x
+search_told {map} {k} {p} entries s n first units x f = go (ℕ_discrete n 0)
+  where
+    found : 0 < n → Next map k n
+    found some = record {
+      place = p;
+      is = rw entries first;
+      units = rw entries (sym units);
+      some = some;
+      reached = λ e. s;
+    }
+
+    empty : n ≡ 0 → Dec (f.place < p) → Dec (p < f.place) → ⊥
+    empty z (yes l) d = (s.1 f.place (f.reached entries).0 l).1 f.is
+    empty z (no l) (yes m) =
+        let full : 0 < four_at map (8 * p + 4) = rw entries at ((f.reached entries).1 p s.0 m).0 in
+        omega arith
+    empty z (no l) (no m) =
+        let same : f.place ≡ p = omega arith in
+        let is : four_at map (8 * p + 4) ≡ x = rw (entries, same) at f.units in
+        let some = f.some in
+        omega arith
+
+    go : Dec (n ≡ 0) → n ≡ x
+    go (no some) = next_one (found (omega arith)) f
+    go (yes z) = absurd (empty z (dec_lt f.place p) (dec_lt p f.place))

@@ -60,12 +60,14 @@ fn entry_for(map: &[u8], k: usize) -> Option<usize>
     ensures { Found map.now k result }
 {
     for place in home_of(map.len(), k)..map.len() / 8 {
-        let n = four_at(map, 8 * place + 4);
-        if n == 0 {
-            return None;
-        }
         if four_at(map, 8 * place) == k {
-            return Some(n);
+            return match four_at(map, 8 * place + 4) {
+                0 => None,
+                n => Some(n),
+            };
+        }
+        if four_at(map, 8 * place + 4) == 0 {
+            return None;
         }
     }
     None

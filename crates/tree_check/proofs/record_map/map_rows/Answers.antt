@@ -1,6 +1,6 @@
 -- `tree_check::record_map::map_rows` meets its contract: before slot i the earlier ones are entered and in the map.
 -- Assumes nothing.
-use Prim.Native.Nat.{ℕ, ◌*◌, ◌/◌, ◌%◌, ◌<◌}
+use Prim.Native.Nat.{ℕ, ◌+◌, ◌*◌, ◌/◌, ◌%◌, ◌<◌}
 use native.Mathlib.Nat.{div-le_self}
 use native.Mathlib.Omega.{arith}
 use mathlib.Core.Path.{◌≡◌, ◌∙◌, sym, ap, subst}
@@ -11,7 +11,7 @@ use Rattle.ledger.specs.declared.Rule.{Rule}
 use Rattle.ledger.specs.Units.{first, valid}
 use Rattle.stored_forms.specs.Tree.{form_of, form_rule}
 use Rattle.stored_forms.proofs.NodeLaws.{form_unit}
-use Rattle.record_table.specs.Partition.{Joins}
+use Rattle.record_table.specs.Partition.{Joins, Noted}
 use Rattle.record_table.proofs.PartitionLaws.{valid_row, valid_new}
 use Rattle.record_table.proofs.EnterLaws.{enter_next}
 use Rattle.tree_check.specs.Maps.{Grows}
@@ -47,6 +47,13 @@ may_enter-requires-clause-unit_nonzero c =
       whole,
       omega (arith, c.loop-i-test.true, c.slot_count-count.ensures),
       c.read_row-r.ensures,
+    )
+
+pub may_enter-requires-clause-seen_nonempty : goal.may_enter-requires-clause-seen_nonempty
+may_enter-requires-clause-seen_nonempty c =
+    let l = c.loop-i in (
+      omega (arith, l.auto.seen, c.requires.map_value.1),
+      subst (λ m. Noted m l.seen c.args.table.now l.i) (sym l.auto.seen) l.invariant.residues,
     )
 
 pub returns-then-not-may_enter-clause-found : goal.returns-then-not-may_enter-clause-found
@@ -127,8 +134,8 @@ loop-i-preserved c =
     let grown = subst (λ (x : Row). Grows l.map map (first ρ x * each) (units * each)) c.read_row-r.ensures
     c.note_row.ensures in
     map_next unit per units map c.may_enter.new.seen l.invariant
-    (omega (arith, c.loop-i-test.true, c.slot_count-count.ensures)) (omega arith) joins residues
-    c.may_enter.auto.seen c.note_row.auto.map grown
+    (omega (arith, c.loop-i-test.true, c.slot_count-count.ensures)) (omega arith) joins
+    (subst (λ m. Noted m c.may_enter.new.seen c.args.table.now (l.i + 1)) l.auto.seen residues) c.note_row.auto.map grown
 
 pub returns-clause-mapped : goal.returns-clause-mapped
 returns-clause-mapped c =

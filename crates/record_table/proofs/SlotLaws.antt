@@ -77,6 +77,20 @@ module _ (f : Row → Bool) (t : Words) (i n : ℕ) (all_slots : n ≡ slots t)
     here = λ h. e;
   }
 
+-- what is reached from slot k on is reached from slot i on, if no slot between them passes
+pub scan_on : (f : Row → Bool) (t : Words) (i k r : ℕ) → i ≤ k
+    → ((j : ℕ) → i ≤ j → j < k → f (record_at t j) ≡ false) → Reached f t k r → Reached f t i r
+scan_on f t i k r low off q = record {
+  above = omega (arith, q.above);
+  below = q.below;
+  passed = λ j a b. go j a b (dec_lt j k);
+  here = q.here;
+}
+  where
+    go : (j : ℕ) → i ≤ j → j < r → Dec (j < k) → f (record_at t j) ≡ false
+    go j a b (yes h) = off j a h
+    go j a b (no h) = q.passed j (omega arith) b
+
 -- ---- slots without a ticket
 
 pub without_empty : (t : Words) (i e : ℕ) → Without t 0 i e → (j : ℕ) → i ≤ j → j < e → is_empty (record_at t j) ≡ false

@@ -89,6 +89,14 @@ pub fn party_test(party: u32) -> Result<(), Refusal>
     Ok(())
 }
 
+// What stops a call of this party: the pool's own refusal, then 12.
+pub fn with_party(own: Result<(), Refusal>, party: u32) -> Result<(), Refusal>
+    ensures { number_in result ≡ with_party (number_in own) party }
+{
+    own?;
+    party_test(party)
+}
+
 // The slot of the record that a call names; refused by 6, for another party's record too, or by 7.
 pub fn named_slot(table: &[u32], named: Row) -> Result<usize, Refusal>
     ensures { result ≡ named_in table.now named }

@@ -34,8 +34,8 @@ fn gate_for(
         ≡ with_party
         (pool_number segment_engine (segment_pool s head arena.now table.now index.now)) party }
 {
-    segment_check::gate(s, head, &*arena, &*table, &*index)?;
-    call_parts::party_test(party)
+    let own = segment_check::gate(s, head, &*arena, &*table, &*index);
+    call_parts::with_party(own, party)
 }
 
 // ---- find and look
@@ -47,7 +47,8 @@ pub fn find(head: Head, s: u32, arena: &[i32], table: &[u32], index: &[u32], nam
         (segment_pool s head arena.now table.now index.now)).answer }
 {
     if let Err(refusal) = gate_for(s, head, &*arena, &*table, &*index, named.party) {
-        return Answer::from(refusal);
+        let number = refusal.number();
+        return call_parts::refused(number);
     }
     match call_parts::named_slot(table, named) {
         Ok(_) => call_parts::succeeded(named),

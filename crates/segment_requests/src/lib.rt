@@ -184,9 +184,13 @@ pub fn vacate(
         ≡ acted segment_engine (give named)
         (segment_pool s head arena.old table.old index.old) }
 {
-    let slot = call_parts::named_slot(table, named)?;
-    give_back(head, s, arena, table, index, named, slot);
-    Ok(())
+    match call_parts::named_slot(table, named) {
+        Ok(slot) => {
+            give_back(head, s, arena, table, index, named, slot);
+            Ok(())
+        }
+        Err(refusal) => Err(refusal),
+    }
 }
 
 // The number of a release or a trim, 0 where it is not refused.
@@ -261,7 +265,10 @@ pub fn trim(
         ≡ acted segment_engine (cut named keep)
         (segment_pool s head arena.old table.old index.old) }
 {
-    let at = call_parts::named_slot(table, named)?;
+    let at = match call_parts::named_slot(table, named) {
+        Ok(at) => at,
+        Err(refusal) => return Err(refusal),
+    };
     if !call_parts::can_keep(named, keep) {
         return Err(Refusal::BadSize);
     }

@@ -24,8 +24,8 @@ fn gate_for(head: Head, arena: &[u32], table: &[u32], party: u32) -> Result<(), 
     ensures { number_in result
         ≡ with_party (pool_number tree_engine (tree_pool head arena.now table.now)) party }
 {
-    tree_check::gate(head, &*arena, &*table)?;
-    call_parts::party_test(party)
+    let own = tree_check::gate(head, &*arena, &*table);
+    call_parts::with_party(own, party)
 }
 
 // ---- find and look
@@ -36,7 +36,8 @@ pub fn find(head: Head, arena: &[u32], table: &[u32], named: Row) -> Answer
         ≡ (step tree_engine (find named) (tree_pool head arena.now table.now)).answer }
 {
     if let Err(why) = gate_for(head, &*arena, &*table, named.party) {
-        return why.into();
+        let number = why.number();
+        return call_parts::refused(number);
     }
     match call_parts::named_slot(table, named) {
         Ok(_) => call_parts::succeeded(named),

@@ -196,7 +196,7 @@ impl Line {
     fn keep(&mut self, bs: &[u8])
         ensures { (self.new ≡ take 65 (self.old ++ bs.now)) × (length self.old ≤ 65) }
     {
-        let n = (65 - self.kept).min(bs.len());
+        let n = 65usize.saturating_sub(self.kept).min(bs.len());
         let end = self.kept + n;
         self.bytes[self.kept..end].copy_from_slice(&bs[..n]);
         self.kept = end;

@@ -31,7 +31,8 @@ fn put_word(out: &mut [u8], i: usize, x: u32)
     ensures { out.new ≡ sets out.old (4 * i) (word_bytes x) }
 {
     let at = 4 * i;
-    out[at..at + 4].copy_from_slice(&x.to_le_bytes());
+    let [a, b, c, d] = x.to_le_bytes();
+    out[at..at + 4].copy_from_slice(&[a, b, c, d]);
 }
 
 // The bytes of all words, from word `from` on.

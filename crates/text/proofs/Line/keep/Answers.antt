@@ -19,7 +19,7 @@ returns c =
           (omega (arith, c.self.told, c.self.invariant))
           ∙ ap (λ (x : Bytes). take q.kept q.bytes ++ x) put
           ∙ ap (λ (x : Bytes). x ++ take n bs) c.self.view_is
-          ∙ ap (λ (m : ℕ). old ++ take m bs) (rw (← long) at c.min-n.ensures)
+          ∙ ap (λ (m : ℕ). old ++ take m bs) (rw (c.saturating_sub.ensures, ← long) at c.min-n.ensures)
           ∙ kept_is old bs few,
       few,
     )

@@ -1,5 +1,5 @@
 -- Bytes handed over to the session in a state. 02, ticket 1. Assumes nothing.
-use Rattle.std.specs.Prelude.{◌≡◌, true, length}
+use Rattle.std.specs.Prelude.{ℕ, ◌≡◌, ◌≤◌, ◌<◌, true, length, drop}
 use Rattle.text.specs.Numbers.{Bytes}
 use Rattle.text.specs.Lines.{feed}
 use Rattle.session.specs.Meaning.{serve}
@@ -15,3 +15,7 @@ after st bs =
     let s = session_in st in
     let f = feed serve s.standing s.kept bs in
     bytes_of (session f.state f.kept)
+
+-- the state is the one that the first n of the bytes lead to, so that the others lead on from it to where all do
+abbrev pub Took : Bytes → Bytes → Bytes → ℕ → Type 0
+Took st st' bytes n = (0 < n) × (n ≤ length bytes) × (after st' (drop n bytes) ≡ after st bytes)

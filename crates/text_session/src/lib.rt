@@ -2,10 +2,10 @@
 // reads again. What a burst does is pool_bursts' promise. Of what is read and written no contract here speaks.
 #![tactic(auto)]
 
-ghost use Rattle.std.specs.Prelude.{◌≡◌, ◌≤◌, ◌<◌, eqb, length, drop, get_or, IfOk, OnOk};
+ghost use Rattle.std.specs.Prelude.{◌≡◌, ◌≤◌, ◌<◌, ℕ, eqb, length, get_or, IfOk, OnOk, OnErr};
 ghost use Rattle.session.specs.Bursts.{most_answer};
 ghost use Rattle.session.specs.Calls.{end_call};
-ghost use Rattle.text_session.specs.Handing.{Ready, after};
+ghost use Rattle.text_session.specs.Handing.{Ready, after, Took};
 
 use std::io::{Read, Write};
 
@@ -31,7 +31,8 @@ fn write_out<W: Write>(output: &mut W, answers: &[u8]) -> Result<(), Trouble> {
     output.write_all(answers).map_err(|_| Trouble::Output)
 }
 
-// Hands over the next piece of what was read, and writes its answers: how many bytes were taken of it.
+// Hands over the next piece of what was read, and writes its answers: how many bytes were taken of it. Some are also where
+// the answers can't be written.
 fn serve_piece<W: Write>(
     output: &mut W,
     state: &mut [u8],
@@ -42,8 +43,8 @@ fn serve_piece<W: Write>(
     requires ready { Ready state.old × (most_answer ≤ length answers.old) }
     requires some { (0 < length bytes.now) × (0 < piece) }
     ensures ready_2 { Ready state.new }
-    ensures taken { IfOk result (λ n. (0 < n) × (n ≤ length bytes.now)
-        × (after state.new (drop n bytes.now) ≡ after state.old bytes.now)) }
+    ensures taken { IfOk result (Took state.old state.new bytes.now) }
+    ensures unwritten { OnErr result ((n : ℕ) × Took state.old state.new bytes.now n) }
 {
     let end = piece.min(bytes.len());
     let done = pool_bursts::burst(state, &bytes[..end], answers);

@@ -15,11 +15,13 @@
 //   cut TEXT           the text in one burst and in many cuttings
 #![tactic(auto)]
 
+ghost use Rattle.std.specs.Prelude.{◌≤◌, length};
+
 use burst_runs::{NOTHING, UNTOUCHED, is_untouched};
 use pool_bursts::Counts;
-use std::alloc::{AllocError, Global};
 use std::io;
-use std::io::{Read, Write};
+use std::io::Write;
+use testing::read_full;
 use testing::script::{Given, read_line};
 
 // A buffer for a state and a few bytes more.
@@ -45,15 +47,16 @@ fn shown(b: u8) -> u8 {
     }
 }
 
-// The text that a line has behind so many blanks.
-fn read_text(alloc: Global, line: &[u8], blanks: u8) -> Result<Vec<u8>, AllocError> {
+// The text that a line has behind so many blanks, as far as there is room, at the start of `out`: how many bytes.
+fn read_text(line: &[u8], blanks: u8, out: &mut [u8]) -> usize
+    ensures { result ≤ length out.old }
+{
     let n = usize::from(blanks);
-    let part = line.splitn(n + 1, |b| *b == b' ').nth(n);
-    part.unwrap_or(&[])
-        .iter()
-        .take(4096)
-        .map(|b| meant(*b))
-        .collect(alloc)
+    let part = line.splitn(n + 1, |b| *b == b' ').nth(n).unwrap_or(&[]);
+    for (place, b) in out.iter_mut().zip(part) {
+        *place = meant(*b);
+    }
+    part.len().min(out.len())
 }
 
 fn show_text(rt: &HostRuntime, s: &[u8]) -> io::Result<()> {
@@ -147,8 +150,9 @@ fn serve(
             return print!(rt; "  number {number}");
         }
         Call::Burst => {
-            let text = read_text(rt.alloc(), line, 2)?;
-            pool_bursts::burst(state, &text, &mut answers[..n])
+            let mut asked = [0; 4096];
+            let m = read_text(line, 2, &mut asked);
+            pool_bursts::burst(state, &asked[..m], &mut answers[..n])
         }
         Call::End => pool_bursts::end(state, &mut answers[..n]),
     };
@@ -163,12 +167,13 @@ fn call_lent(
     given: &Given,
     lent: usize,
     state: &mut Buffer,
+    answers: &mut [u8],
 ) -> io::Result<()> {
-    let mut answers = [UNTOUCHED; 4096];
+    answers.fill(UNTOUCHED);
     let before = *state;
     let n = lent.min(state.len());
     let room = given.word(0) as usize;
-    serve(rt, kind, line, room, &mut state[..n], &mut answers)?;
+    serve(rt, kind, line, room, &mut state[..n], answers)?;
     let change = if *state == before {
         "; the buffer as it was"
     } else {
@@ -177,13 +182,15 @@ fn call_lent(
     println!(rt; "{change}")
 }
 
-fn run_cut(rt: &HostRuntime, line: &[u8]) -> io::Result<()> {
-    let mut answers = [UNTOUCHED; 4096];
+// The text of a line, cut up. `answers` is one memory for the whole script: where the answers don't fit in it, what an
+// earlier line left behind them is compared as well.
+fn run_cut(rt: &HostRuntime, line: &[u8], answers: &mut [u8]) -> io::Result<()> {
+    let mut asked = [0; 4096];
     let mut tally = NOTHING;
-    let text = read_text(rt.alloc(), line, 1)?;
-    let all = tally.run(rt, &text, &mut answers, 0);
+    let n = read_text(line, 1, &mut asked);
+    let all = tally.run(rt, &asked[..n], answers, 0);
     print!(rt; "  answers ")?;
-    show_text(rt, answers.get(..all).unwrap_or(&answers))?;
+    show_text(rt, &answers[..all])?;
     println!(rt)?;
     println!(rt; " {tally}")
 }
@@ -196,6 +203,7 @@ fn run_line(
     lent: usize,
     state: &mut Buffer,
     saved: &mut Buffer,
+    answers: &mut [u8],
 ) -> usize {
     let given = read_line(rt, line);
     let Some(command) = command_of(line) else {
@@ -204,10 +212,10 @@ fn run_line(
     match command {
         Command::Lend => return given.word(0) as usize,
         Command::OnSession(kind) => {
-            let _ = call_lent(rt, kind, line, &given, lent, state);
+            let _ = call_lent(rt, kind, line, &given, lent, state, answers);
         }
         Command::Cut => {
-            let _ = run_cut(rt, line);
+            let _ = run_cut(rt, line, answers);
         }
         Command::Fill => state.fill((given.word(0) % 256) as u8),
         Command::Put => given.write(state),
@@ -222,13 +230,14 @@ fn run_line(
 
 // What was read before a failed read is run.
 fn main(rt: HostRuntime) {
-    let mut script = Vec::new(rt.alloc());
-    let _ = rt.stdin().take(65536).read_to_end(&mut script);
+    let mut script = [0; 65536];
+    let n = read_full(&mut rt.stdin(), &mut script);
     let mut state = [0; 36960];
     let mut saved = [0; 36960];
+    let mut answers = [0; 4096];
     let mut lent = 0;
-    for line in script.split_inclusive(|b| *b == b'\n') {
+    for line in script[..n].split_inclusive(|b| *b == b'\n') {
         let line = line.strip_suffix(b"\n").unwrap_or(line);
-        lent = run_line(&rt, line, lent, &mut state, &mut saved);
+        lent = run_line(&rt, line, lent, &mut state, &mut saved, &mut answers);
     }
 }

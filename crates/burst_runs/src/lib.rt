@@ -81,13 +81,13 @@ pub fn is_untouched(s: &[u8]) -> bool
 // A text; the memory that the answers due to it begin, how many of them there are, and how many the burst's are, the end
 // call's being behind these; the states after the two.
 #[derive(Clone, Copy)]
-struct Due<'a> {
-    text: &'a [u8],
-    memory: &'a [u8],
-    all: usize,
-    said: usize,
-    after: &'a State,
-    ended: &'a State,
+pub struct Due<'a> {
+    pub text: &'a [u8],
+    pub memory: &'a [u8],
+    pub all: usize,
+    pub said: usize,
+    pub after: &'a State,
+    pub ended: &'a State,
 }
 
 impl Due<'_> {

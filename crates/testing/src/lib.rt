@@ -1,12 +1,37 @@
-// What the test programs share: scripts, printing, and in `traffic` a plain ledger with random calls.
+// What the test programs share: reading, scripts, printing, and in `traffic` a plain ledger with random calls.
 #![tactic(auto)]
 
-ghost use Rattle.std.specs.Prelude.{◌≡◌, ◌<◌, ◌^◌};
+ghost use Rattle.std.specs.Prelude.{◌≡◌, ◌<◌, ◌^◌, take};
+ghost use Rattle.std.specs.Io.KnownBytes.{Consumes};
+ghost use Rattle.io.specs.Counts.{IsPrefixLen};
 ghost use Rattle.testing.specs.Forms.{form_number};
 
 pub mod printing;
 pub mod script;
 pub mod traffic;
+
+use std::io::Read;
+
+// ---- reading
+
+// What the input gives, at the start of `out`: how many bytes. It ends with the input, at a read that fails, or where
+// `out` is full. It takes no heap, where a refused allocation would cut the input off like its end.
+pub fn read_full<R: Read>(input: &mut R, out: &mut [u8]) -> usize
+    ensures bound { IsPrefixLen result out.new }
+    ensures bytes { Consumes (R.remaining input.old) (R.remaining input.new) (take result out.new) }
+{
+    let mut n = 0;
+    while n < out.len() {
+        let Ok(got) = input.read(&mut out[n..]) else {
+            break;
+        };
+        if got == 0 {
+            break;
+        }
+        n += got;
+    }
+    n
+}
 
 // ---- random numbers
 

@@ -1,12 +1,12 @@
 // Random traffic on a pool, held to a plain ledger: a book of records, and a map of units. The lowest fit is found by
-// scanning the map. It shares no code with the pools but the types of records and answers and the numbers of refusals,
-// which calls proves; which units a record holds is for the engine to say.
+// scanning the map. It shares no code with the pools but the types of records and answers; which units a record holds is
+// for the engine to say.
 #![tactic(auto)]
 
 ghost use Rattle.std.specs.Prelude.{◌≡◌, ◌+◌, ◌<◌, ◌^◌, length};
 
 use crate::{pick, stirred};
-use calls::{Answer, Refusal};
+use calls::Answer;
 use ledger::Row;
 use std::fmt;
 
@@ -45,7 +45,7 @@ pub trait Engine {
 // ---- random calls
 
 #[derive(Clone, Copy)]
-enum Call {
+pub enum Call {
     Allocate,
     Release,
     Find,
@@ -53,7 +53,7 @@ enum Call {
 
 // What of a slot's record is named otherwise.
 #[derive(Clone, Copy)]
-enum Miss {
+pub enum Miss {
     Nothing,
     Ticket,
     Address,
@@ -64,13 +64,13 @@ enum Miss {
 // A call drawn at random: the words that it asks for or the slot whose record it names, a party, and the random number
 // that the next one is drawn from.
 #[derive(Clone, Copy)]
-struct Draw {
-    call: Call,
-    miss: Miss,
-    words: u32,
-    slot: usize,
-    party: u32,
-    seed: u64,
+pub struct Draw {
+    pub call: Call,
+    pub miss: Miss,
+    pub words: u32,
+    pub slot: usize,
+    pub party: u32,
+    pub seed: u64,
 }
 
 // Of sixteen kinds six allocate, six release and four find.
@@ -104,7 +104,7 @@ fn some_party(n: u32) -> u32 {
 }
 
 // Words stay below `most`, but for kind 0, which may ask for more than any pool has.
-fn drawn(seed: u64, most: u64, slots: usize) -> Draw {
+pub fn drawn(seed: u64, most: u64, slots: usize) -> Draw {
     let a = stirred(seed);
     let b = stirred(a);
     let c = stirred(b);
@@ -121,7 +121,7 @@ fn drawn(seed: u64, most: u64, slots: usize) -> Draw {
 
 // What a call names: a slot's record as it is, under any ticket, with the address or the length of a near miss, or by
 // any party.
-fn chosen(row: Row, near: Row, draw: Draw, next: u32) -> Row {
+pub fn chosen(row: Row, near: Row, draw: Draw, next: u32) -> Row {
     match draw.miss {
         Miss::Nothing => row,
         Miss::Ticket => Row {
@@ -154,7 +154,7 @@ pub const EMPTY: Row = Row {
 };
 
 // The lowest unit from which so many are free.
-fn first_run(map: &[bool], need: usize) -> Option<usize> {
+pub fn first_run(map: &[bool], need: usize) -> Option<usize> {
     let mut run = 0usize;
     for (i, held) in map.iter().enumerate() {
         run = if *held { 0 } else { run.wrapping_add(1) };
@@ -165,15 +165,42 @@ fn first_run(map: &[bool], need: usize) -> Option<usize> {
     None
 }
 
-fn of_party(party: u32) -> Result<(), Refusal> {
+// Why the ledger refuses a call.
+#[derive(Clone, Copy)]
+enum Wrong {
+    NoParty,
+    BadSize,
+    NoRecord,
+    NoTicket,
+    NoRoom,
+    UnknownTicket,
+    Mismatch,
+}
+
+impl Wrong {
+    // The numbers once more, and not the pools' own, so that a pool that tells another is seen.
+    fn number(self) -> u32 {
+        match self {
+            Wrong::NoParty => 12,
+            Wrong::BadSize => 2,
+            Wrong::NoRecord => 3,
+            Wrong::NoTicket => 4,
+            Wrong::NoRoom => 5,
+            Wrong::UnknownTicket => 6,
+            Wrong::Mismatch => 7,
+        }
+    }
+}
+
+fn of_party(party: u32) -> Result<(), Wrong> {
     match party {
         1..=255 => Ok(()),
-        _ => Err(Refusal::NoParty),
+        _ => Err(Wrong::NoParty),
     }
 }
 
 // The record that is due, as the pool has to answer.
-fn answered(due: Result<Row, Refusal>) -> Answer {
+fn answered(due: Result<Row, Wrong>) -> Answer {
     match due {
         Ok(row) => Answer {
             number: 0,
@@ -181,7 +208,12 @@ fn answered(due: Result<Row, Refusal>) -> Answer {
             address: row.address,
             words: row.words,
         },
-        Err(why) => Answer::from(why),
+        Err(why) => Answer {
+            number: why.number(),
+            ticket: 0,
+            address: 0,
+            words: 0,
+        },
     }
 }
 
@@ -237,16 +269,16 @@ impl<E: Engine> Round<'_, E> {
     }
 
     // What a party's allocation has to answer.
-    fn plan(&self, party: u32, words: u32) -> Result<Row, Refusal> {
+    fn plan(&self, party: u32, words: u32) -> Result<Row, Wrong> {
         of_party(party)?;
         if words == 0 || words > self.pool.limit() {
-            return Err(Refusal::BadSize);
+            return Err(Wrong::BadSize);
         }
-        self.slot_of(0).ok_or(Refusal::NoRecord)?;
+        self.slot_of(0).ok_or(Wrong::NoRecord)?;
         if self.tally.next == 0 {
-            return Err(Refusal::NoTicket);
+            return Err(Wrong::NoTicket);
         }
-        let start = first_run(self.map, self.pool.span(words)).ok_or(Refusal::NoRoom)?;
+        let start = first_run(self.map, self.pool.span(words)).ok_or(Wrong::NoRoom)?;
         Ok(Row {
             ticket: self.tally.next,
             address: self.pool.address_of(start),
@@ -256,18 +288,18 @@ impl<E: Engine> Round<'_, E> {
     }
 
     // What a release or a find has to answer.
-    fn verdict(&self, named: Row) -> Result<Row, Refusal> {
+    fn verdict(&self, named: Row) -> Result<Row, Wrong> {
         of_party(named.party)?;
         if named.ticket == 0 {
-            return Err(Refusal::UnknownTicket);
+            return Err(Wrong::UnknownTicket);
         }
-        let slot = self.slot_of(named.ticket).ok_or(Refusal::UnknownTicket)?;
+        let slot = self.slot_of(named.ticket).ok_or(Wrong::UnknownTicket)?;
         let row = self.row_at(slot);
         if row.party != named.party {
-            return Err(Refusal::UnknownTicket);
+            return Err(Wrong::UnknownTicket);
         }
         if row != named {
-            return Err(Refusal::Mismatch);
+            return Err(Wrong::Mismatch);
         }
         Ok(row)
     }

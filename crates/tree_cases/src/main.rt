@@ -14,8 +14,8 @@
 #![tactic(auto)]
 
 use std::io;
-use std::io::Read;
 use testing::printing::{Shown, Told};
+use testing::read_full;
 use testing::script::{Given, read_line};
 use tree_check::Head;
 use tree_requests::Outcome;
@@ -280,14 +280,14 @@ fn run_line(
 
 // What was read before a failed read is run.
 fn main(rt: HostRuntime) {
-    let mut text = Vec::new(rt.alloc());
-    let _ = rt.stdin().take(131072).read_to_end(&mut text);
+    let mut text = [0; 131072];
+    let n = read_full(&mut rt.stdin(), &mut text);
     let mut arena = [0; 300000];
     let mut table = [0; 1100];
     let mut asked = [0; 4200];
     let mut answers = [0; 4200];
     let mut lent = NOTHING;
-    for line in text.split_inclusive(|b| *b == b'\n') {
+    for line in text[..n].split_inclusive(|b| *b == b'\n') {
         let line = line.strip_suffix(b"\n").unwrap_or(line);
         lent = run_line(
             &rt,
